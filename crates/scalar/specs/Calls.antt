@@ -1,0 +1,72 @@
+-- What the scalar calls answer: the exact result, or the refusal by the first question that fails.
+use mathlib.Core.Bool.{Bool, true, false, cond, _&&_}
+use mathlib.Core.List.{List, [], _∷_}
+use Prim.Native.Nat.{ℕ}
+use lib.ListN.{getD}
+use lib.IntN.{ℤ, pos}
+use Rattle.algebra.specs.Ops.{Ops}
+use Rattle.algebra.specs.Dyadic.{Frac, frac}
+use Rattle.scalar.specs.declared.Scalar.{Scalar}
+use Rattle.scalar.specs.declared.Answer.{Answer}
+use Rattle.scalar.specs.declared.Verdict.{Verdict}
+use Rattle.scalar.specs.declared.Verdict.the-variants.{Accepted, TooLarge, Malformed}
+use Rattle.scalar.specs.Exact.{Exact, exact, Number, number, conj, half, omega, inRange, wellFormed, narrow}
+
+-- four numbers of a list, and as a list
+abbrev pub numberOf : List ℤ → Number
+numberOf l = number (getD l 0 (pos 0)) (getD l 1 (pos 0)) (getD l 2 (pos 0)) (getD l 3 (pos 0))
+
+abbrev pub listOf : Number → List ℤ
+listOf z = z .re .re ∷ z .re .im ∷ z .im .re ∷ z .im .im ∷ []
+
+-- the struct's number, and a number's struct
+abbrev pub value : Scalar → Exact
+value s = frac (numberOf (s .n)) (s .e)
+
+abbrev pub scalarOf : Exact → Scalar
+scalarOf x = record { n = listOf (x .num); e = x .exp }
+
+-- document 01's number of a verdict
+abbrev pub verdictNumber : Verdict → ℕ
+verdictNumber Accepted = 0
+verdictNumber TooLarge = 9
+verdictNumber Malformed = 10
+
+abbrev pub accepted : Exact → Answer
+accepted x = record { value = scalarOf x; verdict = Accepted }
+
+-- a refusal hands back zero
+abbrev pub refusedWith : Verdict → Answer
+refusedWith v = record { value = scalarOf (exact .𝟘); verdict = v }
+
+-- 9, unless the number is in range
+abbrev pub fitting : Exact → Answer
+fitting x = cond (inRange x) (accepted x) (refusedWith TooLarge)
+
+-- 10, unless the operand is in range and in lowest form
+abbrev pub asked : Exact → Answer → Answer
+asked x a = cond (wellFormed x) a (refusedWith Malformed)
+
+abbrev pub askedBoth : Exact → Exact → Answer → Answer
+askedBoth x y a = cond (wellFormed x && wellFormed y) a (refusedWith Malformed)
+
+abbrev pub integerAnswer : ℤ → Answer
+integerAnswer n = fitting (exact .int n)
+
+abbrev pub omegaAnswer : ℕ → Answer
+omegaAnswer k = accepted (omega k)
+
+abbrev pub negAnswer : Exact → Answer
+negAnswer x = asked x (accepted (exact .neg x))
+
+abbrev pub conjAnswer : Exact → Answer
+conjAnswer x = asked x (accepted (conj x))
+
+abbrev pub halfAnswer : Exact → Answer
+halfAnswer x = asked x (fitting (half x))
+
+abbrev pub addAnswer : Exact → Exact → Answer
+addAnswer x y = askedBoth x y (fitting (exact ._⊕_ x y))
+
+abbrev pub mulAnswer : Exact → Exact → Answer
+mulAnswer x y = askedBoth x y (cond (narrow x && narrow y) (accepted (exact ._⊗_ x y)) (refusedWith TooLarge))
