@@ -1,7 +1,7 @@
 -- Words in a lent slice: blocks written at a stride, the invariant of the loop that writes them, what is read back, and what is kept.
 use mathlib.Core.Path.{_≡_, refl, sym, ap, _∙_, subst}
 use mathlib.Core.List.{List, [], _∷_, _++_}
-use mathlib.Core.Logic.{_⊎_, inl, inr}
+use mathlib.Core.Logic.{inl, inr}
 use Prim.Native.Nat.{ℕ, zero, suc, _+_, _*_, _-_, _≤_, _<_, zero-le}
 use native.Mathlib.Nat.{not-suc-le-zero, le-of-suc-le-suc, suc-mul, mul-le-mul, le-refl, add-zero, mul-one, zero-mul}
 use native.Mathlib.Numerals.{add-one}

@@ -1,14 +1,13 @@
 -- A bound on the size of an integer expression, computed from bounds on its variables.
-use mathlib.Core.Path.{_≡_, refl, sym, _∙_, ap}
 use mathlib.Core.List.{List, [], _∷_}
-use Prim.Native.Nat.{ℕ, zero, suc, _+_, _*_, _≤_, _<_, _^_, zero-le}
+use Prim.Native.Nat.{ℕ, zero, suc, _+_, _*_, _≤_, _^_, zero-le}
 use native.Mathlib.Omega.{arith}
 use native.Mathlib.Nat as NatL
 use lib.Dec.{T, ltb, leb, ltb→lt, leb→le}
-use lib.IntN.{ℤ, pos, negsuc, natAbs}
+use lib.IntN.{ℤ, pos, natAbs}
 use mir.Syntax.{Width}
 use mir.Val.{SFits, hbits}
-use Rattle.algebra.proofs.Ring.{CommRing, ℤR}
+use Rattle.algebra.proofs.Ring.{ℤR}
 use Rattle.algebra.proofs.Solver.{Expr, con, var, held, _⊞_, _⊠_, ⊟, look, ⟦_⟧}
 use Rattle.algebra.proofs.Parts.{abs-add, abs-mul, abs-neg, sfits-abs}
 

@@ -1,19 +1,19 @@
 -- Fractions over powers of two: lowest forms are unique and may be taken late, so sums and products obey the laws of `Semi`.
 use mathlib.Core.Path.{_≡_, refl, sym, ap, ap₂, _∙_}
 use mathlib.Core.Bool.{Bool, true, false, cond, _&&_}
-use Prim.Native.Nat.{ℕ, zero, suc, _+_, _-_, _/_, _%_, _≤_}
+use Prim.Native.Nat.{ℕ, zero, suc, _+_, _/_, _%_}
 use native.Mathlib.Nat as N
 use native.Mathlib.Omega.{arith}
-use lib.IntN.{ℤ, pos, negsuc, negℤ, natAbs, _+ℤ_}
+use lib.IntN.{ℤ, pos, negsuc, _+ℤ_}
 use borrow.Author.Tests.{eq-eqb, eqb-true}
 use Rattle.algebra.specs.Ops.{Ops}
-use Rattle.algebra.specs.Quadratic.{Pair, pair, conjugate}
+use Rattle.algebra.specs.Quadratic.{pair}
 use Rattle.algebra.specs.Dyadic.{Halves, halfℤ, evenℤ, integerHalves, pairHalves, Frac, frac, onNum, low as lowOf, lowest as lowestOf, power as powerOf, plus as plusOf, by as byOf, dyadic}
 use Rattle.algebra.specs.Sum.{sum}
 use Rattle.algebra.proofs.Tests.{and-split}
 use Rattle.algebra.proofs.Semi.{Semi, add-mul, mul-left, zero-mul}
 use Rattle.algebra.proofs.Ring.{CommRing, ℤR, semi, mul-one, mul-zero}
-use Rattle.algebra.proofs.Quadratic.{quad, ℤ√2, ℤ√2i}
+use Rattle.algebra.proofs.Quadratic.{quad}
 
 -- what is even is twice its half
 pub record Halving (𝓚 : CommRing) : Type 0 where

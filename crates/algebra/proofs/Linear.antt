@@ -1,13 +1,13 @@
 -- Orders and equations of integer expressions, moved to ℕ, where `omega` proves them: the value of an expression is `part true e − part false e`, two polynomials
 -- over the parts `up x`, `dn x` of its variables.
-use mathlib.Core.Path.{_≡_, refl, sym, _∙_, ap}
+use mathlib.Core.Path.{_≡_, _∙_, ap}
 use mathlib.Core.Bool.{Bool, true, false, not}
-use mathlib.Core.List.{List, [], _∷_}
-use Prim.Native.Nat.{ℕ, zero, suc, _+_, _*_, _-_, _≤_, _<_}
+use mathlib.Core.List.{[], _∷_}
+use Prim.Native.Nat.{ℕ, _+_, _*_, _≤_, _<_}
 use native.Mathlib.Omega.{arith}
-use lib.IntN.{ℤ, pos, negsuc, negℤ, natAbs, _+ℤ_, _-ℤ_, _*ℤ_}
+use lib.IntN.{ℤ, pos, negℤ, natAbs, _+ℤ_, _-ℤ_, _*ℤ_}
 use lib.Signed.{_≤ℤ_, _<ℤ_}
-use Rattle.algebra.proofs.Ring.{CommRing, ℤR}
+use Rattle.algebra.proofs.Ring.{ℤR}
 use Rattle.algebra.proofs.Solver.{Expr, con, var, held, _⊞_, _⊠_, ⊟, look, solve, ⟦_⟧}
 use Rattle.algebra.proofs.Parts.{up, dn, up-dn, abs-is, up-neg, dn-neg, add-parts, le-of, le-to, lt-of, lt-to, eq-of, eq-to}
 

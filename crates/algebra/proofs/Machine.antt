@@ -1,19 +1,20 @@
--- What the machine computes for an integer expression: a signed local holds bits, so each operand is read back from bits, `toZ w (ofZ w z)`. Where each node fits, that is
--- the expression's value. `raw` is the number that an operation is asked to fit, as a need states it. A subtraction is `a ⊞ ⊟ b`. `var i` is a value that a local was given (a parameter, a field, an element, a call's result), and `held i` is `toZ w n`, the reading of bits n that a need names as they are (a local that a loop changes).
+-- What the machine computes for an integer expression: each operand is read back from bits, `toZ w (ofZ w z)`, and where each node fits
+-- that is the expression's value. `raw` is the number that an operation is asked to fit, as a need states it; a subtraction is `a ⊞ ⊟ b`.
+-- `var i` is a value that a local was given (a parameter, a field, an element, a call's result), `held i` bits that a loop changes.
 use mathlib.Core.Path.{_≡_, refl, sym, _∙_, ap, subst, subst₂}
 use mathlib.Core.List.{List, [], _∷_}
-use Prim.Native.Nat.{ℕ, zero, suc, _+_, _*_, _≤_, _<_, _^_}
-use lib.Dec.{T, ltb, leb, ltb→lt, lt→ltb, nleb→lt}
+use Prim.Native.Nat.{ℕ, _+_, _*_, _<_, _^_}
+use lib.Dec.{T, ltb, ltb→lt, lt→ltb, nleb→lt}
 use native.Mathlib.Nat as NatL
 use Rattle.algebra.proofs.Parts.{sfits-abs}
 use mathlib.Core.Bool.{Bool, true, false, not, _&&_}
 use lib.Ieee.Fits.{and-i, and-l, and-r}
-use lib.IntN.{ℤ, pos, negsuc, natAbs, negℤ, _+ℤ_, _*ℤ_}
+use lib.IntN.{ℤ, pos, negsuc, negℤ, _+ℤ_, _*ℤ_}
 use mir.Syntax.{Width}
 use mir.Val.{SFits, hbits, toZ, ofZ}
 use lib.Signed.{ltZ, leZ, _≤ℤ_, _<ℤ_, ltZ-no}
 use mir.Facts.{toZ-ofZ}
-use Rattle.algebra.proofs.Ring.{CommRing, ℤR}
+use Rattle.algebra.proofs.Ring.{ℤR}
 use Rattle.algebra.proofs.Solver.{Expr, con, var, held, _⊞_, _⊠_, ⊟, look, ⟦_⟧}
 use Rattle.algebra.proofs.Bound.{bnd, Within, bounded-fits}
 

@@ -1,16 +1,12 @@
 -- The order of ℤ (that of `lib.Signed`, which MIR's tests decide): its laws, what sums and products do to it, and sizes.
 -- `_≤ℤ_` binds tighter than `_+ℤ_`: write `(a +ℤ b) ≤ℤ c`.
-use mathlib.Core.Path.{_≡_, refl, sym, _∙_, ap}
-use mathlib.Core.List.{List, [], _∷_}
-use Prim.Native.Nat.{ℕ, zero, suc, _+_, _*_, _≤_, _<_}
+use mathlib.Core.Path.{_≡_}
+use Prim.Native.Nat.{ℕ, _*_, _≤_}
 use native.Mathlib.Omega.{arith}
 use native.Mathlib.Nat as NatL
 use lib.IntN.{ℤ, pos, negsuc, negℤ, natAbs, _+ℤ_, _-ℤ_, _*ℤ_}
 use lib.Signed.{_≤ℤ_, _<ℤ_}
-use Rattle.algebra.proofs.Ring.{CommRing, ℤR}
-use Rattle.algebra.proofs.Solver.{Expr, con, var, _⊞_, _⊠_, ⊟, look, solve, ⟦_⟧}
-use Rattle.algebra.proofs.Parts.{up, dn, up-dn, abs-is, up-neg, dn-neg, add-parts, mul-parts, le-of, le-to, lt-of, lt-to, eq-of, eq-to, sq-is, sq-le, sq-dn}
-use Rattle.algebra.proofs.Linear.{le-by, le-in, lt-by, eq-by}
+use Rattle.algebra.proofs.Parts.{up-dn, abs-is, up-neg, dn-neg, add-parts, le-of, le-to, lt-to, eq-of, eq-to, sq-is, sq-le, sq-dn}
 
 pub ≤ℤ-trans : {a b c : ℤ} → a ≤ℤ b → b ≤ℤ c → a ≤ℤ c
 ≤ℤ-trans {a} {b} {c} h k = le-of a c (omega (arith, le-to))

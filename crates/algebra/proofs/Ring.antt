@@ -1,5 +1,5 @@
 -- Commutative rings, with the integers mapped into each, and what follows from their laws.
-use mathlib.Core.Path.{_≡_, refl, sym, _∙_, ap, ap₂}
+use mathlib.Core.Path.{_≡_, refl, sym, _∙_, ap}
 use lib.IntN.{ℤ, pos, negℤ, _+ℤ_, _*ℤ_, +ℤ-idl, +ℤ-assoc, +ℤ-comm, +ℤ-invr, *ℤ-comm}
 use Rattle.algebra.specs.Ops.{Ops, integers}
 use Rattle.algebra.proofs.Semi.{Semi, add-four, zero-mul, add-mul}

@@ -12,13 +12,13 @@ use lib.Bits.{bitAnd, bitOr, and-mask, or-mod, or-shr, or-zero-l, or-add-and, an
 use lib.Count.{trailingZeros, under}
 use lib.IntN.{ℤ, pos, negsuc, negℤ, natAbs, _+ℤ_, _*ℤ_, +ℤ-negℤ-cancel}
 use lib.Signed.{mag, ltZ, nonNeg, shrZ, natAbs-le, mag-shr}
-use mir.Syntax.{Width, w64, w32}
+use mir.Syntax.{Width, w64}
 use mir.Val.{Fits, SFits, toZ, ofZ}
 use mir.Facts.{toZ-ofZ, toZ-pos}
-use borrow.Author.Tests.{ltb-true, ltb-false, leb-true, eqb-true, eqb-false, eq-eqb, ne-eqb}
+use borrow.Author.Tests.{ltb-true, ltb-false, leb-true, eqb-true, eqb-false, ne-eqb}
 use Rattle.algebra.specs.Dyadic.{halfℤ}
 use Rattle.algebra.specs.Words.{eqℤ, upTo}
-use Rattle.algebra.proofs.Parts.{up, dn, abs-is, add-parts, abs-mul, abs-sub, sfits-abs}
+use Rattle.algebra.proofs.Parts.{abs-is, add-parts, abs-mul, abs-sub, sfits-abs}
 use Rattle.algebra.proofs.Tests.{leb-same, eqb-same}
 
 -- ---- what is written is read back

@@ -1,5 +1,4 @@
 -- R[√d]: pairs re + im·√d over a ring R, with √d·√d = d.
-use lib.IntN.{ℤ}
 use Rattle.algebra.specs.Ops.{Ops}
 
 pub record Pair (A : Type 0) : Type 0 where

@@ -70,33 +70,33 @@ noUnitary xs ys = none
 -- the unitary of each kind, as OpenQASM's qelib1.inc defines it
 abbrev pub unitaries : ℕ → List Small
 unitaries k =
-    hadamard -- 0 h
-    ∷ pauliX -- 1 x
-    ∷ phase 4 -- 2 z
-    ∷ phase 2 -- 3 s
-    ∷ phase 6 -- 4 sdg
-    ∷ phase 1 -- 5 t
-    ∷ phase 7 -- 6 tdg
-    ∷ phase k -- 7 rz, up to a global phase
-    ∷ controlled pauliX -- 8 cx
-    ∷ controlled (phase 4) -- 9 cz
-    ∷ controlled (controlled pauliX) -- 10 ccx
-    ∷ controlled (controlled (phase 4)) -- 11 ccz
-    ∷ noUnitary -- 12 measure
-    ∷ noUnitary -- 13 reset
-    ∷ noUnitary -- 14 p
-    ∷ pauliY -- 15 y
-    ∷ rootX -- 16 sx
-    ∷ noUnitary -- 17 rx
-    ∷ noUnitary -- 18 ry
-    ∷ swapped -- 19 swap
-    ∷ controlled pauliY -- 20 cy
-    ∷ noUnitary -- 21 cp
-    ∷ noUnitary -- 22 crx
-    ∷ noUnitary -- 23 cry
-    ∷ noUnitary -- 24 crz
-    ∷ controlled hadamard -- 25 ch
-    ∷ controlled swapped -- 26 cswap
+    hadamard  -- 0 h
+    ∷ pauliX  -- 1 x
+    ∷ phase 4  -- 2 z
+    ∷ phase 2  -- 3 s
+    ∷ phase 6  -- 4 sdg
+    ∷ phase 1  -- 5 t
+    ∷ phase 7  -- 6 tdg
+    ∷ phase k  -- 7 rz, up to a global phase
+    ∷ controlled pauliX  -- 8 cx
+    ∷ controlled (phase 4)  -- 9 cz
+    ∷ controlled (controlled pauliX)  -- 10 ccx
+    ∷ controlled (controlled (phase 4))  -- 11 ccz
+    ∷ noUnitary  -- 12 measure
+    ∷ noUnitary  -- 13 reset
+    ∷ noUnitary  -- 14 p
+    ∷ pauliY  -- 15 y
+    ∷ rootX  -- 16 sx
+    ∷ noUnitary  -- 17 rx
+    ∷ noUnitary  -- 18 ry
+    ∷ swapped  -- 19 swap
+    ∷ controlled pauliY  -- 20 cy
+    ∷ noUnitary  -- 21 cp
+    ∷ noUnitary  -- 22 crx
+    ∷ noUnitary  -- 23 cry
+    ∷ noUnitary  -- 24 crz
+    ∷ controlled hadamard  -- 25 ch
+    ∷ controlled swapped  -- 26 cswap
     ∷ []
 
 -- an operator, and what it writes to the gate's classical bits
