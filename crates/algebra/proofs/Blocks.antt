@@ -1,14 +1,14 @@
 -- Words in a lent slice: blocks written at a stride, the invariant of the loop that writes them, what is read back, and what is kept.
 use mathlib.Core.Path.{_≡_, refl, sym, ap, _∙_, subst}
-use mathlib.Core.List.{List, [], _∷_, _++_}
+use mathlib.Core.List.{List, [], _∷_, _++_, append-assoc, append-nil}
 use mathlib.Core.Logic.{inl, inr}
 use Prim.Native.Nat.{ℕ, zero, suc, _+_, _*_, _-_, _≤_, _<_, zero-le}
-use native.Mathlib.Nat.{not-suc-le-zero, le-of-suc-le-suc, suc-mul, mul-le-mul, le-refl, add-zero, mul-one, zero-mul}
+use native.Mathlib.Nat.{not-suc-le-zero, le-of-suc-le-suc, suc-mul, mul-le-mul, le-refl, add-zero, add-suc, mul-one, zero-mul}
 use native.Mathlib.Numerals.{add-one}
 use native.Mathlib.Decide.{decLt}
 use native.Mathlib.Omega.{arith}
-use lib.ListN.{length, getD, set, take, drop, length-set, length-append, List·getD-append}
-use lib.Seq.{sets, sets-eq, ext-getD, getD-append-add, length-sets, getD-set-same, getD-set-other}
+use lib.ListN.{length, getD, set, take, drop, length-set, length-take, length-append, List·getD-append}
+use lib.Seq.{sets, sets-eq, take-at, drop-at, ext-getD, getD-append-add, length-sets, getD-set-same, getD-set-other}
 use lib.IntN.{ℤ, pos}
 use Rattle.algebra.specs.Words.{blocks, fillWords, Apart, joined}
 
@@ -180,6 +180,53 @@ pub joined-same : (n : ℕ) (f h : ℕ → List ℤ) → ((i : ℕ) → i < n �
 unfolding joined
 joined-same zero f h e = refl
 joined-same (suc n) f h e = λ i. joined-same n f h (λ j l. e j (omega arith)) i ++ e n (omega arith) i
+
+-- ---- blocks written in another order, or twice
+-- n more blocks after m
+pub blocks-more : (s : ℕ) (l : List ℤ) (at m n : ℕ) (f : ℕ → List ℤ) → blocks s (blocks s l at m f) (at + m * s) n (λ (i : ℕ). f (m + i)) ≡ blocks s l at (m + n) f
+unfolding blocks
+blocks-more s l at m zero f = ap (λ (k : ℕ). blocks s l at k f) (sym (add-zero m))
+blocks-more s l at m (suc n) f =
+    (λ i. sets (blocks-more s l at m n f i) (place i) (f (m + n))) ∙ ap (λ (k : ℕ). blocks s l at k f) (sym (add-suc m n))
+  where
+    place : at + m * s + n * s ≡ at + (m + n) * s
+    place = omega arith
+
+pub blocks-same : (s : ℕ) (l : List ℤ) (at n : ℕ) (f h : ℕ → List ℤ) → ((i : ℕ) → i < n → f i ≡ h i) → blocks s l at n f ≡ blocks s l at n h
+unfolding blocks
+blocks-same s l at zero f h e = refl
+blocks-same s l at (suc n) f h e = λ i. sets (blocks-same s l at n f h (λ j p. e j (omega arith)) i) (at + n * s) (e n (omega arith) i)
+
+-- blocks written over blocks of the same size
+pub blocks-over : (s : ℕ) (l : List ℤ) (at n : ℕ) (f h : ℕ → List ℤ) → ((i : ℕ) → length (f i) ≡ s) → ((i : ℕ) → length (h i) ≡ s) → at + n * s ≤ length l
+    → blocks s (blocks s l at n f) at n h ≡ blocks s l at n h
+blocks-over s l at n f h p q g =
+    blocks-parts s h q (blocks s l at n f) at n (omega (arith, length-blocks s l at f n))
+    ∙ (λ i. front i ++ joined n h ++ back i) ∙ sym (blocks-parts s h q l at n g)
+  where
+    size : length (take at l) ≡ at
+    size = simp length-take (omega arith)
+
+    front : take at (blocks s l at n f) ≡ take at l
+    front = ap (take at) (blocks-parts s f p l at n g ∙ append-assoc (take at l) (joined n f) (drop (at + n * s) l)) ∙ take-at (take at l) (joined n f ++ drop (at + n * s) l) at size
+
+    back : drop (at + n * s) (blocks s l at n f) ≡ drop (at + n * s) l
+    back =
+        ap (drop (at + n * s)) (blocks-parts s f p l at n g)
+        ∙ drop-at (take at l ++ joined n f) (drop (at + n * s) l) (at + n * s) (length-append (take at l) (joined n f) ∙ (λ i. size i + length-joined s f p n i))
+
+-- m rows of n blocks each
+joined-more : (m n : ℕ) (f : ℕ → List ℤ) → joined (m + n) f ≡ joined m f ++ joined n (λ (i : ℕ). f (m + i))
+unfolding joined
+joined-more m zero f = ap (λ (k : ℕ). joined k f) (add-zero m) ∙ sym (append-nil (joined m f))
+joined-more m (suc n) f =
+    ap (λ (k : ℕ). joined k f) (add-suc m n) ∙ ap (λ (l : List ℤ). l ++ f (m + n)) (joined-more m n f) ∙ append-assoc (joined m f) (joined n (λ (i : ℕ). f (m + i))) (f (m + n))
+
+pub joined-rows : (m n : ℕ) (f : ℕ → List ℤ) → joined m (λ (r : ℕ). joined n (λ (c : ℕ). f (r * n + c))) ≡ joined (m * n) f
+unfolding joined
+joined-rows zero n f = ap (λ (k : ℕ). joined k f) (sym (zero-mul n))
+joined-rows (suc m) n f =
+    ap (λ (l : List ℤ). l ++ joined n (λ (c : ℕ). f (m * n + c))) (joined-rows m n f) ∙ sym (joined-more (m * n) n f) ∙ ap (λ (k : ℕ). joined k f) (sym (suc-mul m n))
 
 -- two words as one block
 pub two-words : (l : List ℤ) (at : ℕ) (f : ℕ → ℤ) → fillWords l at 2 f ≡ sets l at (f 0 ∷ f 1 ∷ [])

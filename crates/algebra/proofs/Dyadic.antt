@@ -1,7 +1,8 @@
 -- Fractions over powers of two: lowest forms are unique and may be taken late, so sums and products obey the laws of `Semi`.
-use mathlib.Core.Path.{_≡_, refl, sym, ap, ap₂, _∙_}
+use mathlib.Core.Path.{_≡_, refl, sym, ap, ap₂, _∙_, subst}
 use mathlib.Core.Bool.{Bool, true, false, cond, _&&_}
-use Prim.Native.Nat.{ℕ, zero, suc, _+_, _/_, _%_}
+use Prim.Native.Nat.{ℕ, zero, suc, _+_, _/_, _%_, _-_, _^_, _≤_}
+use mathlib.Core.List.{List, [], _∷_}
 use native.Mathlib.Nat as N
 use native.Mathlib.Omega.{arith}
 use lib.IntN.{ℤ, pos, negsuc, _+ℤ_}
@@ -9,7 +10,7 @@ use borrow.Author.Tests.{eq-eqb, eqb-true}
 use Rattle.algebra.specs.Ops.{Ops}
 use Rattle.algebra.specs.Quadratic.{pair}
 use Rattle.algebra.specs.Dyadic.{Halves, halfℤ, evenℤ, integerHalves, pairHalves, Frac, frac, onNum, low as lowOf, lowest as lowestOf, power as powerOf, plus as plusOf, by as byOf, dyadic}
-use Rattle.algebra.specs.Sum.{sum}
+use Rattle.algebra.specs.Sum.{sum, listSum}
 use Rattle.algebra.proofs.Tests.{and-split}
 use Rattle.algebra.proofs.Semi.{Semi, add-mul, mul-left, zero-mul}
 use Rattle.algebra.proofs.Ring.{CommRing, ℤR, semi, mul-one, mul-zero}
@@ -25,8 +26,8 @@ pub record Halving (𝓚 : CommRing) : Type 0 where
 module _ (𝓚 : CommRing) (𝓗 : Halving 𝓚) where
   infixl 60 _⊕_
   infixl 70 _⊗_
-  open CommRing 𝓚 using (K, ops, add-assoc, add-comm, zero-add, mul-assoc, mul-comm, mul-add, one-mul)
-  open Ops (𝓚 .ops) using (𝟘, 𝟙, _⊕_, _⊗_)
+  open CommRing 𝓚 using (K, ops, add-assoc, add-comm, zero-add, mul-assoc, mul-comm, mul-add, one-mul, int-one, int-add)
+  open Ops (𝓚 .ops) using (𝟘, 𝟙, _⊕_, _⊗_, int)
   open Halving 𝓗 using (halves, even-double, half-double, double-half)
   open Halves (𝓗 .halves) using (even, half)
 
@@ -54,6 +55,13 @@ module _ (𝓚 : CommRing) (𝓗 : Halving 𝓚) where
   pub power-add : (j k : ℕ) → power (j + k) ≡ power j ⊗ power k
   power-add j zero = ap power (N.add-zero j) ∙ sym (mul-one 𝓚 (power j))
   power-add j (suc k) = ap power (N.add-suc j k) ∙ ap₂ _⊕_ (power-add j k) (power-add j k) ∙ sym (mul-add (power j) (power k) (power k))
+
+  pub power-int : (k : ℕ) → power k ≡ int (pos (2 ^ k))
+  power-int zero = sym int-one
+  power-int (suc k) = ap₂ _⊕_ (power-int k) (power-int k) ∙ sym (int-add (pos (2 ^ k)) (pos (2 ^ k))) ∙ ap (λ (n : ℕ). int (pos n)) twice
+    where
+      twice : 2 ^ k + 2 ^ k ≡ 2 ^ suc k
+      twice = omega (arith, N.pow-suc 2 k)
 
   -- multiplied above and below
   abbrev pub up : ℕ → F → F
@@ -159,7 +167,18 @@ module _ (𝓚 : CommRing) (𝓗 : Halving 𝓚) where
   pub value-mul : (e f : ℕ) (a b : K) → dyadic ops halves ._⊗_ (low a e) (low b f) ≡ low (a ⊗ b) (e + f)
   value-mul e f a b = late by by-up (frac a e) (low b f) ∙ late-right by by-comm by-up (frac a e) (frac b f)
 
-  cancel : (k : ℕ) (a b : K) → a ⊗ power k ≡ b ⊗ power k → a ≡ b
+  -- a sum at the larger power of the two
+  pub align : (x y : F) → x .exp ≤ y .exp → low (x .num ⊗ power (y .exp - x .exp) ⊕ y .num) (y .exp) ≡ lowest (plus x y)
+  align x y h =
+      sym (lowest-up (x .exp) (frac (x .num ⊗ power (y .exp - x .exp) ⊕ y .num) (y .exp)))
+      ∙ ap₂ low (add-mul (semi 𝓚) (x .num ⊗ power (y .exp - x .exp)) (y .num) (power (x .exp))
+      ∙ ap (λ (z : K). z ⊕ y .num ⊗ power (x .exp)) (mul-assoc (x .num) (power (y .exp - x .exp)) (power (x .exp))
+      ∙ ap (λ (z : K). x .num ⊗ z) (sym (power-add (y .exp - x .exp) (x .exp)) ∙ ap power whole))) (N.add-comm (y .exp) (x .exp))
+    where
+      whole : y .exp - x .exp + x .exp ≡ y .exp
+      whole = omega arith
+
+  pub cancel : (k : ℕ) (a b : K) → a ⊗ power k ≡ b ⊗ power k → a ≡ b
   cancel zero a b h = sym (mul-one 𝓚 a) ∙ h ∙ mul-one 𝓚 b
   cancel (suc k) a b h = cancel k a b
       (sym (half-double (a ⊗ power k)) ∙ ap half (sym (mul-add a (power k) (power k)) ∙ h ∙ mul-add b (power k) (power k)) ∙ half-double (b ⊗ power k))
@@ -170,6 +189,42 @@ module _ (𝓚 : CommRing) (𝓗 : Halving 𝓚) where
   pub sum-value : (e n : ℕ) (f : ℕ → K) → sum (dyadic ops halves) n (λ (k : ℕ). low (f k) e) ≡ low (sum ops n f) e
   sum-value e zero f = sym (low-zero e)
   sum-value e (suc n) f = ap (λ (x : F). dyadic ops halves ._⊕_ x (low (f n) e)) (sum-value e n f) ∙ value-add e (sum ops n f) (f n)
+
+  pub listSum-value : {A : Type 0} (e : ℕ) (f : A → K) (xs : List A) → listSum (dyadic ops halves) (λ (x : A). low (f x) e) xs ≡ low (listSum ops f xs) e
+  listSum-value e f [] = sym (low-zero e)
+  listSum-value e f (x ∷ xs) = ap (dyadic ops halves ._⊕_ (low (f x) e)) (listSum-value e f xs) ∙ value-add e (f x) (listSum ops f xs)
+
+  pub value-one : (e : ℕ) → frac 𝟙 0 ≡ low (power e) e
+  value-one zero = refl
+  value-one (suc e) = value-one e ∙ sym (low-double (power e) e)
+
+  pub low-exp : (z : K) (e : ℕ) → low z e .exp ≤ e
+  low-exp z e = let (k, h, g) = lowest-is z e in omega arith
+
+  -- the numerator at the exponent e
+  abbrev pub numAt : ℕ → F → K
+  numAt e x = x .num ⊗ power (e - x .exp)
+
+  numAt-low : (e : ℕ) (z : K) → numAt e (low z e) ≡ z
+  numAt-low e z =
+      let (k, h, g) = lowest-is z e in
+      let d : e - low z e .exp ≡ k = omega arith in
+      ap (λ (j : ℕ). low z e .num ⊗ power j) d ∙ sym h
+
+  -- x is in lowest form, and its exponent is at most e
+  abbrev pub Fits : ℕ → F → Type 0
+  Fits e x = x ≡ low (numAt e x) e
+
+  pub fits-low : (e : ℕ) (x : F) (z : K) → x ≡ low z e → Fits e x
+  fits-low e x z h = h ∙ ap (λ (w : K). low w e) (sym (ap (numAt e) h ∙ numAt-low e z))
+
+  pub fits-exp : (e : ℕ) (x : F) → Fits e x → x .exp ≤ e
+  fits-exp e x h = subst (λ (y : F). y .exp ≤ e) (sym h) (low-exp (numAt e x) e)
+
+  pub fits-grow : (e f : ℕ) (x : F) → e ≤ f → Fits e x → Fits f x
+  fits-grow e f x l h =
+      let n : e + (f - e) ≡ f = omega arith in
+      fits-low f x (numAt e x ⊗ power (f - e)) (h ∙ sym (lowest-up (f - e) (frac (numAt e x) e)) ∙ ap (low (numAt e x ⊗ power (f - e))) n)
 
   -- ---- a map of numerators that respects sums and parity, as a negation or a conjugation
   module _ (f : K → K) (f-add : (a b : K) → f (a ⊕ b) ≡ f a ⊕ f b) (f-even : (a : K) → even (f a) ≡ even a) where

@@ -1,4 +1,6 @@
 pub mod Tests
+pub mod Lists
+pub mod Totals
 pub mod Semi
 pub mod Integers
 pub mod Ring
@@ -11,6 +13,8 @@ pub mod Bound
 pub mod Machine
 pub mod Sum
 pub mod Dyadic
+pub mod Adjoint
+pub mod Domain
 pub mod Trace
 pub mod Perm
 pub mod Schedule

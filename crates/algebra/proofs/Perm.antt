@@ -43,6 +43,12 @@ module _ {A : Type 0} where
   append-swap (x ∷ xs) ys zs = join (keep x (append-swap xs ys zs)) (perm-sym (middle x ys (xs ++ zs)))
 
 module _ {A B : Type 0} where
+  pub map-of : (f : A → B) {xs ys : List A} → Perm xs ys → Perm (map f xs) (map f ys)
+  map-of f nil = nil
+  map-of f (keep a t) = keep (f a) (map-of f t)
+  map-of f (swap a b e) = swap (f a) (f b) refl
+  map-of f (join t u) = join (map-of f t) (map-of f u)
+
   pub concat-append : (f : A → List B) (xs ys : List A) → concatMap f (xs ++ ys) ≡ concatMap f xs ++ concatMap f ys
   concat-append f [] ys = refl
   concat-append f (x ∷ xs) ys = ap (λ (zs : List B). f x ++ zs) (concat-append f xs ys) ∙ sym (append-assoc (f x) (concatMap f xs) (concatMap f ys))

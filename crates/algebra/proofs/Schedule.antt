@@ -9,6 +9,7 @@ use native.Mathlib.Omega.{arith}
 use lib.ListN.{length, getD}
 use Rattle.algebra.specs.Lists.{All}
 use Rattle.algebra.specs.Schedule.{Schedule}
+use Rattle.algebra.proofs.Lists.{all-imp}
 use Rattle.algebra.proofs.Trace.{Trace, nil, keep, swap, join, same}
 
 module _ {A : Type 0} (share : A → A → Bool) (d : A) where
@@ -113,10 +114,6 @@ module _ {A : Type 0} (share : A → A → Bool) (d : A) where
   room a c [] h f b = omega arith
   room a c (p ∷ ps) h f b = omega (arith, room (suc (p .key)) c ps (b .0) (f .1) (b .1))
 
-  all-map : (Q R : P → Type 0) (ps : List P) → ((p : P) → Q p → R p) → All Q ps → All R ps
-  all-map Q R [] f h = tt
-  all-map Q R (p ∷ ps) f h = (f p (h .0), all-map Q R ps f (h .1))
-
   exact : (a : ℕ) (xs : List A) (ps : List P) → From a ps → length ps ≡ length xs → All (λ (p : P). p .key < a + length xs) ps
       → All (λ (p : P). (i : ℕ) → p .key ≡ a + i → p .val ≡ getD xs i d) ps → vals ps ≡ xs
   exact a [] [] f l b v = refl
@@ -124,8 +121,8 @@ module _ {A : Type 0} (share : A → A → Bool) (d : A) where
   exact a (x ∷ xs) [] f l b v = absurd (omega arith)
   exact a (x ∷ xs) (p ∷ ps) f l b v =
       let first : p .key ≡ a = omega (arith, room (suc (p .key)) (a + suc (length xs)) ps (b .0) (f .1) (b .1)) in
-      ap₂ _∷_ (v .0 0 (omega arith)) (exact (suc a) xs ps (subst (λ (k : ℕ). From (suc k) ps) first (f .1)) (omega arith) (all-map _ _ ps (λ q h. omega arith) (b .1))
-      (all-map _ _ ps (λ q h i e. h (suc i) (omega arith)) (v .1)))
+      ap₂ _∷_ (v .0 0 (omega arith)) (exact (suc a) xs ps (subst (λ (k : ℕ). From (suc k) ps) first (f .1)) (omega arith) (all-imp _ _ ps (λ q h. omega arith) (b .1))
+      (all-imp _ _ ps (λ q h i e. h (suc i) (omega arith)) (v .1)))
 
   -- the table and the new list, place by place
   abbrev pair : ℕ → A → P

@@ -10,15 +10,15 @@ use lib.Dec.{T, leb, eqb, lit<}
 use lib.Pow.{shl-exact, pow-mono, pow-pos, pow-add, high, field, mod-mod-pow, shr-shr, shr-lt}
 use lib.Bits.{bitAnd, bitOr, and-mask, or-mod, or-shr, or-zero-l, or-add-and, and-le-l, and-le-r, shifted-even}
 use lib.Count.{trailingZeros, under}
-use lib.IntN.{ℤ, pos, negsuc, negℤ, natAbs, _+ℤ_, _*ℤ_, +ℤ-negℤ-cancel}
+use lib.IntN.{ℤ, pos, negsuc, negℤ, natAbs, _+ℤ_, _-ℤ_, _*ℤ_, +ℤ-idl, +ℤ-negℤ-cancel}
 use lib.Signed.{mag, ltZ, nonNeg, shrZ, natAbs-le, mag-shr}
 use mir.Syntax.{Width, w64}
 use mir.Val.{Fits, SFits, toZ, ofZ}
 use mir.Facts.{toZ-ofZ, toZ-pos}
-use borrow.Author.Tests.{ltb-true, ltb-false, leb-true, eqb-true, eqb-false, ne-eqb}
+use borrow.Author.Tests.{ltb-true, ltb-false, leb-true, le-leb, lt-leb, eqb-true, eqb-false, eq-eqb, ne-eqb}
 use Rattle.algebra.specs.Dyadic.{halfℤ}
 use Rattle.algebra.specs.Words.{eqℤ, upTo}
-use Rattle.algebra.proofs.Parts.{abs-is, add-parts, abs-mul, abs-sub, sfits-abs}
+use Rattle.algebra.proofs.Parts.{abs-is, add-parts, abs-mul, abs-sub, sfits-abs, up, dn, abs-neg}
 use Rattle.algebra.proofs.Tests.{leb-same, eqb-same}
 
 -- ---- what is written is read back
@@ -30,6 +30,13 @@ back z h = toZ-ofZ (sfits-abs {w = w64} h)
 
 pub abs-of-fits : (z : ℤ) → SFits w64 z → natAbs z ≤ 2 ^ 63
 abs-of-fits z f = natAbs-le z (f .sfits)
+
+-- `-x`
+pub neg-fits : (x : ℤ) → natAbs x < 2 ^ 63 → SFits w64 (pos 0 -ℤ toZ w64 (ofZ w64 x))
+neg-fits x b = rw (back x b, +ℤ-idl) (sfits-abs {w = w64} (omega (arith, abs-neg x)))
+
+pub neg-back : (x : ℤ) → natAbs x < 2 ^ 63 → toZ w64 (ofZ w64 (pos 0 -ℤ toZ w64 (ofZ w64 x))) ≡ negℤ x
+neg-back x b = rw (back x b, +ℤ-idl) (back (negℤ x) (omega (arith, abs-neg x)))
 
 -- ---- tests of a number against a bound, as code makes them: x < −k, k < x, x < 0
 no : false ≡ true → ⊥
@@ -128,6 +135,14 @@ shr-word m d h = rw (toZ-pos w64 h) (toZ-pos w64 (lt-of-le-of-lt (div-le-self m 
 pub pow-word : (d : ℕ) → d ≤ 62 → toZ w64 (1 * 2 ^ d % 18446744073709551616) ≡ pos (2 ^ d)
 pow-word d h = rw (shl-exact 1 d 64 (lit< tt) (omega arith), one-mul) (toZ-pos w64 (lt-of-le-of-lt (pow-mono h) (lit< tt)))
 
+-- x * (1i64 << d)
+module _ (x : ℤ) (d : ℕ) (bx : mag x < 2 ^ 63) (hd : d ≤ 62) (h : natAbs (x *ℤ pos (2 ^ d)) < 2 ^ 63) where
+  pub scale-fits : SFits w64 (toZ w64 (ofZ w64 x) *ℤ toZ w64 (1 * 2 ^ d % 18446744073709551616))
+  scale-fits = rw (reads x bx, pow-word d hd) (sfits-abs {w = w64} h)
+
+  pub scale-back : toZ w64 (ofZ w64 (toZ w64 (ofZ w64 x) *ℤ toZ w64 (1 * 2 ^ d % 18446744073709551616))) ≡ x *ℤ pos (2 ^ d)
+  scale-back = rw (reads x bx, pow-word d hd) (back (x *ℤ pos (2 ^ d)) h)
+
 -- x times 2^d is at most m where x is at most `m >> d`
 pub limit : (x : ℤ) (m d : ℕ) → leb (natAbs x) (m / 2 ^ d) ≡ leb (natAbs (x *ℤ pos (2 ^ d))) m
 limit x m d =
@@ -136,7 +151,7 @@ limit x m d =
     (λ h. le-div-iff-mul-le (pow-pos d) .1 (le-trans (le-of-eq (sym (abs-mul x (pos (2 ^ d))))) h))
 
 -- ---- bits, one by one
-digit-suc : (n i : ℕ) → n / 2 ^ suc i ≡ n / 2 / 2 ^ i
+pub digit-suc : (n i : ℕ) → n / 2 ^ suc i ≡ n / 2 / 2 ^ i
 digit-suc n i = ap (λ (p : ℕ). n / p) (pow-suc 2 i ∙ mul-comm (2 ^ i) 2) ∙ sym (div-div-eq-div-mul n 2 (2 ^ i))
 
 -- the trailing zeros are zeros, and no more are
@@ -234,6 +249,16 @@ pub abs-zero : (z : ℤ) → eqb (natAbs z) 0 ≡ true → z ≡ pos 0
 abs-zero (pos n) e = ap pos (eqb-true n 0 e)
 abs-zero (negsuc n) e = absurd (omega (arith, eqb-true (suc n) 0 e))
 
+pub eqℤ-true : (x y : ℤ) → eqℤ x y ≡ true → x ≡ y
+eqℤ-true (pos a) (pos b) e = ap pos (eqb-true a b e)
+eqℤ-true (pos a) (negsuc b) e = absurd (no e)
+eqℤ-true (negsuc a) (pos b) e = absurd (no e)
+eqℤ-true (negsuc a) (negsuc b) e = ap negsuc (eqb-true a b e)
+
+pub eqℤ-refl : (x : ℤ) → eqℤ x x ≡ true
+eqℤ-refl (pos a) = eq-eqb a a refl
+eqℤ-refl (negsuc a) = eq-eqb a a refl
+
 -- two numbers with the same bits are the same
 pub word-inj : (x y : ℤ) → SFits w64 x → SFits w64 y → ofZ w64 x ≡ ofZ w64 y → x ≡ y
 word-inj x y f g e = sym (toZ-ofZ f) ∙ ap (toZ w64) e ∙ toZ-ofZ g
@@ -256,6 +281,19 @@ eq-words (negsuc a) (negsuc b) f g = eqb-same _ _ _ _ (to (f .sfits) (g .sfits))
 
     from : a ≡ b → 2 ^ 64 - suc a ≡ 2 ^ 64 - suc b
     from e = omega arith
+
+-- ---- a word from 0 to n, as code tests it: x < 0, n < x
+pub below-zero : (n : ℕ) (z : ℤ) → ltZ z (pos 0) ≡ true → upTo n z ≡ false
+below-zero n (pos a) e = absurd (omega (arith, ltb-true a 0 e))
+below-zero n (negsuc a) e = refl
+
+pub above-top : (n : ℕ) (z : ℤ) → ltZ (pos n) z ≡ true → upTo n z ≡ false
+above-top n (pos a) e = lt-leb a n (ltb-true n a e)
+above-top n (negsuc a) e = absurd (no e)
+
+pub up-to : (n : ℕ) (z : ℤ) → ltZ z (pos 0) ≡ false → ltZ (pos n) z ≡ false → upTo n z ≡ true
+up-to n (pos a) e f = le-leb a n (ltb-false n a f)
+up-to n (negsuc a) e f = absurd (subst T e tt)
 
 -- ---- casts: a word from 0 to n, read as an unsigned number
 pub cast-ok : {w : Width} (n : ℕ) (z : ℤ) → upTo n z ≡ true → Fits w n → T (nonNeg z) × Fits w (natAbs z)

@@ -1,13 +1,14 @@
 -- Finite sums over a commutative semiring whose zero is neutral for products, and products of matrices as sums.
 use mathlib.Core.Path.{_≡_, refl, sym, ap, ap₂, _∙_}
 use mathlib.Core.Logic.{_≢_}
-use mathlib.Core.List.{List, [], _∷_, _++_, map}
+use mathlib.Core.Bool.{Bool, true, false, cond}
+use mathlib.Core.List.{List, [], _∷_, _++_, map, foldl}
 use Prim.Native.Nat.{ℕ, zero, suc, _<_}
 use native.Mathlib.Decide.{ℕ-discrete}
 use native.Mathlib.Omega.{arith}
 use Rattle.algebra.specs.Ops.{Ops}
 use Rattle.algebra.specs.Sum.{sum, listSum, times}
-use Rattle.algebra.specs.Lists.{All, concatMap}
+use Rattle.algebra.specs.Lists.{All, filterBy, concatMap}
 use Rattle.algebra.proofs.Semi.{Semi, add-zero, zero-zero, zero-mul, add-mul, add-four}
 
 module _ (𝓡 : Semi) where
@@ -97,6 +98,30 @@ module _ (𝓡 : Semi) where
     pub sum-listSum : (n : ℕ) (f : ℕ → A → R) (xs : List A) → sum ops n (λ (k : ℕ). listSum ops (f k) xs) ≡ listSum ops (λ (x : A). sum ops n (λ (k : ℕ). f k x)) xs
     sum-listSum zero f xs = sym (listSum-zero (λ (x : A). 𝟘) xs (λ x. refl))
     sum-listSum (suc n) f xs = ap (λ (y : R). y ⊕ listSum ops (f n) xs) (sum-listSum n f xs) ∙ sym (listSum-add (λ (x : A). sum ops n (λ (k : ℕ). f k x)) (f n) xs)
+
+    -- summed from left to right, as a loop does
+    pub foldl-listSum : (φ : A → R) (xs : List A) → foldl (λ (y : R) (x : A). y ⊕ φ x) 𝟘 xs ≡ listSum ops φ xs
+    foldl-listSum φ xs = go xs 𝟘 (zero-zero 𝓡) ∙ zero-listSum φ xs
+      where
+        go : (xs : List A) (m : R) → 𝟘 ⊕ m ≡ m → foldl (λ (y : R) (x : A). y ⊕ φ x) m xs ≡ m ⊕ listSum ops φ xs
+        go [] m h = sym (add-comm m 𝟘 ∙ h)
+        go (x ∷ xs) m h = go xs (m ⊕ φ x) (sym (add-assoc 𝟘 m (φ x)) ∙ ap (λ (y : R). y ⊕ φ x) h) ∙ add-assoc m (φ x) (listSum ops φ xs)
+
+    pub listSum-filter : (φ : A → R) (p : A → Bool) (xs : List A) → listSum ops φ (filterBy p xs) ≡ listSum ops (λ (x : A). cond (p x) (φ x) 𝟘) xs
+    listSum-filter φ p [] = refl
+    listSum-filter φ p (x ∷ xs) = go (p x) (listSum-filter φ p xs)
+      where
+        rest : R
+        rest = listSum ops (λ (x : A). cond (p x) (φ x) 𝟘) xs
+
+        go : (b : Bool) → listSum ops φ (filterBy p xs) ≡ rest → listSum ops φ (cond b (x ∷ filterBy p xs) (filterBy p xs)) ≡ cond b (φ x) 𝟘 ⊕ rest
+        go true e = ap (λ (y : R). φ x ⊕ y) e
+        go false e = e ∙ sym (zero-listSum (λ (x : A). cond (p x) (φ x) 𝟘) xs)
+
+  pub listSum-swap : {A B : Type 0} (f : A → B → R) (xs : List A) (ys : List B)
+      → listSum ops (λ (x : A). listSum ops (f x) ys) xs ≡ listSum ops (λ (y : B). listSum ops (λ (x : A). f x y) xs) ys
+  listSum-swap {B} f [] ys = sym (listSum-zero (λ (y : B). 𝟘) ys (λ y. refl))
+  listSum-swap {A} {B} f (x ∷ xs) ys = ap (λ (z : R). listSum ops (f x) ys ⊕ z) (listSum-swap f xs ys) ∙ sym (listSum-add (f x) (λ (y : B). listSum ops (λ (x : A). f x y) xs) ys)
 
   pub listSum-map : {A B : Type 0} (φ : B → R) (f : A → B) (xs : List A) → listSum ops φ (map f xs) ≡ listSum ops (λ (x : A). φ (f x)) xs
   listSum-map φ f [] = refl

@@ -1,6 +1,6 @@
 -- Tests: what a joined test says, tests that agree, and a test computed at every number below a bound, or along a table.
 use mathlib.Core.Path.{_≡_, refl, sym, ap, _∙_, subst}
-use mathlib.Core.Bool.{Bool, true, false, not, _&&_}
+use mathlib.Core.Bool.{Bool, true, false, not, _&&_, _||_, true≢false}
 use mathlib.Core.List.{List}
 use Prim.Native.Nat.{ℕ, zero, suc, _+_, _<_, _≤_}
 use native.Mathlib.Nat.{not-suc-le-zero, lt-of-not-le, not-le-of-lt}
@@ -16,6 +16,14 @@ pub and-split : (a b : Bool) → (a && b) ≡ true → (a ≡ true) × (b ≡ tr
 and-split true b e = (refl, e)
 and-split false b e = absurd (subst (λ (t : Bool). T (not t)) e tt)
 
+pub or-no : (a b : Bool) → a || b ≡ false → (a ≡ false) × (b ≡ false)
+or-no true b e = absurd (true≢false e)
+or-no false b e = (refl, e)
+
+pub or-right : (a b : Bool) → b ≡ true → a || b ≡ true
+or-right true b e = refl
+or-right false b e = e
+
 pub and-no : (a b : Bool) → b ≡ false → (a && b) ≡ false
 and-no true b e = e
 and-no false b e = refl
@@ -28,6 +36,11 @@ pub true-holds : {b : Bool} → b ≡ true → T b
 true-holds e = subst T (sym e) tt
 
 -- ---- two tests that say the same
+pub test-same : (a b : Bool) → (a ≡ true → b ≡ true) → (b ≡ true → a ≡ true) → a ≡ b
+test-same true b f g = sym (f refl)
+test-same false true f g = g refl
+test-same false false f g = refl
+
 pub leb-same : (a b c d : ℕ) → (a ≤ b → c ≤ d) → (c ≤ d → a ≤ b) → leb a b ≡ leb c d
 leb-same a b c d f g = go (leb a b) refl
   where

@@ -35,3 +35,8 @@ Apart a m b n = (a + m ≤ b) ⊎ (b + n ≤ a)
 unfoldable pub joined : ℕ → (ℕ → List ℤ) → List ℤ
 joined zero f = []
 joined (suc n) f = joined n f ++ f n
+
+-- the number with these bits, the lowest first
+abbrev pub fromBits : List ℕ → ℕ
+fromBits [] = 0
+fromBits (b ∷ bs) = b + 2 * fromBits bs

@@ -1,3 +1,4 @@
 pub mod Gate
 pub mod Operators
 pub mod Embed
+pub mod Verdict

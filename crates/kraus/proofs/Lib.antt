@@ -1,0 +1,15 @@
+pub mod Dense
+pub mod Stores
+pub mod Schedule
+pub mod Counts
+pub mod Counting
+pub mod Complete
+pub mod Filtration
+pub mod Weigh
+pub mod Weights
+pub mod Size
+pub mod Measured
+pub mod Enough
+pub mod Limits
+pub mod Effect
+pub mod Hermitian

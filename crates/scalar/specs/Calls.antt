@@ -1,11 +1,10 @@
 -- What the scalar calls answer: the exact result, or the refusal by the first question that fails.
-use mathlib.Core.Bool.{Bool, true, false, cond, _&&_}
+use mathlib.Core.Bool.{cond, _&&_}
 use mathlib.Core.List.{List, [], _∷_}
 use Prim.Native.Nat.{ℕ}
 use lib.ListN.{getD}
 use lib.IntN.{ℤ, pos}
-use Rattle.algebra.specs.Ops.{Ops}
-use Rattle.algebra.specs.Dyadic.{Frac, frac}
+use Rattle.algebra.specs.Dyadic.{frac}
 use Rattle.scalar.specs.declared.Scalar.{Scalar}
 use Rattle.scalar.specs.declared.Answer.{Answer}
 use Rattle.scalar.specs.declared.Verdict.{Verdict}
@@ -32,8 +31,11 @@ verdictNumber Accepted = 0
 verdictNumber TooLarge = 9
 verdictNumber Malformed = 10
 
+abbrev pub acceptedAs : Scalar → Answer
+acceptedAs s = record { value = s; verdict = Accepted }
+
 abbrev pub accepted : Exact → Answer
-accepted x = record { value = scalarOf x; verdict = Accepted }
+accepted x = acceptedAs (scalarOf x)
 
 -- a refusal hands back zero
 abbrev pub refusedWith : Verdict → Answer
@@ -42,6 +44,10 @@ refusedWith v = record { value = scalarOf (exact .𝟘); verdict = v }
 -- 9, unless the number is in range
 abbrev pub fitting : Exact → Answer
 fitting x = cond (inRange x) (accepted x) (refusedWith TooLarge)
+
+-- the same of a struct
+abbrev pub fittingScalar : Scalar → Answer
+fittingScalar s = cond (inRange (value s)) (acceptedAs s) (refusedWith TooLarge)
 
 -- 10, unless the operand is in range and in lowest form
 abbrev pub asked : Exact → Answer → Answer
@@ -68,5 +74,9 @@ halfAnswer x = asked x (fitting (half x))
 abbrev pub addAnswer : Exact → Exact → Answer
 addAnswer x y = askedBoth x y (fitting (exact ._⊕_ x y))
 
+-- 9, unless both factors are narrow
+abbrev pub narrowAnswer : Exact → Exact → Answer
+narrowAnswer x y = cond (narrow x && narrow y) (accepted (exact ._⊗_ x y)) (refusedWith TooLarge)
+
 abbrev pub mulAnswer : Exact → Exact → Answer
-mulAnswer x y = askedBoth x y (cond (narrow x && narrow y) (accepted (exact ._⊗_ x y)) (refusedWith TooLarge))
+mulAnswer x y = askedBoth x y (narrowAnswer x y)

@@ -1,6 +1,6 @@
 -- Exact numbers: (n0 + n1·√2 + n2·i + n3·i·√2) / 2^e, with integers n0 to n3, in lowest form.
-use mathlib.Core.Bool.{Bool, true, false, cond, not, _&&_, _||_}
-use Prim.Native.Nat.{ℕ, zero, suc, _+_, _^_, _%_}
+use mathlib.Core.Bool.{Bool, not, _&&_, _||_}
+use Prim.Native.Nat.{ℕ, zero, suc, _^_, _%_}
 use lib.Dec.{eqb, leb}
 use lib.IntN.{ℤ, pos, negsuc, natAbs}
 use Rattle.algebra.specs.Ops.{Ops, integers}
@@ -53,9 +53,13 @@ abbrev pub powerOf : Exact → ℕ → Exact
 powerOf x zero = exact .𝟙
 powerOf x (suc k) = exact ._⊗_ (powerOf x k) x
 
+-- (1 + i) / √2
+abbrev pub turn : Exact
+turn = exact ._⊗_ (exact ._⊕_ (exact .𝟙) imaginary) invSqrtTwo
+
 -- ((1 + i) / √2)^(k mod 8)
 abbrev pub omega : ℕ → Exact
-omega k = powerOf (exact ._⊗_ (exact ._⊕_ (exact .𝟙) imaginary) invSqrtTwo) (k % 8)
+omega k = powerOf turn (k % 8)
 
 -- ---- the ranges
 abbrev pub maxNumerator : ℕ

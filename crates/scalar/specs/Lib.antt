@@ -1,3 +1,5 @@
 pub mod Exact
 pub mod Calls
 pub mod Cells
+pub mod Inner
+pub mod Claims

@@ -1,0 +1,227 @@
+-- Equality up to a global phase is what it says: y = u·x for some number u of modulus 1, whichever entry is the pivot.
+use mathlib.Core.Path.{_≡_, refl, sym, ap, ap₂, _∙_, subst}
+use mathlib.Core.Bool.{Bool, true, false, not, cond, _&&_}
+use mathlib.Core.Logic.{_≢_, _↔_, _⊎_, inl, inr, ⊎-elim}
+use mathlib.Core.List.{List}
+use Prim.Native.Nat.{ℕ, zero, suc, _+_, _*_, _-_, _<_, _≤_}
+use native.Mathlib.Nat.{le-refl}
+use native.Mathlib.Numerals.{add-one}
+use native.Mathlib.Decide.{decLt, ℕ-discrete}
+use native.Mathlib.Omega.{arith}
+use lib.Dec.{T, eqb}
+use lib.IntN.{ℤ, pos, natAbs}
+use borrow.Author.Tests.{eqb-true, eq-eqb}
+use Rattle.algebra.specs.Ops.{Ops}
+use Rattle.algebra.specs.Quadratic.{Pair, pair, conjugate}
+use Rattle.algebra.specs.Dyadic.{Frac, frac}
+use Rattle.algebra.specs.Lists.{allBelow}
+use Rattle.algebra.specs.Words.{eqℤ}
+use Rattle.algebra.proofs.Tests.{and-split, all-at, all-by, all-no, test-same}
+use Rattle.algebra.proofs.Semi.{Semi, zero-mul, mul-four, mul-left}
+use Rattle.algebra.proofs.Ring.{semi}
+use Rattle.algebra.proofs.Quadratic.{ℤ√2i}
+use Rattle.algebra.proofs.Dyadic.{low-zero}
+use Rattle.algebra.proofs.Domain.{ℤ√2i-domain, zero-fraction, cancel-fraction}
+use Rattle.algebra.proofs.Signed.{abs-zero, eqℤ-true, eqℤ-refl}
+use Rattle.scalar.specs.Exact.{Exact, exact, Number, number, numbers, root2, conj, lowest, isLowest}
+use Rattle.scalar.specs.Cells.{isZero}
+use Rattle.scalar.proofs.Cell.{zero-is}
+use Rattle.scalar.proofs.Exact.{exacts, exactHalving, conj-by, conj-conj, is-lowest, mul-lowest}
+use Rattle.scalar.specs.declared.Verdict.the-variants.{TooLarge, Malformed}
+use Rattle.matrix.specs.declared.Phase.the-variants.{Equivalent, Different}
+use Rattle.matrix.specs.declared.PhaseAnswer.{PhaseAnswer}
+use Rattle.matrix.proofs.Terms.{zero-by}
+use Rattle.matrix.specs.Phase.{_·_, samePair, same, zeroMatrix, inPhaseAt, firstNot, pivot, inPhase, answered, refusedPhase, entryOf, wellFormedMatrix, narrowMatrix, phaseAnswer, GlobalPhase, Meaning}
+
+-- ---- with x·b = y·a and p·b = q·a
+module _ (𝓡 : Semi) (bar : 𝓡 .R → 𝓡 .R) (bar-mul : (x y : 𝓡 .R) → bar (𝓡 .ops ._⊗_ x y) ≡ 𝓡 .ops ._⊗_ (bar x) (bar y)) where
+  infixl 70 _⊗_
+  open Semi 𝓡 using (R, mul-assoc, mul-comm)
+  open Ops (𝓡 .ops) using (_⊗_)
+
+  cross : (x y p q a b : R) → x ⊗ b ≡ y ⊗ a → p ⊗ b ≡ q ⊗ a → (x ⊗ q) ⊗ a ≡ (y ⊗ p) ⊗ a
+  cross x y p q a b e f =
+      mul-assoc x q a ∙ ap (λ (z : R). x ⊗ z) (sym f) ∙ mul-left 𝓡 x p b ∙ ap (λ (z : R). p ⊗ z) e
+      ∙ sym (mul-assoc p y a) ∙ ap (λ (z : R). z ⊗ a) (mul-comm p y)
+
+  moduli : (p q a b : R) → p ⊗ b ≡ q ⊗ a → a ⊗ bar a ≡ b ⊗ bar b → (p ⊗ bar p) ⊗ (a ⊗ bar a) ≡ (q ⊗ bar q) ⊗ (a ⊗ bar a)
+  moduli p q a b f m = ap (λ (z : R). (p ⊗ bar p) ⊗ z) m ∙ spread p b ∙ ap (λ (z : R). z ⊗ bar z) f ∙ sym (spread q a)
+    where
+      spread : (u v : R) → (u ⊗ bar u) ⊗ (v ⊗ bar v) ≡ (u ⊗ v) ⊗ bar (u ⊗ v)
+      spread u v = mul-four 𝓡 u (bar u) v (bar v) ∙ ap (λ (z : R). (u ⊗ v) ⊗ z) (sym (bar-mul u v))
+
+-- ---- the tests
+pair-true : {A : Type 0} (eq : A → A → Bool) → ((a b : A) → eq a b ≡ true → a ≡ b) → (x y : Pair A) → samePair eq x y ≡ true → x ≡ y
+pair-true eq sound x y e = let p = and-split (eq (x .re) (y .re)) (eq (x .im) (y .im)) e in ap₂ pair (sound (x .re) (y .re) (p .0)) (sound (x .im) (y .im) (p .1))
+
+pub same-true : (x y : Exact) → same x y ≡ true → x ≡ y
+same-true x y e =
+    let p = and-split (samePair (samePair eqℤ) (x .num) (y .num)) (eqb (x .exp) (y .exp)) e in
+    ap₂ frac (pair-true (samePair eqℤ) (pair-true eqℤ eqℤ-true) (x .num) (y .num) (p .0)) (eqb-true (x .exp) (y .exp) (p .1))
+
+pub same-of : (x y : Exact) → x ≡ y → same x y ≡ true
+same-of x y e = ap (same x) (sym e) ∙ (λ i. ((eqℤ-refl (x .num .re .re) i && eqℤ-refl (x .num .re .im) i) && (eqℤ-refl (x .num .im .re) i && eqℤ-refl (x .num .im .im) i)) && eq-eqb (x .exp) (x .exp) refl i)
+
+zero-false : (z : Number) → isZero z ≡ false → z ≢ numbers .𝟘
+zero-false z e f = subst T (sym (ap isZero f) ∙ e) tt
+
+not-both : (b : Bool) → (b ≡ true → ⊥) → b ≡ false
+not-both true h = absurd (h refl)
+not-both false h = refl
+
+-- ---- products of exact numbers
+cancel-by : (a u v s t : Exact) → isZero (a .num) ≡ false → (u · v) · a ≡ (s · t) · a → u · v ≡ s · t
+cancel-by a u v s t h e =
+    sym (is-lowest (u · v) (mul-lowest u v)) ∙ cancel-fraction ℤ√2i exactHalving ℤ√2i-domain a (u · v) (s · t) (zero-false (a .num) h) e ∙ is-lowest (s · t) (mul-lowest s t)
+
+-- a·ā is not zero
+modulus-by : (a : Exact) → isZero (a .num) ≡ false → isZero ((a · conj a) .num) ≡ false
+modulus-by a h = not-both (isZero ((a · conj a) .num)) (λ z. none (sym (is-lowest (a · conj a) (mul-lowest a (conj a))) ∙ ap (λ (w : Number). lowest w ((a · conj a) .exp)) (zero-is ((a · conj a) .num) z) ∙ low-zero ℤ√2i exactHalving ((a · conj a) .exp)))
+  where
+    none : a · conj a ≡ exact .𝟘 → ⊥
+    none e =
+        zero-false (a .num) h
+        (⊎-elim (λ z. z) (λ z. sym (ap (λ (x : Exact). x .num) (conj-conj a)) ∙ ap (conjugate root2) z) (zero-fraction ℤ√2i exactHalving ℤ√2i-domain a (conj a) e))
+
+module _ (n : ℕ) (x y : ℕ → Exact) where
+  pub at-phase : (i : ℕ) → isZero (x i .num) ≡ false → inPhaseAt n x y i ≡ true → GlobalPhase n x y
+  at-phase i h e =
+      let p = and-split (same (x i · conj (x i)) (y i · conj (y i))) (allBelow n (λ (j : ℕ). same (x j · y i) (y j · x i))) e in
+      record {
+        a = x i;
+        b = y i;
+        nonzero = h;
+        modulus = same-true (x i · conj (x i)) (y i · conj (y i)) (p .0);
+        ratio = λ j l. same-true (x j · y i) (y j · x i) (all-at n (λ (j : ℕ). same (x j · y i) (y j · x i)) (p .1) j l);
+      }
+
+  pub phase-at : GlobalPhase n x y → (i : ℕ) → i < n → inPhaseAt n x y i ≡ true
+  phase-at g i l =
+      let a = g .a in
+      let b = g .b in
+      let m : same (x i · conj (x i)) (y i · conj (y i)) ≡ true =
+          same-of (x i · conj (x i)) (y i · conj (y i))
+          (cancel-by (a · conj a) (x i) (conj (x i)) (y i) (conj (y i)) (modulus-by a (g .nonzero)) (moduli exacts conj conj-by (x i) (y i) a b (g .ratio i l) (g .modulus))) in
+      let r : allBelow n (λ (j : ℕ). same (x j · y i) (y j · x i)) ≡ true =
+          all-by n (λ (j : ℕ). same (x j · y i) (y j · x i))
+          (λ j k. same-of (x j · y i) (y j · x i) (cancel-by a (x j) (y i) (y j) (x i) (g .nonzero) (cross exacts conj conj-by (x j) (y j) (x i) (y i) a b (g .ratio j k) (g .ratio i l)))) in
+      (λ t. m t && r t)
+
+  pub zero-phase : zeroMatrix n x ≡ true → GlobalPhase n x y → zeroMatrix n y ≡ true
+  zero-phase z g = all-by n (λ (i : ℕ). isZero (y i .num)) (λ i l.
+      ⊎-elim (ap isZero) (λ w. absurd (zero-false (g .a .num) (g .nonzero) w))
+      (zero-fraction ℤ√2i exactHalving ℤ√2i-domain (y i) (g .a) (sym (g .ratio i l) ∙ zero-by (x i) (g .b) (all-at n (λ (i : ℕ). isZero (x i .num)) z i l))))
+
+  pub phase-zero : zeroMatrix n x ≡ true → zeroMatrix n y ≡ true → GlobalPhase n x y
+  phase-zero z w =
+      record {
+        a = exact .𝟙;
+        b = exact .𝟙;
+        nonzero = refl;
+        modulus = refl;
+        ratio = λ i l. zero-by (x i) (exact .𝟙) (all-at n (λ (i : ℕ). isZero (x i .num)) z i l) ∙ sym (zero-by (y i) (exact .𝟙) (all-at n (λ (i : ℕ). isZero (y i .num)) w i l));
+      }
+
+-- ---- the pivot
+pub record First (k i : ℕ) (p : ℕ → Bool) (j : ℕ) : Type 0 where
+  pub below : j < i + k
+  pub fails : p j ≡ false
+
+pub first-from : (k i : ℕ) (p : ℕ → Bool) → First k i p (firstNot k i p) ⊎ (firstNot k i p ≡ i + k) × ((j : ℕ) → i ≤ j → j < i + k → p j ≡ true)
+unfolding firstNot
+first-from zero i p = inr (omega arith, λ j g h. absurd (omega arith))
+first-from (suc k) i p = go (p i) refl (first-from k (suc i) p)
+  where
+    go : (b : Bool) → p i ≡ b → First k (suc i) p (firstNot k (suc i) p) ⊎ (firstNot k (suc i) p ≡ suc i + k) × ((j : ℕ) → suc i ≤ j → j < suc i + k → p j ≡ true)
+        → First (suc k) i p (cond b (firstNot k (suc i) p) i) ⊎ (cond b (firstNot k (suc i) p) i ≡ i + suc k) × ((j : ℕ) → i ≤ j → j < i + suc k → p j ≡ true)
+    go true e (inl f) = inl (record { below = omega (arith, f .below); fails = f .fails })
+    go true e (inr f) = inr (omega (arith, f .0), λ j g h. at (ℕ-discrete j i) (f .1 j) g h)
+      where
+        at : {j : ℕ} → Dec (j ≡ i) → (suc i ≤ j → j < suc i + k → p j ≡ true) → i ≤ j → j < i + suc k → p j ≡ true
+        at (yes q) r g h = ap p q ∙ e
+        at (no q) r g h = r (omega arith) (omega arith)
+    go false e r = inl (record { below = omega arith; fails = e })
+
+-- a search from i on, as a loop makes it
+module _ (n i : ℕ) (p : ℕ → Bool) where
+  one-step : i < n → firstNot (n - i) i p ≡ cond (p i) (firstNot (n - (i + 1)) (i + 1) p) i
+  unfolding firstNot
+  one-step h = ap (λ (k : ℕ). firstNot k i p) left ∙ ap (λ (k : ℕ). cond (p i) (firstNot (n - (i + 1)) k p) i) (sym (add-one i))
+    where
+      left : n - i ≡ suc (n - (i + 1))
+      left = omega arith
+
+  pub first-next : i < n → p i ≡ true → firstNot (n - i) i p ≡ firstNot (n - (i + 1)) (i + 1) p
+  first-next h e = one-step h ∙ ap (λ (b : Bool). cond b (firstNot (n - (i + 1)) (i + 1) p) i) e
+
+  pub first-here : i < n → p i ≡ false → firstNot (n - i) i p ≡ i
+  first-here h e = one-step h ∙ ap (λ (b : Bool). cond b (firstNot (n - (i + 1)) (i + 1) p) i) e
+
+  pub first-end : i ≤ n → n ≤ i → firstNot (n - i) i p ≡ n
+  unfolding firstNot
+  first-end h k = ap (λ (m : ℕ). firstNot m i p) none ∙ all
+    where
+      none : n - i ≡ 0
+      none = omega arith
+
+      all : i ≡ n
+      all = omega arith
+
+pub pivot-is : (n : ℕ) (x : ℕ → Exact) → zeroMatrix n x ≡ false → (pivot n x < n) × (isZero (x (pivot n x) .num) ≡ false)
+pivot-is n x z = go (first-from n 0 (λ (i : ℕ). isZero (x i .num)))
+  where
+    go : First n 0 (λ (i : ℕ). isZero (x i .num)) (pivot n x) ⊎ (pivot n x ≡ 0 + n) × ((j : ℕ) → 0 ≤ j → j < 0 + n → isZero (x j .num) ≡ true) → (pivot n x < n) × (isZero (x (pivot n x) .num) ≡ false)
+    go (inl f) = (omega (arith, f .below), f .fails)
+    go (inr f) = absurd (clash (all-by n (λ (i : ℕ). isZero (x i .num)) (λ j l. f .1 j (omega arith) (omega arith))))
+      where
+        clash : zeroMatrix n x ≡ true → ⊥
+        clash w = subst T (sym w ∙ z) tt
+
+pub pivot-none : (n : ℕ) (x : ℕ → Exact) → zeroMatrix n x ≡ true → pivot n x ≡ n
+pivot-none n x z = go (first-from n 0 (λ (i : ℕ). isZero (x i .num)))
+  where
+    go : First n 0 (λ (i : ℕ). isZero (x i .num)) (pivot n x) ⊎ (pivot n x ≡ 0 + n) × ((j : ℕ) → 0 ≤ j → j < 0 + n → isZero (x j .num) ≡ true) → pivot n x ≡ n
+    go (inl f) = absurd (subst T (sym (all-at n (λ (i : ℕ). isZero (x i .num)) z (pivot n x) (omega (arith, f .below))) ∙ f .fails) tt)
+    go (inr f) = omega (arith, f .0)
+
+module _ (n : ℕ) (x y : ℕ → Exact) where
+  pub phase-is : inPhase n x y ≡ true ↔ GlobalPhase n x y
+  phase-is = go (zeroMatrix n x) refl
+    where
+      go : (b : Bool) → zeroMatrix n x ≡ b → (cond b (zeroMatrix n y) (inPhaseAt n x y (pivot n x)) ≡ true) ↔ GlobalPhase n x y
+      go true z = (phase-zero n x y z, zero-phase n x y z)
+      go false z = let p = pivot-is n x z in (at-phase n x y (pivot n x) (p .1), λ g. phase-at n x y g (pivot n x) (p .0))
+
+  -- the two arms, as code takes them
+  pub phase-pivot : pivot n x < n → inPhase n x y ≡ inPhaseAt n x y (pivot n x)
+  phase-pivot h = go (zeroMatrix n x) refl
+    where
+      go : (b : Bool) → zeroMatrix n x ≡ b → cond b (zeroMatrix n y) (inPhaseAt n x y (pivot n x)) ≡ inPhaseAt n x y (pivot n x)
+      go true z = absurd (omega (arith, pivot-none n x z))
+      go false z = refl
+
+  pub phase-none : n ≤ pivot n x → inPhase n x y ≡ zeroMatrix n y
+  phase-none h = go (zeroMatrix n x) refl
+    where
+      go : (b : Bool) → zeroMatrix n x ≡ b → cond b (zeroMatrix n y) (inPhaseAt n x y (pivot n x)) ≡ zeroMatrix n y
+      go true z = refl
+      go false z = absurd (omega (arith, pivot-is n x z .0))
+
+-- ---- the answer
+answered-true : (b : Bool) → answered b ≡ answered true → b ≡ true
+answered-true true e = refl
+answered-true false e = let p : Different ≡ Equivalent = ap (λ (r : PhaseAnswer). r .phase) e in let z : _≡_ {A = ℕ} 0 1 = cc in absurd (omega arith)
+
+pub asked : (d : ℕ) (l m : List ℤ) → wellFormedMatrix d l ≡ true → wellFormedMatrix d m ≡ true → narrowMatrix d l ≡ true → narrowMatrix d m ≡ true
+    → phaseAnswer d l d m ≡ answered (inPhase (d * d) (entryOf l) (entryOf m))
+asked d l m f g h k = λ i. cond (f i && g i) (cond (eq-eqb d d refl i) (cond (h i && k i) (answered (inPhase (d * d) (entryOf l) (entryOf m))) (refusedPhase TooLarge)) (answered false)) (refusedPhase Malformed)
+
+pub meaning : Meaning
+meaning = record {
+  exactly = λ d l m f g h k.
+      let a = asked d l m f g h k in
+      let p = phase-is (d * d) (entryOf l) (entryOf m) in
+      (λ e. p .0 (answered-true (inPhase (d * d) (entryOf l) (entryOf m)) (sym a ∙ e)), λ e. a ∙ ap answered (p .1 e));
+  zero = λ n x y z. (zero-phase n x y z, phase-zero n x y z);
+  anyPivot = λ n x y i l h. test-same (inPhaseAt n x y i) (inPhase n x y) (λ e. phase-is n x y .1 (at-phase n x y i h e)) (λ e. phase-at n x y (phase-is n x y .0 e) i l);
+}

@@ -1,0 +1,5 @@
+pub mod Terms
+pub mod Rows
+pub mod GlobalPhase
+pub mod Operands
+pub mod Questions

@@ -1,0 +1,47 @@
+use scalar::cells::zero_at;
+ghost use mathlib.Core.Path.{_≡_};
+ghost use Prim.Native.Nat.{ℕ, _+_, _*_, _≤_};
+ghost use lib.ListN.{length, getD};
+ghost use lib.IntN.{ℤ, pos};
+ghost use Rattle.algebra.specs.Words.{fillWords, Apart};
+ghost use Rattle.matrix.specs.Matrix.{zeros};
+
+// Set n words from `at` on to zero.
+pub fn clear(s: &mut [i64], at: usize, n: usize)
+    requires { ⌜ at + n ≤ length (now s) ⌝ }
+    ensures { λ _. ⌜ now (s .exit) ≡ fillWords (now (s .entry)) at n (λ (i : ℕ). pos 0) ⌝ }
+{
+    let mut i = 0;
+    while i < n {
+        s[at + i] = 0;
+        i += 1;
+    }
+}
+
+// Copy n words from `from` on to `to` on; the two parts do not overlap.
+pub fn copy(s: &mut [i64], from: usize, to: usize, n: usize)
+    requires { ⌜ (from + n ≤ length (now s)) × ((to + n ≤ length (now s)) × Apart from n to n) ⌝ }
+    ensures { λ _. ⌜ now (s .exit) ≡ fillWords (now (s .entry)) to n (λ (i : ℕ). getD (now (s .entry)) (from + i) (pos 0)) ⌝ }
+{
+    let mut i = 0;
+    while i < n {
+        let x = s[from + i];
+        s[to + i] = x;
+        i += 1;
+    }
+}
+
+// Whether n entries from `at` on are zero.
+pub fn is_zero(s: &[i64], at: usize, n: usize) -> bool
+    requires { ⌜ at + n * 5 ≤ length (now s) ⌝ }
+    ensures { λ r. ⌜ r ≡ zeros (now (s .entry)) at n ⌝ }
+{
+    let mut i = 0;
+    while i < n {
+        if !zero_at(s, at + i * 5) {
+            return false;
+        }
+        i += 1;
+    }
+    true
+}

@@ -1,0 +1,5 @@
+// Replays of recorded answers: a text of numbers is read, the calls are made, and agreement is counted.
+pub mod sum;
+pub mod tally;
+pub mod text;
+pub mod words;

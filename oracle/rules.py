@@ -1,0 +1,347 @@
+"""Document 01 in Python: ranges, questions, word layouts; and the checksum of the replay data.
+
+Used where the Rust cannot be asked (refusals 5 to 10, buffers, record order). Entries of matrices and blocks come from the Rust.
+"""
+
+# ---- scalars: (n0, n1, n2, n3, e)
+ZERO = (0, 0, 0, 0, 0)
+ONE = (1, 0, 0, 0, 0)
+
+
+def in_range(s):
+    return all(abs(n) <= 2**60 for n in s[:4]) and 0 <= s[4] <= 60
+
+
+def is_lowest(s):
+    return s[4] == 0 or any(n % 2 for n in s[:4])
+
+
+def well_formed(s):
+    return in_range(s) and is_lowest(s)
+
+
+def narrow(s):
+    return all(abs(n) <= 2**28 for n in s[:4]) and 0 <= s[4] <= 28
+
+
+def lowest(s):
+    *n, e = s
+    while e > 0 and not any(x % 2 for x in n):
+        n = [x // 2 for x in n]
+        e -= 1
+    return (*n, e)
+
+
+def mul(x, y):
+    (a, b, c, d, e), (p, q, r, s, f) = x, y
+    return lowest((a * p + 2 * b * q - c * r - 2 * d * s, a * q + b * p - c * s - d * r,
+                   a * r + c * p + 2 * b * s + 2 * d * q, a * s + d * p + b * r + c * q, e + f))
+
+
+def add(x, y):
+    e = max(x[4], y[4])
+    return lowest((*(x[i] * 2**(e - x[4]) + y[i] * 2**(e - y[4]) for i in range(4)), e))
+
+
+def conj(x):
+    return (x[0], x[1], -x[2], -x[3], x[4])
+
+
+def neg(x):
+    return (*(-n for n in x[:4]), x[4])
+
+
+ROOT = (0, 1, 0, 0, 1)  # √2/2
+OMEGA = [ONE]
+for _ in range(7):
+    OMEGA.append(mul(OMEGA[-1], (0, 1, 0, 1, 1)))
+
+# ---- gates: (kind, a, b, c, k)
+(H, X, Z, S, SDG, T, TDG, RZ, CNOT, CZ, CCX, CCZ, MEASURE, RESET, P, Y, SX, RX, RY, SWAP, CY, CP, CRX, CRY, CRZ, CH, CSWAP) = range(27)
+UNSUPPORTED = {P, RX, RY, CP, CRX, CRY, CRZ}
+TWO = {CNOT, CZ, SWAP, CY, CP, CRX, CRY, CRZ, CH}
+THREE = {CCX, CCZ, CSWAP}
+WEIGHT = {H: 1, CH: 1, SX: 1}
+
+
+def arity(kind):
+    return 3 if kind in THREE else 2 if kind in TWO else 1
+
+
+def qubits(g):
+    return g[1:1 + arity(g[0])]
+
+
+def malformed(g):
+    """Question 4."""
+    kind = g[0]
+    if kind > 26 or g[4] > (8 if kind == RZ else 0):
+        return True
+    used = arity(kind) + (kind == MEASURE)
+    return any(g[1 + used:4])
+
+
+def bad_operand(g, n, bits):
+    """Question 5; bits is None where the classical bit is ignored."""
+    q = qubits(g)
+    if any(x >= n for x in q) or len(set(q)) < len(q):
+        return True
+    return g[0] == MEASURE and bits is not None and g[2] >= bits
+
+
+def unsupported(g, unitary=False):
+    """Question 6."""
+    return g[0] in UNSUPPORTED or (g[0] == RZ and g[4] == 8) or (unitary and g[0] in (MEASURE, RESET))
+
+
+def gates(words):
+    return [tuple(words[i:i + 5]) for i in range(0, len(words) - len(words) % 5, 5)]
+
+
+def gate_faults(gs, n, bits, unitary):
+    for i, g in enumerate(gs):
+        if malformed(g):
+            return (5, i)
+        if bad_operand(g, n, bits):
+            return (3, i)
+        if unsupported(g, unitary):
+            return (2, i)
+    return None
+
+
+CEILINGS = (5, 262144, 10000000, 1024, 64, 64)  # qubits, cells, terms, operations, branches, bits
+
+
+def weight(gs):
+    return sum(WEIGHT.get(g[0], 0) for g in gs)
+
+
+def counts(gs):
+    splits = sum(g[0] in (MEASURE, RESET) for g in gs)
+    return splits, len({g[2] for g in gs if g[0] == MEASURE})
+
+
+def channel_sizes(n, gs):
+    """Result and work words that question 10 asks for."""
+    s, t = counts(gs)
+    d = 2**n
+    return 4 + 2**min(s, t) * (3 + 5 * d**4), (2 * 2**s + 2) * (5 * d * d + 2)
+
+
+def unitary_sizes(n):
+    d = 2**n
+    return 5 * d * d, 4 * (5 * d * d + 2)
+
+
+def channel_verdict(limits, n, bits, store, words, result, work):
+    """circuit_channel's ten questions: (number, index)."""
+    if any(a > b for a, b in zip(limits, CEILINGS)):
+        return (6, 0)
+    if len(words) % 5:
+        return (5, 0)
+    gs = gates(words)
+    if len(gs) > limits[3]:
+        return (1, 0)
+    if fault := gate_faults(gs, n, bits, False):
+        return fault
+    if len(store) != bits or any(b > 1 for b in store):
+        return (4, 0)
+    s, t = counts(gs)
+    if bits > limits[5] or 2**s > limits[4] or n > limits[0]:
+        return (1, 0)
+    b, v, d = 2**s, 2**min(s, t), 2**n
+    if v * d**4 + (3 * b + 8) * d * d > limits[1] or 2 * len(gs) * b * d**3 + b * d**4 > limits[2]:
+        return (1, 0)
+    if weight(gs) > 48:
+        return (7, 0)
+    want = channel_sizes(n, gs)
+    if result < want[0] or work < want[1]:
+        return (8, 0)
+    return (0, 0)
+
+
+def unitary_verdict(limits, n, words, result, work):
+    """circuit_unitary's questions: (number, index)."""
+    if any(a > b for a, b in zip(limits[:4], CEILINGS)):
+        return (6, 0)
+    if len(words) % 5:
+        return (5, 0)
+    gs = gates(words)
+    if n > limits[0] or len(gs) > limits[3]:
+        return (1, 0)
+    d = 2**n
+    if 8 * d * d > limits[1] or d**3 * len(gs) > limits[2]:
+        return (1, 0)
+    if fault := gate_faults(gs, n, None, True):
+        return fault
+    if weight(gs) > 48:
+        return (7, 0)
+    want = unitary_sizes(n)
+    if result < want[0] or work < want[1]:
+        return (8, 0)
+    return (0, 0)
+
+
+# ---- branches: which stores survive, in branch order
+def small(g):
+    """The operators of a gate: a list of (matrix by row and column bits of its qubits, outcome or None)."""
+    kind = g[0]
+    one, zero, i = ONE, ZERO, (0, 0, 1, 0, 0)
+
+    def controlled(m, controls):
+        d = 2**controls * len(m)
+        at = d - len(m)
+        return [[m[r - at][c - at] if r >= at and c >= at else (one if r == c else zero) for c in range(d)] for r in range(d)]
+
+    x, y, z = [[zero, one], [one, zero]], [[zero, neg(i)], [i, zero]], [[one, zero], [zero, neg(one)]]
+    h = [[ROOT, ROOT], [ROOT, neg(ROOT)]]
+    p, q = (1, 0, 1, 0, 1), (1, 0, -1, 0, 1)
+    swap = [[one if r == [0, 2, 1, 3][c] else zero for c in range(4)] for r in range(4)]
+    phase = {S: 2, SDG: 6, T: 1, TDG: 7, RZ: g[4]}
+    if kind == MEASURE:
+        return [([[one, zero], [zero, zero]], 0), ([[zero, zero], [zero, one]], 1)]
+    if kind == RESET:
+        return [([[one, zero], [zero, zero]], None), ([[zero, one], [zero, zero]], None)]
+    if kind in phase:
+        return [([[one, zero], [zero, OMEGA[phase[kind]]]], None)]
+    m = {H: h, X: x, Y: y, Z: z, SX: [[p, q], [q, p]], CNOT: controlled(x, 1), CZ: controlled(z, 1), CY: controlled(y, 1),
+         CH: controlled(h, 1), CCX: controlled(x, 2), CCZ: controlled(z, 2), SWAP: swap, CSWAP: controlled(swap, 1)}[kind]
+    return [(m, None)]
+
+
+def left_multiply(n, qs, m, kraus):
+    """The operator m on qubits qs, times a matrix kept as {(row, column): scalar} without zeros."""
+    out = {}
+    masks = [1 << (n - 1 - q) for q in qs]
+    clear = ~sum(masks)
+    for (r, c), v in kraus.items():
+        col = 0
+        for mask in masks:
+            col = 2 * col + (1 if r & mask else 0)
+        for row in range(len(m)):
+            if m[row][col] == ZERO:
+                continue
+            to = r & clear
+            for j, mask in enumerate(masks):
+                if row >> (len(masks) - 1 - j) & 1:
+                    to |= mask
+            s = mul(m[row][col], v)
+            key = (to, c)
+            s = add(out[key], s) if key in out else s
+            if s == ZERO:
+                out.pop(key, None)
+            else:
+                out[key] = s
+    return out
+
+
+def branches(n, store, gs):
+    now = [({(j, j): ONE for j in range(2**n)}, tuple(store))]
+    for g in gs:
+        after = []
+        for kraus, st in now:
+            for m, outcome in small(g):
+                t = st
+                if outcome is not None:
+                    t = st[:g[2]] + (outcome,) + st[g[2] + 1:]
+                after.append((left_multiply(n, qubits(g), m, kraus), t))
+        now = after
+    return now
+
+
+def store_order(n, store, gs):
+    """Stores in the order of their first surviving branches."""
+    order = []
+    for kraus, st in branches(n, store, gs):
+        if kraus and st not in order:
+            order.append(st)
+    return order
+
+
+# ---- words
+def cell(s):
+    return list(s)
+
+
+def channel_words(dim, bits, order, blocks, width):
+    """The words of records in this order; blocks maps a store to {(row, column): scalar}, of width rows."""
+    size = 3 + 5 * width * width
+    place = {s: 4 + j * size for j, s in enumerate(order)}
+    chain = sorted(order)
+    after = {s: place[t] for s, t in zip(chain, chain[1:])}
+    words = [dim, bits, len(order), place[chain[0]] if chain else 0]
+    for s in order:
+        low = sum(b << j for j, b in enumerate(s[:32]))
+        high = sum(b << j for j, b in enumerate(s[32:]))
+        record = [after.get(s, 0), low, high] + [0] * (5 * width * width)
+        for (r, c), v in blocks[s].items():
+            at = 3 + 5 * (r * width + c)
+            record[at:at + 5] = v
+        words += record
+    return words
+
+
+# ---- the checksum
+PRIME = 2**31 - 1
+BASES = (1103515245, 362437069)
+
+
+def checksum(words):
+    """Two polynomial sums mod 2^31 − 1, over the low 31 and the high bits of w + 2^61, as one number."""
+    sums = []
+    for base in BASES:
+        h = 0
+        for w in words:
+            v = w + 2**61
+            h = (h * base + v % 2**31) % PRIME
+            h = (h * base + v // 2**31) % PRIME
+        sums.append(h)
+    return sums[0] * 2**31 + sums[1]
+
+
+# ---- channels read from words
+def read_channel(words):
+    """(dim, bits, [(store, record start)] along the chain), or None where the words are malformed."""
+    if len(words) < 4:
+        return None
+    dim, bits, count, at = words[:4]
+    if dim not in (1, 2, 4, 8, 16) or not 0 <= bits <= 64:
+        return None
+    size = 3 + 5 * dim**4
+    if count < 0 or 4 + count * size > len(words):
+        return None
+    chain, seen, last = [], set(), None
+    for _ in range(count):
+        if at < 4 or (at - 4) % size or (at - 4) // size >= count or at in seen:
+            return None
+        seen.add(at)
+        low, high = words[at + 1], words[at + 2]
+        if not (0 <= low < 2**32 and 0 <= high < 2**32) or (low + (high << 32)) >> bits:
+            return None
+        store = tuple((low + (high << 32)) >> j & 1 for j in range(bits))
+        if last is not None and store <= last:
+            return None
+        if not all(well_formed(tuple(words[j:j + 5])) for j in range(at + 3, at + size, 5)):
+            return None
+        chain.append((store, at))
+        last, at = store, words[at]
+    return (dim, bits, chain) if at == 0 else None
+
+
+def block_at(words, dim, at):
+    """The entries of a record that are not 0."""
+    width = dim * dim
+    cells = ((j, tuple(words[at + 3 + 5 * j:at + 8 + 5 * j])) for j in range(width * width))
+    return {(j // width, j % width): s for j, s in cells if s != ZERO}
+
+
+def effects_fit(dim, block):
+    """Whether every partial sum of classical_blocks is in range."""
+    for r in range(dim):
+        for c in range(dim):
+            s = ZERO
+            for o in range(dim):
+                s = add(s, block.get((o * dim + r, o * dim + c), ZERO))
+                if not in_range(s):
+                    return False
+    return True

@@ -1,0 +1,173 @@
+"""Cases of compare, classical_blocks and the lookup on channels given by their words, sound and damaged.
+
+A line: the left and the right words, each as length, number of words that are not 0, place and value of these; compare: verdict, 0 same, 1 dimensions,
+2 an entry, the store's two words, row, column, both scalars; classical_blocks of the left: result length, verdict, checksum of the result
+(its words hold their place mod 997, plus 1, before the call); the lookup in the left: store length and bytes, length and checksum of the part;
+source 0 where compare's answer and the effects are the Rust's, 1 where document 01 refuses.
+"""
+import random
+import sys
+
+from ask import ask, blocks
+from circuits import text
+from rules import ONE, ZERO, block_at, channel_words, checksum, effects_fit, lowest, read_channel
+
+SEED = 4096
+TOP = 2**60
+
+
+def pattern(length):
+    return [i % 997 + 1 for i in range(length)]
+
+
+def scalar(rng):
+    size = rng.choice([1, 3, 100, TOP])
+    return lowest((*(rng.choice([0, rng.randint(-size, size), size, -size]) for _ in range(4)), rng.choice([0, 0, 1, 5, 60])))
+
+
+def random_block(rng, width):
+    if rng.random() < 0.1:
+        return {}
+    out = {}
+    for _ in range(rng.randint(1, 4)):
+        s = scalar(rng)
+        if s != ZERO and any(s[:4]):
+            out[rng.randrange(width), rng.randrange(width)] = s
+    if width > 1 and rng.random() < 0.4:  # traced entries
+        d = {4: 2, 16: 4}[width]
+        r, c = rng.randrange(d), rng.randrange(d)
+        for o in range(d):
+            out[o * d + r, o * d + c] = rng.choice([ONE, (TOP, 0, 0, 0, 0), (-TOP, 0, 0, 0, 0), (1, 0, 0, 0, 60), (1, 0, 0, 3, 1)])
+    return out
+
+
+def random_channel(rng):
+    dim = rng.choice([1, 1, 1, 2, 2, 4])
+    bits = rng.choice([0, 1, 2, 2, 3, 33, 64])
+    stores = list({tuple(rng.randrange(2) if j in (0, 1, bits - 1) else 0 for j in range(bits)) for _ in range(rng.randint(0, 4 if dim < 4 else 1))})
+    stores.sort()
+    rng.shuffle(stores)
+    by_store = {s: random_block(rng, dim * dim) for s in stores}
+    return channel_words(dim, bits, stores, by_store, dim * dim) + [rng.choice([0, 9])] * rng.choice([0, 0, 1, 5])
+
+
+def variant(rng, words):
+    """A channel that may differ from a sound one in an entry, a store, a block or the records' order."""
+    dim, bits, chain = read_channel(words)
+    by_store = {s: block_at(words, dim, at) for s, at in chain}
+    stores = [s for s, _ in chain]
+    kind = rng.randrange(5)
+    if kind == 0 and stores:
+        del by_store[stores.pop(rng.randrange(len(stores)))]
+    elif kind == 1 and stores:
+        s = rng.choice(stores)
+        by_store[s] = {**by_store[s], (rng.randrange(dim * dim), rng.randrange(dim * dim)): rng.choice([ONE, (3, 0, 0, 0, 1)])}
+    elif kind == 2 and stores:
+        by_store[stores[-1]] = {}
+    rng.shuffle(stores)
+    return channel_words(dim, bits, stores, by_store, dim * dim)
+
+
+def damage(rng, words):
+    """One or two words changed, or the end cut off."""
+    out = list(words)
+    size = 3 + 5 * words[0]**4
+    records = [4 + j * size for j in range(words[2])]
+    choices = ["header", "cut"] + ["chain", "store", "entry"] * (2 if records else 0)
+    kind = rng.choice(choices)
+    if kind == "header":
+        at = rng.randrange(4)
+        out[at] = rng.choice([0, 1, 2, 3, 4, 5, 8, 16, 32, 64, 65, -1, size, 4 + size, 2**62, out[at] + 1, out[at] - 1])
+    elif kind == "cut":
+        out = out[:rng.choice([0, 1, 3, 4, len(out) - 1, max(0, len(out) - size)])]
+    elif kind == "chain":
+        at = rng.choice([3] + records)
+        out[at] = rng.choice([0, 3, 4, 5, -1, 4 + size, 4 + 2 * size, 2**40, *records])
+    elif kind == "store":
+        at = rng.choice(records) + rng.choice([1, 2])
+        out[at] = rng.choice([-1, 0, 1, 2, 4, 2**31, 2**32 - 1, 2**32, out[at] ^ 1])
+    else:
+        at = rng.choice(records) + 3 + 5 * rng.randrange(words[0]**4)
+        out[at:at + 5] = rng.choice([(TOP + 1, 0, 0, 0, 0), (0, 0, 0, -TOP - 1, 0), (2, 0, 0, 0, 1), (1, 0, 0, 0, 61), (1, 0, 0, 0, -1), (0, 0, 0, 0, 1), (TOP, 1, 0, 0, 60)])
+    return out
+
+
+def for_rust(words):
+    dim, bits, chain = read_channel(words)
+    out = [dim, bits, len(chain)]
+    for store, at in chain:
+        block = block_at(words, dim, at)
+        out += [*store, len(block), *(x for (r, c), s in block.items() for x in (r, c, *s))]
+    return text(out)
+
+
+def lookup(rng, words):
+    """A store to look for, and the part that is handed back."""
+    sound = read_channel(words)
+    if sound is None:
+        bits = rng.choice([0, 1, 2])
+        return [rng.randrange(2) for _ in range(bits)], []
+    dim, bits, chain = sound
+    store = list(rng.choice(chain)[0]) if chain and rng.random() < 0.7 else [rng.randrange(2) for _ in range(bits)]
+    if rng.random() < 0.15:
+        store = rng.choice([store + [0], store[:-1], [2] + store[1:], [255] * len(store)])
+    for s, at in chain:
+        if list(s) == store:
+            return store, words[at + 3:at + 3 + 5 * dim**4]
+    return store, []
+
+
+def sparse(words):
+    marks = [(i, w) for i, w in enumerate(words) if w]
+    return [len(words), len(marks), *(x for m in marks for x in m)]
+
+
+def main():
+    rng = random.Random(SEED)
+    todo = []
+    for j in range(320):
+        left = random_channel(rng)
+        right = variant(rng, left) if rng.random() < 0.75 else random_channel(rng)
+        if j % 2:
+            left, right = rng.choice([(damage(rng, left), right), (left, damage(rng, right)), (damage(rng, left), damage(rng, right))])
+        todo.append((left, right))
+    sound = [read_channel(a) is not None and read_channel(b) is not None for a, b in todo]
+    compared = ask([f"cmpw {for_rust(a)} {for_rust(b)}" if ok else "unit 0 0" for ok, (a, b) in zip(sound, todo)])
+    traced = ask([f"effw {for_rust(a)}" if read_channel(a) is not None else "unit 0 0" for a, _ in todo])
+    lines, verdicts, effect_verdicts = [], {}, {}
+    for ok, (left, right), answer, effect in zip(sound, todo, compared, traced):
+        verdict, kind, place = (0 if ok else 10), 0, [0] * 14
+        if ok:
+            words = answer[0].split()
+            kind = ["same", "dimensions", "entry"].index(words[0])
+            if kind == 2:
+                bits = [] if words[1] == "-" else [int(b) for b in words[1]]
+                place = [*(sum(b << j for j, b in enumerate(half)) for half in (bits[:32], bits[32:])), *map(int, words[2:])]
+        channel = read_channel(left)
+        if channel is None:
+            length = rng.choice([0, 4, 40])
+            effects = [length, 10, checksum(pattern(length))]
+        else:
+            dim, bits, chain = channel
+            by_place = sorted(chain, key=lambda x: x[1])
+            want = 4 + len(chain) * (3 + 5 * dim * dim)
+            length = want + rng.choice([0, 0, 0, 2, -1])
+            after = []
+            if length < want:
+                number = 8
+            elif not all(effects_fit(dim, block_at(left, dim, at)) for _, at in chain):
+                number = 9
+            else:
+                number = 0
+                after = channel_words(dim, bits, [s for s, _ in by_place], blocks(effect)[2], dim)
+            effects = [length, number, checksum(after + pattern(length)[len(after):])]
+        store, part = lookup(rng, left)
+        verdicts[verdict, kind] = verdicts.get((verdict, kind), 0) + 1
+        effect_verdicts[effects[1]] = effect_verdicts.get(effects[1], 0) + 1
+        of_rust = ok and effects[1] == 0
+        lines.append(text([*sparse(left), *sparse(right), verdict, kind, *place, *effects, len(store), *store, len(part), checksum(part), 0 if of_rust else 1]))
+    print(len(lines), *lines, sep="\n")
+    print(f"seed {SEED}: {len(lines)} cases, compare {dict(sorted(verdicts.items()))}, classical_blocks {dict(sorted(effect_verdicts.items()))}", file=sys.stderr)
+
+
+main()
