@@ -1,6 +1,6 @@
 """Pairs of circuits whose channels are compared, by the Rust.
 
-A line: the left and the right circuit, each as n, bits, the store, gate word count and words; then the answer: 0 same, 1 dimensions, 2 an entry;
+A line: the left and the right circuit, each as n, bits, the store, gate word count and words; then the answer: verdict 0; 0 same, 1 dimensions, 2 an entry;
 the store's two words, row, column, the left and the right scalar (0 unless an entry differs); source 0.
 """
 import random
@@ -120,7 +120,7 @@ def main():
             bits = [] if words[1] == "-" else [int(b) for b in words[1]]
             low, high = (sum(b << j for j, b in enumerate(half)) for half in (bits[:32], bits[32:]))
             place = [low, high, *map(int, words[2:])]
-        lines.append(text([*numbers(p[0]), *numbers(p[1]), kind, *place, 0]))
+        lines.append(text([*numbers(p[0]), *numbers(p[1]), 0, kind, *place, 0]))
     print(len(lines), *lines, sep="\n")
     print(f"seed {SEED}: {len(lines)} pairs by the Rust: {kinds[0]} same, {kinds[1]} of other dimensions, {kinds[2]} that differ in an entry", file=sys.stderr)
 

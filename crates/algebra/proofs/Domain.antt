@@ -134,9 +134,9 @@ even-square n m e = go (n / 2) (n % 2) (omega arith) (omega arith)
 irrational : (m n : ℕ) → n * n ≡ 2 * (m * m) → m ≡ 0
 irrational = bin-ind (λ (m : ℕ). (n : ℕ) → n * n ≡ 2 * (m * m) → m ≡ 0) (λ n e. refl)
     (λ m ih n e.
-      let p = even-square n (m * m) e in
-      let q = even-square m (n / 2 * (n / 2)) (p .1) in
-      omega (arith, q .0, ih (n / 2) (q .1)))
+    let p = even-square n (m * m) e in
+    let q = even-square m (n / 2 * (n / 2)) (p .1) in
+    omega (arith, q .0, ih (n / 2) (q .1)))
 
 root2 : NoRoot ℤR (pos 2) ℤ-domain
 root2 p q e = abs-none q (irrational (natAbs q) (natAbs p) (sym (abs-mul p p) ∙ ap natAbs e ∙ abs-mul (pos 2) (q *ℤ q) ∙ ap (λ (n : ℕ). 2 * n) (abs-mul q q)))

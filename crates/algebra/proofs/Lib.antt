@@ -20,3 +20,4 @@ pub mod Perm
 pub mod Schedule
 pub mod Blocks
 pub mod Signed
+pub mod Bits

@@ -2,9 +2,11 @@
 use mathlib.Core.Path.{_≡_, refl, sym, ap, ap₂, _∙_}
 use mathlib.Core.Bool.{Bool, true, false, cond, _&&_, _||_, true≢false}
 use mathlib.Core.List.{List, [], _∷_, _++_, map}
-use Prim.Native.Nat.{ℕ, zero, suc, _*_, _≤_, _<_}
+use Prim.Native.Nat.{ℕ, zero, suc, _+_, _*_, _≤_, _<_}
+use native.Mathlib.Nat.{not-suc-le-zero, suc-mul}
 use native.Mathlib.Omega.{arith}
-use lib.ListN.{length, getD, length-append}
+use lib.ListN.{length, getD, length-append, List·getD-append}
+use lib.Seq.{getD-append-add}
 use Rattle.algebra.specs.Lists.{All, every, some, filterBy, concatMap}
 use Rattle.algebra.proofs.Tests.{and-split}
 
@@ -128,3 +130,18 @@ module _ {A B : Type 0} where
   pub concat-length : (f : A → List B) (k : ℕ) → ((a : A) → length (f a) ≡ k) → (xs : List A) → length (concatMap f xs) ≡ length xs * k
   concat-length f k h [] = omega arith
   concat-length f k h (x ∷ xs) = length-append (f x) (concatMap f xs) ∙ omega (arith, h x, concat-length f k h xs)
+
+  -- element k of the list of element j
+  pub concat-at : (f : A → List B) (s : ℕ) → ((a : A) → length (f a) ≡ s) → (xs : List A) (z : A) (y : B) (j k : ℕ) → j < length xs → k < s
+      → getD (concatMap f xs) (j * s + k) y ≡ getD (f (getD xs j z)) k y
+  concat-at f s e [] z y j k h l = absurd (not-suc-le-zero h)
+  concat-at f s e (x ∷ xs) z y zero k h l =
+      ap (λ (w : ℕ). getD (f x ++ concatMap f xs) w y) place ∙ List·getD-append (f x) (concatMap f xs) y k (omega (arith, e x))
+    where
+      place : 0 * s + k ≡ k
+      place = omega arith
+  concat-at f s e (x ∷ xs) z y (suc j) k h l =
+      ap (λ (w : ℕ). getD (f x ++ concatMap f xs) w y) place ∙ getD-append-add (f x) (concatMap f xs) (j * s + k) y ∙ concat-at f s e xs z y j k (omega arith) l
+    where
+      place : suc j * s + k ≡ length (f x) + (j * s + k)
+      place = omega (arith, suc-mul j s, e x)

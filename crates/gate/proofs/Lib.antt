@@ -6,3 +6,7 @@ pub mod Embed
 pub mod Isometry
 pub mod Complete
 pub mod Listed
+pub mod Masked
+pub mod Columns
+pub mod Kind
+pub mod Dispatch

@@ -2,3 +2,4 @@ pub mod Gate
 pub mod Operators
 pub mod Embed
 pub mod Verdict
+pub mod Entries

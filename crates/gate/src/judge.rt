@@ -9,7 +9,33 @@ ghost use Rattle.gate.specs.Gate.{gateAt, arity, elem, bits, formed, pla
 ghost use Rattle.gate.specs.Verdict.{gateOf, firstFault, onQubits, gateVerdict, unitaryVerdict, faultOf};
 
 const ARITIES: [u32; 27] = [
-    1, 1, 1, 1, 1, 1, 1, 1, 2, 2, 3, 3, 1, 1, 1, 1, 1, 1, 1, 2, 2, 2, 2, 2, 2, 2, 3,
+    1,
+    1,
+    1,
+    1,
+    1,
+    1,
+    1,
+    1,
+    2,
+    2,
+    3,
+    3,
+    1,
+    1,
+    1,
+    1,
+    1,
+    1,
+    1,
+    2,
+    2,
+    2,
+    2,
+    2,
+    2,
+    2,
+    3,
 ];
 
 // The five words of a gate.
@@ -124,7 +150,8 @@ impl GateWords {
     {
         let kind = self.kind;
         let angle = (kind == 14)
-            | ((kind == 17) | ((kind == 18) | ((kind == 21) | ((kind == 22) | ((kind == 23) | (kind == 24))))));
+            | ((kind == 17)
+                | ((kind == 18) | ((kind == 21) | ((kind == 22) | ((kind == 23) | (kind == 24))))));
         let none = (kind == 7) & (self.k == 8);
         !angle & !none
     }
@@ -141,7 +168,11 @@ impl GateWords {
         ensures { λ r. ⌜ r ≡ weight (gateOf self) ⌝ }
     {
         let kind = self.kind;
-        if (kind == 0) | ((kind == 16) | (kind == 25)) { 1 } else { 0 }
+        if (kind == 0) | ((kind == 16) | (kind == 25)) {
+            1
+        } else {
+            0
+        }
     }
 
     // A measure and a reset split each branch in two.

@@ -27,7 +27,7 @@ by-kind true y ps qs us p q u = p
 by-kind false true ps qs us p q u = q
 by-kind false false ps qs us p q u = u
 
-operators-length : (g : Gate) → length (operators g) ≡ 2 ^ splits g
+pub operators-length : (g : Gate) → length (operators g) ≡ 2 ^ splits g
 operators-length g = by-kind (eqb (g .kind) measure) (eqb (g .kind) reset) _ _ _ refl refl refl
 
 run-length : (n : ℕ) (gs : List Gate) (bs : List Branch) → length (foldl (step n) bs gs) ≡ length bs * 2 ^ total splits gs
@@ -221,9 +221,14 @@ marks-tally zero gs = refl
 marks-tally (suc n) gs = ap (λ (x : ℕ). x + cond (written gs n) 1 0) (marks-tally n gs)
 
 module _ (n : ℕ) (σ : Store) (gs : List Gate) (given : All (λ (v : ℕ). v < 2) σ) where
+  branches-fit : All (Fits (written gs) n σ) (branches n σ gs)
+  branches-fit = fit-run (written gs) n σ gs (all-written gs gs (λ i e. e)) (start n σ) (fit-start (written gs) σ given, tt)
+
+  pub branches-bits : All (λ (b : Branch). Word (length σ) (b .store)) (branches n σ gs)
+  branches-bits = all-imp (Fits (written gs) n σ) _ (branches n σ gs) (λ b f. fit-bits (written gs) σ (b .store) f given) branches-fit
+
   stores-fit : All (Fit (written gs) σ) (stores (survivors (branches n σ gs)))
-  stores-fit = stores-all (Fit (written gs) σ) (survivors (branches n σ gs)) (filter-all (Fits (written gs) n σ) alive (branches n σ gs)
-      (fit-run (written gs) n σ gs (all-written gs gs (λ i e. e)) (start n σ) (fit-start (written gs) σ given, tt)))
+  stores-fit = stores-all (Fit (written gs) σ) (survivors (branches n σ gs)) (filter-all (Fits (written gs) n σ) alive (branches n σ gs) branches-fit)
 
   -- each store has as many bits as the initial one
   pub stores-bits : All (Word (length σ)) (stores (survivors (branches n σ gs)))

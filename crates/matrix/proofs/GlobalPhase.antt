@@ -1,29 +1,26 @@
 -- Equality up to a global phase is what it says: y = u·x for some number u of modulus 1, whichever entry is the pivot.
 use mathlib.Core.Path.{_≡_, refl, sym, ap, ap₂, _∙_, subst}
-use mathlib.Core.Bool.{Bool, true, false, not, cond, _&&_}
+use mathlib.Core.Bool.{Bool, true, false, cond, _&&_}
 use mathlib.Core.Logic.{_≢_, _↔_, _⊎_, inl, inr, ⊎-elim}
 use mathlib.Core.List.{List}
 use Prim.Native.Nat.{ℕ, zero, suc, _+_, _*_, _-_, _<_, _≤_}
-use native.Mathlib.Nat.{le-refl}
 use native.Mathlib.Numerals.{add-one}
-use native.Mathlib.Decide.{decLt, ℕ-discrete}
+use native.Mathlib.Decide.{ℕ-discrete}
 use native.Mathlib.Omega.{arith}
 use lib.Dec.{T, eqb}
-use lib.IntN.{ℤ, pos, natAbs}
+use lib.IntN.{ℤ}
 use borrow.Author.Tests.{eqb-true, eq-eqb}
 use Rattle.algebra.specs.Ops.{Ops}
 use Rattle.algebra.specs.Quadratic.{Pair, pair, conjugate}
-use Rattle.algebra.specs.Dyadic.{Frac, frac}
-use Rattle.algebra.specs.Lists.{allBelow}
+use Rattle.algebra.specs.Dyadic.{frac}
 use Rattle.algebra.specs.Words.{eqℤ}
-use Rattle.algebra.proofs.Tests.{and-split, all-at, all-by, all-no, test-same}
-use Rattle.algebra.proofs.Semi.{Semi, zero-mul, mul-four, mul-left}
-use Rattle.algebra.proofs.Ring.{semi}
+use Rattle.algebra.proofs.Tests.{and-split, all-at, all-by, test-same}
+use Rattle.algebra.proofs.Semi.{Semi, mul-four, mul-left}
 use Rattle.algebra.proofs.Quadratic.{ℤ√2i}
 use Rattle.algebra.proofs.Dyadic.{low-zero}
 use Rattle.algebra.proofs.Domain.{ℤ√2i-domain, zero-fraction, cancel-fraction}
-use Rattle.algebra.proofs.Signed.{abs-zero, eqℤ-true, eqℤ-refl}
-use Rattle.scalar.specs.Exact.{Exact, exact, Number, number, numbers, root2, conj, lowest, isLowest}
+use Rattle.algebra.proofs.Signed.{eqℤ-true, eqℤ-refl}
+use Rattle.scalar.specs.Exact.{Exact, exact, Number, numbers, root2, conj, lowest}
 use Rattle.scalar.specs.Cells.{isZero}
 use Rattle.scalar.proofs.Cell.{zero-is}
 use Rattle.scalar.proofs.Exact.{exacts, exactHalving, conj-by, conj-conj, is-lowest, mul-lowest}
@@ -31,7 +28,7 @@ use Rattle.scalar.specs.declared.Verdict.the-variants.{TooLarge, Malformed}
 use Rattle.matrix.specs.declared.Phase.the-variants.{Equivalent, Different}
 use Rattle.matrix.specs.declared.PhaseAnswer.{PhaseAnswer}
 use Rattle.matrix.proofs.Terms.{zero-by}
-use Rattle.matrix.specs.Phase.{_·_, samePair, same, zeroMatrix, inPhaseAt, firstNot, pivot, inPhase, answered, refusedPhase, entryOf, wellFormedMatrix, narrowMatrix, phaseAnswer, GlobalPhase, Meaning}
+use Rattle.matrix.specs.Phase.{_·_, samePair, same, zeroMatrix, equalModulus, equalRatios, inPhaseAt, firstNot, pivot, inPhase, answered, refusedPhase, entryOf, wellFormedMatrix, narrowMatrix, phaseAnswer, GlobalPhase, Meaning}
 
 -- ---- with x·b = y·a and p·b = q·a
 module _ (𝓡 : Semi) (bar : 𝓡 .R → 𝓡 .R) (bar-mul : (x y : 𝓡 .R) → bar (𝓡 .ops ._⊗_ x y) ≡ 𝓡 .ops ._⊗_ (bar x) (bar y)) where
@@ -86,7 +83,7 @@ modulus-by a h = not-both (isZero ((a · conj a) .num)) (λ z. none (sym (is-low
 module _ (n : ℕ) (x y : ℕ → Exact) where
   pub at-phase : (i : ℕ) → isZero (x i .num) ≡ false → inPhaseAt n x y i ≡ true → GlobalPhase n x y
   at-phase i h e =
-      let p = and-split (same (x i · conj (x i)) (y i · conj (y i))) (allBelow n (λ (j : ℕ). same (x j · y i) (y j · x i))) e in
+      let p = and-split (equalModulus (x i) (y i)) (equalRatios n x y (x i) (y i)) e in
       record {
         a = x i;
         b = y i;
@@ -99,12 +96,12 @@ module _ (n : ℕ) (x y : ℕ → Exact) where
   phase-at g i l =
       let a = g .a in
       let b = g .b in
-      let m : same (x i · conj (x i)) (y i · conj (y i)) ≡ true =
-          same-of (x i · conj (x i)) (y i · conj (y i))
-          (cancel-by (a · conj a) (x i) (conj (x i)) (y i) (conj (y i)) (modulus-by a (g .nonzero)) (moduli exacts conj conj-by (x i) (y i) a b (g .ratio i l) (g .modulus))) in
-      let r : allBelow n (λ (j : ℕ). same (x j · y i) (y j · x i)) ≡ true =
-          all-by n (λ (j : ℕ). same (x j · y i) (y j · x i))
-          (λ j k. same-of (x j · y i) (y j · x i) (cancel-by a (x j) (y i) (y j) (x i) (g .nonzero) (cross exacts conj conj-by (x j) (y j) (x i) (y i) a b (g .ratio j k) (g .ratio i l)))) in
+      let m : equalModulus (x i) (y i) ≡ true =
+      same-of (x i · conj (x i)) (y i · conj (y i))
+      (cancel-by (a · conj a) (x i) (conj (x i)) (y i) (conj (y i)) (modulus-by a (g .nonzero)) (moduli exacts conj conj-by (x i) (y i) a b (g .ratio i l) (g .modulus))) in
+      let r : equalRatios n x y (x i) (y i) ≡ true =
+      all-by n (λ (j : ℕ). same (x j · y i) (y j · x i))
+      (λ j k. same-of (x j · y i) (y j · x i) (cancel-by a (x j) (y i) (y j) (x i) (g .nonzero) (cross exacts conj conj-by (x j) (y j) (x i) (y i) a b (g .ratio j k) (g .ratio i l)))) in
       (λ t. m t && r t)
 
   pub zero-phase : zeroMatrix n x ≡ true → GlobalPhase n x y → zeroMatrix n y ≡ true
@@ -222,6 +219,6 @@ meaning = record {
       let a = asked d l m f g h k in
       let p = phase-is (d * d) (entryOf l) (entryOf m) in
       (λ e. p .0 (answered-true (inPhase (d * d) (entryOf l) (entryOf m)) (sym a ∙ e)), λ e. a ∙ ap answered (p .1 e));
-  zero = λ n x y z. (zero-phase n x y z, phase-zero n x y z);
+  zeroOnly = λ n x y z. (zero-phase n x y z, phase-zero n x y z);
   anyPivot = λ n x y i l h. test-same (inPhaseAt n x y i) (inPhase n x y) (λ e. phase-is n x y .1 (at-phase n x y i h e)) (λ e. phase-at n x y (phase-is n x y .0 e) i l);
 }

@@ -1,29 +1,27 @@
 -- The operands of the rule: conjugates and products of them, and the tests as code makes them.
 use mathlib.Core.Path.{_≡_, refl, ap, _∙_}
-use mathlib.Core.Bool.{Bool, true, false, cond, _&&_, _||_}
+use mathlib.Core.Bool.{Bool, true, false, _&&_, _||_}
 use mathlib.Core.List.{List}
 use Prim.Native.Nat.{ℕ, _*_, _≤_, _<_, _^_}
-use native.Mathlib.Omega.{arith}
 use lib.Dec.{eqb, leb}
 use lib.ListN.{length}
 use lib.IntN.{ℤ, natAbs}
 use lib.Signed.{mag}
 use mir.Syntax.{w64}
 use mir.Val.{ofZ}
-use Rattle.algebra.specs.Ops.{Ops}
 use Rattle.algebra.specs.Lists.{allBelow}
 use Rattle.algebra.specs.Words.{eqℤ}
 use Rattle.algebra.proofs.Tests.{and-split, all-at}
 use Rattle.algebra.proofs.Parts.{abs-neg}
 use Rattle.algebra.proofs.Signed.{eq-words}
-use Rattle.scalar.specs.declared.Scalar.{Scalar}
 use Rattle.scalar.specs.declared.Answer.{Answer}
-use Rattle.scalar.specs.Exact.{Exact, Number, numbers, root2, conj, within, maxNumerator, maxExponent, narrowNumerator, narrowExponent, wellFormed, narrow, inRange, isLowest}
+use Rattle.scalar.specs.Exact.{Exact, conj, within, maxNumerator, maxExponent, narrowNumerator, narrowExponent, wellFormed, narrow}
 use Rattle.scalar.specs.Calls.{value, scalarOf, mulAnswer, conjAnswer}
 use Rattle.scalar.specs.Cells.{exponentAt, wellFormedAt}
 use Rattle.scalar.proofs.Exact.{conj-form}
 use Rattle.scalar.proofs.Questions.{asked-yes, mul-yes}
-use Rattle.matrix.specs.Phase.{_·_, entryOf, Operand, Operands}
+use Rattle.matrix.specs.Phase.{_·_, entryOf}
+use Rattle.matrix.specs.Operands.{Operand, Operands}
 
 -- ---- a conjugate is an operand where the number is
 conj-within : (m : ℕ) (x : Exact) → within m (conj x .num) ≡ within m (x .num)

@@ -14,7 +14,8 @@ use Rattle.algebra.proofs.Tests.{and-split}
 use Rattle.scalar.specs.declared.Verdict.the-variants.{TooLarge, Malformed}
 use Rattle.scalar.specs.Cells.{wellFormedAt}
 use Rattle.matrix.specs.declared.PhaseAnswer.{PhaseAnswer}
-use Rattle.matrix.specs.Phase.{isDim, entryOf, wellFormedMatrix, narrowMatrix, inPhase, answered, refusedPhase, phaseAnswer, Operands}
+use Rattle.matrix.specs.Phase.{isDim, entryOf, wellFormedMatrix, narrowMatrix, inPhase, answered, refusedPhase, phaseAnswer}
+use Rattle.matrix.specs.Operands.{Operands}
 use Rattle.matrix.proofs.Operands.{operands}
 
 -- ---- the dims

@@ -1,32 +1,28 @@
 -- One row of a product while it is summed: after k terms its words are those of the partial sums.
 use mathlib.Core.Path.{_≡_, refl, sym, ap, _∙_, subst, subst₂}
-use mathlib.Core.Bool.{Bool, true}
+use mathlib.Core.Bool.{true}
 use mathlib.Core.List.{List, [], _∷_}
 use Prim.Native.Nat.{ℕ, _+_, _*_, _/_, _%_, _≤_, _<_}
 use native.Mathlib.Nat.{le-refl, zero-mul}
 use native.Mathlib.Numerals.{add-one}
 use native.Mathlib.Omega.{arith}
 use lib.Arith.{digits-lt, digits-div, digits-mod}
-use lib.Dec.{leb}
 use lib.ListN.{length}
 use lib.Seq.{sets}
 use lib.IntN.{ℤ, pos}
 use borrow.Author.Tests.{le-leb}
-use Rattle.algebra.specs.Ops.{Ops}
-use Rattle.algebra.specs.Dyadic.{Frac}
-use Rattle.algebra.specs.Sum.{sum}
 use Rattle.algebra.specs.Words.{blocks, fillWords, joined, Apart}
-use Rattle.algebra.proofs.Blocks.{Writing, begin, wrote, long, kept, Same, part, cut, narrow, block-in, blocks-joined, blocks-same, blocks-over, blocks-more, joined-rows}
+use Rattle.algebra.proofs.Blocks.{Writing, begin, wrote, long, kept, Same, cut, narrow, block-in, blocks-joined, blocks-same, blocks-over, blocks-more, joined-rows}
 use Rattle.scalar.specs.Exact.{Exact, exact, isLowest, maxExponent}
 use Rattle.scalar.specs.Cells.{cellAt, cellWords, exponentAt, zeroAt, fill}
 use Rattle.scalar.specs.Inner.{Coords, Room}
 use Rattle.scalar.proofs.Cell.{cell-same, zero-same, cell-filled, exponent-filled}
 use Rattle.matrix.specs.Matrix.{cell}
-use Rattle.matrix.specs.Factors.{Factor, partial, productRow, Factors, Places, Addable, added}
+use Rattle.matrix.specs.Factors.{Factor, partial, productRow, Places, Addable, added}
 use Rattle.matrix.proofs.Terms.{zero-left, sum-lowest, factor-same, row-same, places-same}
 
 -- zero words are zero numbers
-zero-cells : (l : List ℤ) (at n : ℕ) → fillWords l at (n * 5) (λ (i : ℕ). pos 0) ≡ fill l at n (λ (i : ℕ). exact .𝟘)
+pub zero-cells : (l : List ℤ) (at n : ℕ) → fillWords l at (n * 5) (λ (i : ℕ). pos 0) ≡ fill l at n (λ (i : ℕ). exact .𝟘)
 unfolding joined
 zero-cells l at n =
     blocks-joined 1 (λ (i : ℕ). pos 0 ∷ []) (λ i. refl) l at (n * 5)

@@ -1,15 +1,12 @@
 -- Sums of products of numbers that lie in words: zero factors, lowest forms, rows and columns of a place, and what is read from the same words.
-use mathlib.Core.Path.{_≡_, refl, sym, ap, ap₂, _∙_, subst, subst₂}
+use mathlib.Core.Path.{_≡_, refl, sym, ap, _∙_, subst, subst₂}
 use mathlib.Core.Bool.{true}
 use mathlib.Core.List.{List}
 use Prim.Native.Nat.{ℕ, zero, suc, _+_, _*_, _/_, _%_, _≤_, _<_}
 use native.Mathlib.Nat.{le-refl, mod-lt, div-lt-iff-lt-mul}
-use native.Mathlib.Numerals.{add-one}
 use native.Mathlib.Omega.{arith}
 use lib.Arith.{digits-lt}
 use lib.IntN.{ℤ}
-use Rattle.algebra.specs.Ops.{Ops}
-use Rattle.algebra.specs.Dyadic.{Frac}
 use Rattle.algebra.specs.Sum.{sum}
 use Rattle.algebra.proofs.Semi.{zero-mul}
 use Rattle.algebra.proofs.Ring.{semi}
@@ -18,12 +15,12 @@ use Rattle.algebra.proofs.Quadratic.{ℤ√2i}
 use Rattle.algebra.proofs.Dyadic.{low-zero}
 use Rattle.algebra.proofs.Blocks.{Same, cut, block-in}
 use Rattle.scalar.specs.Exact.{Exact, exact, Number, numbers, lowest, isLowest}
-use Rattle.scalar.specs.Cells.{isZero, cellAt}
+use Rattle.scalar.specs.Cells.{isZero}
 use Rattle.scalar.specs.Inner.{Coords, Room}
 use Rattle.scalar.proofs.Exact.{exacts, exactHalving, plus-zero, add-lowest}
 use Rattle.scalar.proofs.Cell.{zero-is, cell-same, exponent-same}
 use Rattle.matrix.specs.Matrix.{cell}
-use Rattle.matrix.specs.Factors.{Factor, partial, productRow, Factors, Places}
+use Rattle.matrix.specs.Factors.{Factor, partial, productRow, Places}
 
 -- ---- a zero factor
 pub zero-by : (x y : Exact) → isZero (x .num) ≡ true → exact ._⊗_ x y ≡ exact .𝟘

@@ -5,10 +5,8 @@ use mathlib.Core.List.{List}
 use Prim.Native.Nat.{ℕ, _+_, _*_, _<_, _≤_}
 use lib.ListN.{length}
 use lib.IntN.{ℤ}
-use Rattle.algebra.specs.Dyadic.{Frac}
 use Rattle.algebra.specs.Sum.{sum, times}
 use Rattle.algebra.specs.Words.{Apart}
-use Rattle.algebra.specs.Ops.{Ops}
 use Rattle.scalar.specs.Exact.{Exact, exact, isLowest}
 use Rattle.scalar.specs.Cells.{cellAt, exponentAt}
 use Rattle.scalar.specs.Inner.{Coords, Room}

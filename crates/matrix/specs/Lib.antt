@@ -1,3 +1,4 @@
 pub mod Matrix
 pub mod Factors
 pub mod Phase
+pub mod Operands

@@ -1,26 +1,24 @@
 -- Equality of two matrices up to a global phase: the answer, and what it means.
 use mathlib.Core.Path.{_≡_}
-use mathlib.Core.Bool.{Bool, true, false, cond, not, _&&_}
+use mathlib.Core.Bool.{Bool, true, false, cond, _&&_}
 use mathlib.Core.List.{List, [], _∷_}
 use mathlib.Core.Logic.{_↔_}
-use Prim.Native.Nat.{ℕ, zero, suc, _+_, _*_, _<_, _≤_}
+use Prim.Native.Nat.{ℕ, zero, suc, _*_, _<_}
 use lib.Dec.{eqb}
 use lib.ListN.{length}
 use lib.IntN.{ℤ}
-use Rattle.algebra.specs.Ops.{Ops}
 use Rattle.algebra.specs.Quadratic.{Pair}
-use Rattle.algebra.specs.Dyadic.{Frac}
 use Rattle.algebra.specs.Lists.{allBelow, some}
 use Rattle.algebra.specs.Words.{eqℤ}
 use Rattle.scalar.specs.declared.Verdict.{Verdict}
 use Rattle.scalar.specs.declared.Verdict.the-variants.{Accepted, TooLarge, Malformed}
-use Rattle.scalar.specs.Exact.{Exact, exact, conj, wellFormed, narrow}
-use Rattle.scalar.specs.Cells.{cellSize, cellAt, exponentAt, wellFormedAt, isZero}
-use Rattle.matrix.specs.declared.Phase.{Phase}
+use Rattle.scalar.specs.Exact.{Exact, exact, conj, narrow}
+use Rattle.scalar.specs.Cells.{cellSize, cellAt, wellFormedAt, isZero}
 use Rattle.matrix.specs.declared.Phase.the-variants.{Equivalent, Different}
 use Rattle.matrix.specs.declared.PhaseAnswer.{PhaseAnswer}
 
 -- ---- the questions
+-- a matrix of no to five qubits
 abbrev pub isDim : ℕ → Bool
 isDim d = some (eqb d) (1 ∷ 2 ∷ 4 ∷ 8 ∷ 16 ∷ 32 ∷ [])
 
@@ -28,6 +26,7 @@ isDim d = some (eqb d) (1 ∷ 2 ∷ 4 ∷ 8 ∷ 16 ∷ 32 ∷ [])
 abbrev pub entryOf : List ℤ → ℕ → Exact
 entryOf l i = cellAt l (i * cellSize)
 
+-- exactly d² entries, each in range and in lowest form
 abbrev pub wellFormedMatrix : ℕ → List ℤ → Bool
 wellFormedMatrix d l = isDim d && (eqb (length l) (d * d * cellSize) && allBelow (d * d) (λ (i : ℕ). wellFormedAt l (i * cellSize)))
 
@@ -39,7 +38,7 @@ infixl 70 _·_
 abbrev pub _·_ : Exact → Exact → Exact
 _·_ = exact ._⊗_
 
--- one number: lowest forms are unique
+-- equal numbers have equal words, since lowest forms are unique
 abbrev pub samePair : {A : Type 0} → (A → A → Bool) → Pair A → Pair A → Bool
 samePair eq x y = eq (x .re) (y .re) && eq (x .im) (y .im)
 
@@ -49,9 +48,17 @@ same x y = samePair (samePair eqℤ) (x .num) (y .num) && eqb (x .exp) (y .exp)
 abbrev pub zeroMatrix : ℕ → (ℕ → Exact) → Bool
 zeroMatrix n x = allBelow n (λ (i : ℕ). isZero (x i .num))
 
--- with the pivot i: |x i| = |y i|, and each pair is in the ratio of x i to y i
+-- |a| = |b|
+abbrev pub equalModulus : Exact → Exact → Bool
+equalModulus a b = same (a · conj a) (b · conj b)
+
+-- each pair is in the ratio of a to b
+abbrev pub equalRatios : ℕ → (ℕ → Exact) → (ℕ → Exact) → Exact → Exact → Bool
+equalRatios n x y a b = allBelow n (λ (j : ℕ). same (x j · b) (y j · a))
+
+-- with entry i as the pivot
 abbrev pub inPhaseAt : ℕ → (ℕ → Exact) → (ℕ → Exact) → ℕ → Bool
-inPhaseAt n x y i = same (x i · conj (x i)) (y i · conj (y i)) && allBelow n (λ (j : ℕ). same (x j · y i) (y j · x i))
+inPhaseAt n x y i = equalModulus (x i) (y i) && equalRatios n x y (x i) (y i)
 
 -- the first of k numbers from i on at which p fails, or the one after them
 unfoldable pub firstNot : ℕ → ℕ → (ℕ → Bool) → ℕ
@@ -62,27 +69,19 @@ firstNot (suc k) i p = cond (p i) (firstNot k (suc i) p) i
 abbrev pub pivot : ℕ → (ℕ → Exact) → ℕ
 pivot n x = firstNot n 0 (λ (i : ℕ). isZero (x i .num))
 
+-- a zero matrix is equivalent to a zero matrix only
 abbrev pub inPhase : ℕ → (ℕ → Exact) → (ℕ → Exact) → Bool
 inPhase n x y = cond (zeroMatrix n x) (zeroMatrix n y) (inPhaseAt n x y (pivot n x))
-
--- what the products of the rule ask of their factors
-pub record Operand (x : Exact) : Type 0 where
-  pub form : wellFormed x ≡ true
-  pub small : narrow x ≡ true
-
--- n such entries
-pub record Operands (l : List ℤ) (n : ℕ) : Type 0 where
-  pub room : n * cellSize ≤ length l
-  pub exponent : (i : ℕ) → i < n → exponentAt l (i * cellSize) ≡ true
-  pub operand : (i : ℕ) → i < n → Operand (entryOf l i)
 
 -- ---- the answer
 abbrev pub answered : Bool → PhaseAnswer
 answered b = record { phase = cond b Equivalent Different; verdict = Accepted }
 
+-- a refusal says "different"
 abbrev pub refusedPhase : Verdict → PhaseAnswer
 refusedPhase v = record { phase = Different; verdict = v }
 
+-- 10, then the dims, then 9, then the rule
 abbrev pub phaseAnswer : ℕ → List ℤ → ℕ → List ℤ → PhaseAnswer
 phaseAnswer d l e m =
     cond (wellFormedMatrix d l && wellFormedMatrix e m)
@@ -91,7 +90,7 @@ phaseAnswer d l e m =
     (answered false))
     (refusedPhase Malformed)
 
--- ---- what it means: y = u·x for a number u = b/a of modulus 1
+-- ---- what it means: y = u·x, where u = b/a is a number of modulus 1
 pub record GlobalPhase (n : ℕ) (x y : ℕ → Exact) : Type 0 where
   pub a : Exact
   pub b : Exact
@@ -104,6 +103,6 @@ pub record Meaning : Type 0 where
   pub exactly : (d : ℕ) (l m : List ℤ) → wellFormedMatrix d l ≡ true → wellFormedMatrix d m ≡ true → narrowMatrix d l ≡ true → narrowMatrix d m ≡ true
       → (phaseAnswer d l d m ≡ answered true) ↔ GlobalPhase (d * d) (entryOf l) (entryOf m)
   -- a zero matrix has a phase to a zero matrix alone
-  pub zero : (n : ℕ) (x y : ℕ → Exact) → zeroMatrix n x ≡ true → GlobalPhase n x y ↔ (zeroMatrix n y ≡ true)
+  pub zeroOnly : (n : ℕ) (x y : ℕ → Exact) → zeroMatrix n x ≡ true → GlobalPhase n x y ↔ (zeroMatrix n y ≡ true)
   -- any nonzero entry serves as the pivot
   pub anyPivot : (n : ℕ) (x y : ℕ → Exact) (i : ℕ) → i < n → isZero (x i .num) ≡ false → inPhaseAt n x y i ≡ inPhase n x y

@@ -1,6 +1,5 @@
+use super::Phase;
 use super::PhaseAnswer;
-use super::answered;
-use super::refused_phase;
 use super::words::is_zero;
 use scalar::Scalar;
 use scalar::Verdict;
@@ -8,14 +7,15 @@ use scalar::cells::read_cell;
 use scalar::cells::well_formed_at;
 use scalar::cells::zero_at;
 ghost use mathlib.Core.Path.{_≡_};
-ghost use mathlib.Core.Bool.{Bool, true};
-ghost use Prim.Native.Nat.{ℕ, _+_, _*_, _<_, _≤_};
+ghost use mathlib.Core.Bool.{true};
+ghost use Prim.Native.Nat.{ℕ, _*_, _<_, _≤_};
 ghost use lib.ListN.{length};
 ghost use Rattle.algebra.specs.Lists.{allBelow};
 ghost use Rattle.scalar.specs.Exact.{conj, narrow};
 ghost use Rattle.scalar.specs.Calls.{value, scalarOf};
 ghost use Rattle.scalar.specs.Cells.{wellFormedAt};
-ghost use Rattle.matrix.specs.Phase.{_·_, same, isDim, entryOf, wellFormedMatrix, pivot, inPhaseAt, inPhase, phaseAnswer, Operand, Operands};
+ghost use Rattle.matrix.specs.Phase.{_·_, same, isDim, entryOf, wellFormedMatrix, equalRatios, pivot, inPhaseAt, inPhase, answered, refusedPhase, phaseAnswer};
+ghost use Rattle.matrix.specs.Operands.{Operand, Operands};
 
 // ---- the questions
 fn is_dim(d: usize) -> bool
@@ -39,7 +39,7 @@ fn all_well_formed(s: &[i64], n: usize) -> bool
 }
 
 // Whether the words are a matrix of d rows and columns, every entry in range and in lowest form.
-pub fn is_matrix(d: usize, s: &[i64]) -> bool
+fn is_matrix(d: usize, s: &[i64]) -> bool
     ensures { λ r. ⌜ r ≡ wellFormedMatrix d (now (s .entry)) ⌝ }
 {
     if !is_dim(d) {
@@ -96,7 +96,7 @@ fn squared_modulus(x: Scalar) -> Scalar
 // Whether each pair is in the ratio of a to b.
 fn ratios_same(left: &[i64], right: &[i64], n: usize, a: Scalar, b: Scalar) -> bool
     requires { ⌜ (Operands (now left) n × Operands (now right) n) × (Operand (value a) × Operand (value b)) ⌝ }
-    ensures { λ r. ⌜ r ≡ allBelow n (λ (j : ℕ). same (entryOf (now (left .entry)) j · value b) (entryOf (now (right .entry)) j · value a)) ⌝ }
+    ensures { λ r. ⌜ r ≡ equalRatios n (entryOf (now (left .entry))) (entryOf (now (right .entry))) (value a) (value b) ⌝ }
 {
     let mut j = 0;
     while j < n {
@@ -150,6 +150,30 @@ fn in_phase(left: &[i64], right: &[i64], n: usize) -> bool
         in_phase_at(left, right, n, i)
     } else {
         is_zero(right, 0, n)
+    }
+}
+
+// ---- the answer
+fn answered(b: bool) -> PhaseAnswer
+    ensures { λ r. ⌜ r ≡ answered b ⌝ }
+{
+    let phase = if b {
+        Phase::Equivalent
+    } else {
+        Phase::Different
+    };
+    PhaseAnswer {
+        phase,
+        verdict: Verdict::Accepted,
+    }
+}
+
+fn refused_phase(v: Verdict) -> PhaseAnswer
+    ensures { λ r. ⌜ r ≡ refusedPhase v ⌝ }
+{
+    PhaseAnswer {
+        phase: Phase::Different,
+        verdict: v,
     }
 }
 

@@ -5,11 +5,9 @@ use scalar::cells::write_cell;
 use scalar::cells::zero_at;
 use scalar::numerators::fma;
 ghost use mathlib.Core.Path.{_≡_};
-ghost use mathlib.Core.Bool.{Bool, true};
+ghost use mathlib.Core.Bool.{true};
 ghost use Prim.Native.Nat.{ℕ, _+_, _*_, _<_, _≤_};
 ghost use lib.ListN.{length};
-ghost use Rattle.algebra.specs.Ops.{Ops};
-ghost use Rattle.algebra.specs.Dyadic.{Frac};
 ghost use Rattle.algebra.specs.Sum.{δ};
 ghost use Rattle.scalar.specs.Exact.{exact, isLowest};
 ghost use Rattle.scalar.specs.Calls.{value, scalarOf};
@@ -50,7 +48,7 @@ pub fn identity_into(buf: &mut [i64], at: usize, d: usize)
 }
 
 // acc plus x times the number at q; a zero is passed over.
-pub fn add_term(buf: &[i64], acc: Scalar, x: Scalar, q: usize) -> Scalar
+fn add_term(buf: &[i64], acc: Scalar, x: Scalar, q: usize) -> Scalar
     requires { ⌜ (isLowest (value acc) ≡ true) × (Room (x .e + cellAt (now buf) q .exp) (value acc) × (Coords 1 28 (value x) × Factor (now buf) q)) ⌝ }
     ensures { λ v. ⌜ value v ≡ exact ._⊕_ (value acc) (exact ._⊗_ (value x) (cellAt (now (buf .entry)) q)) ⌝ }
 {
@@ -62,7 +60,7 @@ pub fn add_term(buf: &[i64], acc: Scalar, x: Scalar, q: usize) -> Scalar
 }
 
 // Add x times the d numbers from `from` on to the d numbers from `to` on.
-pub fn add_row(buf: &mut [i64], x: Scalar, from: usize, to: usize, d: usize)
+fn add_row(buf: &mut [i64], x: Scalar, from: usize, to: usize, d: usize)
     requires { ⌜ Addable (now buf) (value x) from to d ⌝ }
     ensures { λ _. ⌜ now (buf .exit) ≡ fill (now (buf .entry)) to d (added (now (buf .entry)) (value x) from to) ⌝ }
 {
@@ -78,7 +76,7 @@ pub fn add_row(buf: &mut [i64], x: Scalar, from: usize, to: usize, d: usize)
 }
 
 // Sum row r of the product of the matrices at g and h into the matrix at `out`, where the row is zero; a zero of the left row is passed over.
-pub fn sum_row(buf: &mut [i64], g: usize, h: usize, out: usize, d: usize, r: usize)
+fn sum_row(buf: &mut [i64], g: usize, h: usize, out: usize, d: usize, r: usize)
     requires { ⌜ (r < d) × (Places (now buf) g h out d × (now buf ≡ fill (now buf) (out + r * d * 5) d (λ (c : ℕ). exact .𝟘))) ⌝ }
     ensures { λ _. ⌜ now (buf .exit) ≡ fill (now (buf .entry)) (out + r * d * 5) d (productRow (now (buf .entry)) g h d r) ⌝ }
 {
@@ -96,7 +94,7 @@ pub fn sum_row(buf: &mut [i64], g: usize, h: usize, out: usize, d: usize, r: usi
 }
 
 // Write row r of the product of the matrices at g and h into the matrix at `out`.
-pub fn row_into(buf: &mut [i64], g: usize, h: usize, out: usize, d: usize, r: usize)
+fn row_into(buf: &mut [i64], g: usize, h: usize, out: usize, d: usize, r: usize)
     requires { ⌜ (r < d) × Places (now buf) g h out d ⌝ }
     ensures { λ _. ⌜ now (buf .exit) ≡ fill (now (buf .entry)) (out + r * d * 5) d (productRow (now (buf .entry)) g h d r) ⌝ }
 {

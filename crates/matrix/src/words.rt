@@ -2,7 +2,7 @@ use scalar::cells::zero_at;
 ghost use mathlib.Core.Path.{_≡_};
 ghost use Prim.Native.Nat.{ℕ, _+_, _*_, _≤_};
 ghost use lib.ListN.{length, getD};
-ghost use lib.IntN.{ℤ, pos};
+ghost use lib.IntN.{pos};
 ghost use Rattle.algebra.specs.Words.{fillWords, Apart};
 ghost use Rattle.matrix.specs.Matrix.{zeros};
 

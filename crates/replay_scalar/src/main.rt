@@ -1,36 +1,15 @@
 // Replays recorded answers of the scalar calls. A case is 18 numbers: call, two operands, verdict, value, source.
+use replay::scalars::low;
+use replay::scalars::number;
+use replay::scalars::read_scalar;
+use replay::scalars::same;
 use replay::tally::Outcome;
 use replay::tally::Tally;
+use replay::text::read;
 use scalar::Answer;
 use scalar::Scalar;
-use scalar::Verdict;
 
-// A scalar of the text, and where the next number begins.
-struct Read {
-    value: Scalar,
-    next: usize,
-}
-
-// The low 32 bits.
-fn low(size: u64) -> u32 {
-    (size % 4294967296) as u32
-}
-
-fn read_scalar(text: &[u8], at: usize) -> Read {
-    let n0 = replay::text::read(text, at);
-    let n1 = replay::text::read(text, n0.next);
-    let n2 = replay::text::read(text, n1.next);
-    let n3 = replay::text::read(text, n2.next);
-    let e = replay::text::read(text, n3.next);
-    Read {
-        value: Scalar {
-            n: [n0.value, n1.value, n2.value, n3.value],
-            e: low(e.size),
-        },
-        next: e.next,
-    }
-}
-
+// The call of this number; `first` is the size of x's first number.
 fn answer(call: u64, first: u64, x: Scalar, y: Scalar) -> Answer {
     match call {
         0 => Scalar::integer(x.n[0]),
@@ -46,41 +25,26 @@ fn answer(call: u64, first: u64, x: Scalar, y: Scalar) -> Answer {
     }
 }
 
-// Document 01's number.
-fn number(v: Verdict) -> i64 {
-    match v {
-        Verdict::Accepted => 0,
-        Verdict::TooLarge => 9,
-        Verdict::Malformed => 10,
-    }
-}
-
-fn same(x: Scalar, y: Scalar) -> bool {
-    let a = x.n;
-    let b = y.n;
-    (a[0] == b[0]) & (a[1] == b[1]) & (a[2] == b[2]) & (a[3] == b[3]) & (x.e == y.e)
-}
-
 fn case(text: &[u8], at: usize) -> Outcome {
-    let call = replay::text::read(text, at);
-    let first = replay::text::read(text, call.next);
+    let call = read(text, at);
+    let first = read(text, call.next);
     let x = read_scalar(text, call.next);
     let y = read_scalar(text, x.next);
-    let verdict = replay::text::read(text, y.next);
+    let verdict = read(text, y.next);
     let value = read_scalar(text, verdict.next);
-    let source = replay::text::read(text, value.next);
+    let source = read(text, value.next);
     let r = answer(call.size, first.size, x.value, y.value);
     let v = r.verdict;
     Outcome {
-        agrees: (number(v) == verdict.value) & same(r.value, value.value),
-        of_rust: source.value == 0,
+        agrees: (number(v) == verdict.size) & same(r.value, value.value),
+        of_rust: source.size == 0,
         next: source.next,
     }
 }
 
 // As many cases as the first number says.
 fn run(text: &[u8]) -> Tally {
-    let count = replay::text::read(text, 0);
+    let count = read(text, 0);
     let mut at = count.next;
     let mut left = count.size;
     let mut tally = Tally::empty();

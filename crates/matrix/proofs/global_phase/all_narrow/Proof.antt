@@ -1,3 +1,4 @@
+-- `matrix::global_phase::all_narrow` meets its contract.
 use borrow.Author.Needs.{needs}
 use mathlib.Core.Path.{_≡_, refl, sym, ap, _∙_}
 use mathlib.Core.Bool.{true}
@@ -13,10 +14,6 @@ use Rattle.scalar.specs.Cells.{exponentAt}
 use Rattle.matrix.specs.Phase.{entryOf}
 use Rattle.matrix.proofs.global_phase.all_narrow.Statement.{statement}
 use Rattle.matrix.proofs.global_phase.all_narrow.Tie as tie
-use Rattle.matrix.proofs.global_phase.all_narrow.Reads as reads
-use Rattle.matrix.proofs.global_phase.all_narrow.Lts as lts
-use Rattle.scalar.proofs.Scalar.is_narrow.Reads as is-narrow-reads
-use Rattle.scalar.proofs.cells.read_cell.Reads as read-cell-reads
 
 abbrev Inv-loop : tie.InvT-loop
 Inv-loop s n i₀ i = (i ≤ n) × (allBelow i (λ (k : ℕ). narrow (entryOf s k)) ≡ true)
@@ -24,53 +21,44 @@ Inv-loop s n i₀ i = (i ≤ n) × (allBelow i (λ (k : ℕ). narrow (entryOf s 
 abbrev μ-loop : tie.MeasureT-loop
 μ-loop s n i₀ i = n - i
 
--- src/global_phase.rt:59:5
 loop-holds : tie.Need-loop-holds Inv-loop μ-loop
 loop-holds c = (omega arith, refl)
 
 narrow-is : (c : tie.After-is-narrow Inv-loop μ-loop) → c .is-narrow .result ≡ narrow (entryOf (c .before .before .before .before .args .s .now) (c .before .before .before .loop .i))
 narrow-is c = c .is-narrow .ensures ∙ ap (λ (v : Scalar). narrow (value v)) (c .before .read-cell .ensures)
 
--- src/global_phase.rt:60:30
 mul-read-cell : tie.Need-mul-read-cell Inv-loop μ-loop
 mul-read-cell c = omega arith
 
--- src/global_phase.rt:60:13
 read-cell-requires : tie.Need-read-cell-requires Inv-loop μ-loop
-read-cell-requires c κs = 
+read-cell-requires c κs =
     let s = c .before .before in
     let i = c .before .loop .i in
     (omega arith, and-split (exponentAt (s .args .s .now) (i * 5)) (wellFormed (entryOf (s .args .s .now) i)) (all-at (s .args .n) _ (s .pre .1) i (c .loop-test .taken)) .0)
 
--- src/global_phase.rt:61:13
 is-narrow-requires : tie.Need-is-narrow-requires Inv-loop μ-loop
 is-narrow-requires c κs = search needs
 
--- src/global_phase.rt:62:13
 returns : tie.Need-returns Inv-loop μ-loop
-returns c = 
+returns c =
     let a = c .before .before in
     let l = a .before .before in
     sym (all-no (l .before .args .n) (l .loop .i) _ (a .before .loop-test .taken) (sym (narrow-is (c .before)) ∙ not-true _ (c .if1 .taken)))
 
--- src/global_phase.rt:64:9
 add-i : tie.Need-add-i Inv-loop μ-loop
 add-i c = omega arith
 
--- src/global_phase.rt:59:5
 loop-less : tie.Need-loop-less Inv-loop μ-loop
 loop-less c = omega arith
 
--- src/global_phase.rt:59:5
 loop-again : tie.Need-loop-again Inv-loop μ-loop
-loop-again c = 
+loop-again c =
     let a = c .before .before in
     let l = a .before .before in
     (omega arith, all-step (l .loop .i) _ (l .loop .inv .1) (sym (narrow-is (c .before)) ∙ not-false _ (c .if1 .left)))
 
--- src/global_phase.rt:54:1
 returns-2 : tie.Need-returns-2 Inv-loop μ-loop
-returns-2 c = 
+returns-2 c =
     let l = c .before in
     let e : l .loop .i ≡ l .before .args .n = omega arith in
     sym (ap (λ (n : ℕ). allBelow n (λ (k : ℕ). narrow (entryOf (l .before .args .s .now) k))) (sym e) ∙ l .loop .inv .1)

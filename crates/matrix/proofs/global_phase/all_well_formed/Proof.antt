@@ -1,3 +1,4 @@
+-- `matrix::global_phase::all_well_formed` meets its contract.
 use mathlib.Core.Path.{_≡_, refl, sym, ap, _∙_}
 use mathlib.Core.Bool.{true}
 use Prim.Native.Nat.{ℕ, _*_, _-_, _≤_}
@@ -8,9 +9,6 @@ use Rattle.algebra.proofs.Tests.{all-step, all-no}
 use Rattle.scalar.specs.Cells.{wellFormedAt}
 use Rattle.matrix.proofs.global_phase.all_well_formed.Statement.{statement}
 use Rattle.matrix.proofs.global_phase.all_well_formed.Tie as tie
-use Rattle.matrix.proofs.global_phase.all_well_formed.Reads as reads
-use Rattle.matrix.proofs.global_phase.all_well_formed.Lts as lts
-use Rattle.scalar.proofs.cells.well_formed_at.Reads as well-formed-at-reads
 
 abbrev Inv-loop : tie.InvT-loop
 Inv-loop s n i₀ i = (i ≤ n) × (allBelow i (λ (k : ℕ). wellFormedAt s (k * 5)) ≡ true)
@@ -18,43 +16,35 @@ Inv-loop s n i₀ i = (i ≤ n) × (allBelow i (λ (k : ℕ). wellFormedAt s (k 
 abbrev μ-loop : tie.MeasureT-loop
 μ-loop s n i₀ i = n - i
 
--- src/global_phase.rt:32:5
 loop-holds : tie.Need-loop-holds Inv-loop μ-loop
 loop-holds c = (omega arith, refl)
 
--- src/global_phase.rt:33:31
 mul-well-formed-at : tie.Need-mul-well-formed-at Inv-loop μ-loop
 mul-well-formed-at c = omega arith
 
--- src/global_phase.rt:33:13
 well-formed-at-requires : tie.Need-well-formed-at-requires Inv-loop μ-loop
 well-formed-at-requires c κs = omega arith
 
--- src/global_phase.rt:34:13
 returns : tie.Need-returns Inv-loop μ-loop
-returns c = 
+returns c =
     let a = c .before in
     let l = a .before .before in
     sym (all-no (l .before .args .n) (l .loop .i) _ (a .before .loop-test .taken) (sym (a .well-formed-at .ensures) ∙ not-true _ (c .if1 .taken)))
 
--- src/global_phase.rt:36:9
 add-i : tie.Need-add-i Inv-loop μ-loop
 add-i c = omega arith
 
--- src/global_phase.rt:32:5
 loop-less : tie.Need-loop-less Inv-loop μ-loop
 loop-less c = omega arith
 
--- src/global_phase.rt:32:5
 loop-again : tie.Need-loop-again Inv-loop μ-loop
-loop-again c = 
+loop-again c =
     let a = c .before in
     let l = a .before .before in
     (omega arith, all-step (l .loop .i) _ (l .loop .inv .1) (sym (a .well-formed-at .ensures) ∙ not-false _ (c .if1 .left)))
 
--- src/global_phase.rt:27:1
 returns-2 : tie.Need-returns-2 Inv-loop μ-loop
-returns-2 c = 
+returns-2 c =
     let l = c .before in
     let e : l .loop .i ≡ l .before .args .n = omega arith in
     sym (ap (λ (n : ℕ). allBelow n (λ (k : ℕ). wellFormedAt (l .before .args .s .now) (k * 5))) (sym e) ∙ l .loop .inv .1)

@@ -1,6 +1,7 @@
-use mathlib.Core.Path.{_≡_, refl, sym, ap, _∙_, subst}
+-- `matrix::global_phase::equivalent_up_to_global_phase` meets its contract.
+use mathlib.Core.Path.{_≡_, refl, sym, ap, _∙_}
 use mathlib.Core.Bool.{Bool, true, _&&_}
-use Prim.Native.Nat.{ℕ, _*_}
+use Prim.Native.Nat.{ℕ}
 use native.Mathlib.Omega.{arith}
 use borrow.Author.Tests.{not-true, not-false, eq-eqb, ne-eqb}
 use Rattle.algebra.proofs.Tests.{and-split}
@@ -9,13 +10,6 @@ use Rattle.matrix.proofs.Questions.{square-small, Formed, formed, forme
 use borrow.Author.Needs.{needs}
 use Rattle.matrix.proofs.global_phase.equivalent_up_to_global_phase.Statement.{statement}
 use Rattle.matrix.proofs.global_phase.equivalent_up_to_global_phase.Tie as tie
-use Rattle.matrix.proofs.global_phase.equivalent_up_to_global_phase.Reads as reads
-use Rattle.matrix.proofs.global_phase.equivalent_up_to_global_phase.Lts as lts
-use Rattle.matrix.proofs.answered.Reads as answered-reads
-use Rattle.matrix.proofs.global_phase.all_narrow.Reads as all-narrow-reads
-use Rattle.matrix.proofs.global_phase.in_phase.Reads as in-phase-reads
-use Rattle.matrix.proofs.global_phase.is_matrix.Reads as is-matrix-reads
-use Rattle.matrix.proofs.refused_phase.Reads as refused-phase-reads
 
 -- the questions of the left matrix, and of the right one at a dim
 module _ (s : tie.Start) where
@@ -63,72 +57,58 @@ narrow-is w = λ i. w .before .all-narrow .ensures i && w .all-narrow2 .ensures 
 narrow-both : (t : tie.Else3) → (leftNarrow (start (t .before .before .before)) ≡ true) × (rightNarrow (start (t .before .before .before)) ≡ true)
 narrow-both t = let s = start (t .before .before .before) in and-split (leftNarrow s) (rightNarrow s) (sym (narrow-is (t .before)) ∙ not-false _ (t .if3 .left))
 
--- src/global_phase.rt:165:18
 is-matrix-requires : tie.Need-is-matrix-requires
 is-matrix-requires c κs = search needs
 
--- src/global_phase.rt:165:46
 is-matrix-requires-2 : tie.Need-is-matrix-requires-2
 is-matrix-requires-2 c κs = search needs
 
--- src/global_phase.rt:167:9
 refused-phase-requires : tie.Need-refused-phase-requires
 refused-phase-requires c κs = search needs
 
--- src/global_phase.rt:167:9
 returns : tie.Need-returns
-returns c = 
+returns c =
     let t = c .before .before in
     let s = t .before .before .args in
     c .refused-phase .ensures ∙ sym (replied (s .left-dim) (s .left .now) (s .right-dim) (s .right .now) (sym (both-is t) ∙ not-true _ (c .before .if1 .taken)) refl refl)
 
--- src/global_phase.rt:170:9
 answered-requires : tie.Need-answered-requires
 answered-requires c κs = search needs
 
--- src/global_phase.rt:170:9
 returns-2 : tie.Need-returns-2
-returns-2 c = 
+returns-2 c =
     let t = c .before in
     let s = t .before .before .before .before .args in
     c .answered .ensures ∙ sym (replied (s .left-dim) (s .left .now) (s .right-dim) (s .right .now) (passed (t .before)) (ne-eqb (s .left-dim) (s .right-dim) (t .if2 .taken)) refl)
 
--- src/global_phase.rt:172:13
 mul-n : tie.Need-mul-n
 mul-n c = let s = c .before .before .before .before .args in omega (arith, square-small (s .left-dim) (left-formed c .dim))
 
--- src/global_phase.rt:173:18
 all-narrow-requires : tie.Need-all-narrow-requires
 all-narrow-requires c κs = (omega (arith, left-formed c .long), left-formed c .entries)
 
--- src/global_phase.rt:173:40
 all-narrow-requires-2 : tie.Need-all-narrow-requires-2
 all-narrow-requires-2 c κs = (omega (arith, right-formed (c .before) .long), right-formed (c .before) .entries)
 
--- src/global_phase.rt:175:9
 refused-phase-requires-2 : tie.Need-refused-phase-requires-2
 refused-phase-requires-2 c κs = search needs
 
--- src/global_phase.rt:175:9
 returns-3 : tie.Need-returns-3
-returns-3 c = 
+returns-3 c =
     let w = c .before .before in
     let e = w .before .before in
     let s = e .before .before .before .before .args in
     c .refused-phase2 .ensures ∙ sym (ap (λ (k : ℕ). phaseAnswer (s .left-dim) (s .left .now) k (s .right .now)) (sym (e .if2 .left))
     ∙ replied (s .left-dim) (s .left .now) (s .left-dim) (s .right .now) (passed-same e) (eq-eqb (s .left-dim) (s .left-dim) refl) (sym (narrow-is w) ∙ not-true _ (c .before .if3 .taken)))
 
--- src/global_phase.rt:177:14
 in-phase-requires : tie.Need-in-phase-requires
 in-phase-requires c κs = let w = c .before in let p = narrow-both c in (formed-operands (left-formed (w .before .before)) (p .0), formed-operands (right-formed (w .before .before)) (p .1))
 
--- src/global_phase.rt:177:5
 answered-requires-2 : tie.Need-answered-requires-2
 answered-requires-2 c κs = search needs
 
--- src/global_phase.rt:157:1
 returns-4 : tie.Need-returns-4
-returns-4 c = 
+returns-4 c =
     let i = c .before in
     let t = i .before in
     let e = t .before .before .before in

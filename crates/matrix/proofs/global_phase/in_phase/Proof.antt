@@ -1,3 +1,4 @@
+-- `matrix::global_phase::in_phase` meets its contract.
 use mathlib.Core.Path.{sym, ap, _∙_, subst}
 use Prim.Native.Nat.{ℕ, _*_, _≤_, _<_}
 use native.Mathlib.Nat.{zero-add}
@@ -6,39 +7,28 @@ use Rattle.algebra.specs.Lists.{allBelow}
 use Rattle.scalar.specs.Cells.{zeroAt}
 use Rattle.matrix.specs.Phase.{entryOf, inPhaseAt}
 use Rattle.matrix.proofs.GlobalPhase.{phase-pivot, phase-none}
-use borrow.Author.Needs.{needs}
 use Rattle.matrix.proofs.global_phase.in_phase.Statement.{statement}
 use Rattle.matrix.proofs.global_phase.in_phase.Tie as tie
-use Rattle.matrix.proofs.global_phase.in_phase.Reads as reads
-use Rattle.matrix.proofs.global_phase.in_phase.Lts as lts
-use Rattle.matrix.proofs.global_phase.first_nonzero.Reads as first-nonzero-reads
-use Rattle.matrix.proofs.global_phase.in_phase_at.Reads as in-phase-at-reads
-use Rattle.matrix.proofs.words.is_zero.Reads as is-zero-reads
 
--- src/global_phase.rt:148:9
 first-nonzero-requires : tie.Need-first-nonzero-requires
 first-nonzero-requires c κs = c .pre .0 .room
 
--- src/global_phase.rt:150:9
 in-phase-at-requires : tie.Need-in-phase-at-requires
 in-phase-at-requires c κs = (c .if1 .taken, c .before .before .pre)
 
--- src/global_phase.rt:152:9
 is-zero-requires : tie.Need-is-zero-requires
 is-zero-requires c κs = let s = c .before .before in omega (arith, s .pre .1 .room)
 
--- src/global_phase.rt:144:1
 returns : tie.Need-returns
-returns c = 
+returns c =
     let i = c .before .before in
     let s = i .before .args in
     let x = entryOf (s .left .now) in
     let y = entryOf (s .right .now) in
     c .in-phase-at .ensures ∙ ap (inPhaseAt (s .n) x y) (i .first-nonzero .ensures) ∙ sym (phase-pivot (s .n) x y (subst (λ (k : ℕ). k < s .n) (i .first-nonzero .ensures) (c .before .if1 .taken)))
 
--- src/global_phase.rt:144:1
 returns-2 : tie.Need-returns-2
-returns-2 c = 
+returns-2 c =
     let i = c .before .before in
     let s = i .before .args in
     c .is-zero .ensures ∙ (λ t. allBelow (s .n) (λ (k : ℕ). zeroAt (s .right .now) (zero-add (k * 5) t)))

@@ -1,29 +1,24 @@
+-- `matrix::global_phase::ratios_same` meets its contract.
 use borrow.Author.Needs.{needs}
 use mathlib.Core.Path.{_≡_, refl, sym, ap, _∙_, subst}
 use mathlib.Core.Bool.{true}
-use Prim.Native.Nat.{ℕ, _*_, _-_, _≤_}
+use Prim.Native.Nat.{ℕ, _-_, _≤_}
 use native.Mathlib.Omega.{arith}
 use borrow.Author.Tests.{not-true, not-false}
-use Rattle.algebra.specs.Lists.{allBelow}
 use Rattle.algebra.proofs.Tests.{all-step, all-no}
 use Rattle.scalar.specs.declared.Scalar.{Scalar}
 use Rattle.scalar.specs.Calls.{value}
-use Rattle.matrix.specs.Phase.{_·_, same, entryOf, Operand}
+use Rattle.matrix.specs.Phase.{_·_, same, equalRatios, entryOf}
+use Rattle.matrix.specs.Operands.{Operand}
 use Rattle.matrix.proofs.global_phase.ratios_same.Statement.{statement}
 use Rattle.matrix.proofs.global_phase.ratios_same.Tie as tie
-use Rattle.matrix.proofs.global_phase.ratios_same.Reads as reads
-use Rattle.matrix.proofs.global_phase.ratios_same.Lts as lts
-use Rattle.matrix.proofs.global_phase.same_scalar.Reads as same-scalar-reads
-use Rattle.matrix.proofs.global_phase.times.Reads as times-reads
-use Rattle.scalar.proofs.cells.read_cell.Reads as read-cell-reads
 
 abbrev Inv-loop : tie.InvT-loop
-Inv-loop left right n a b j₀ j = (j ≤ n) × (allBelow j (λ (k : ℕ). same (entryOf left k · value b) (entryOf right k · value a)) ≡ true)
+Inv-loop left right n a b j₀ j = (j ≤ n) × (equalRatios j (entryOf left) (entryOf right) (value a) (value b) ≡ true)
 
 abbrev μ-loop : tie.MeasureT-loop
 μ-loop left right n a b j₀ j = n - j
 
--- src/global_phase.rt:102:5
 loop-holds : tie.Need-loop-holds Inv-loop μ-loop
 loop-holds c = (omega arith, refl)
 
@@ -42,75 +37,63 @@ same-is c =
     ∙ (λ i. same (value (p .times .ensures i)) (value (q .times2 .ensures i)))
     ∙ (λ i. same (value (x .read-cell .ensures i) · value (s .b)) (value (y .read-cell2 .ensures i) · value (s .a)))
 
--- src/global_phase.rt:103:33
 mul-read-cell : tie.Need-mul-read-cell Inv-loop μ-loop
 mul-read-cell c = let s = c .before .before in omega (arith, s .pre .0 .0 .room)
 
--- src/global_phase.rt:103:13
 read-cell-requires : tie.Need-read-cell-requires Inv-loop μ-loop
-read-cell-requires c κs = 
+read-cell-requires c κs =
     let s = c .before .before in
     (omega (arith, s .pre .0 .0 .room), s .pre .0 .0 .exponent (c .before .loop .j) (c .loop-test .taken))
 
--- src/global_phase.rt:104:34
 mul-read-cell-2 : tie.Need-mul-read-cell-2 Inv-loop μ-loop
 mul-read-cell-2 c = let s = c .before .before .before in omega (arith, s .pre .0 .0 .room)
 
--- src/global_phase.rt:104:13
 read-cell-requires-2 : tie.Need-read-cell-requires-2 Inv-loop μ-loop
-read-cell-requires-2 c κs = 
+read-cell-requires-2 c κs =
     let t = c .before in
     let s = t .before .before in
     (omega (arith, s .pre .0 .1 .room), s .pre .0 .1 .exponent (t .before .loop .j) (t .loop-test .taken))
 
--- src/global_phase.rt:105:13
 times-requires : tie.Need-times-requires Inv-loop μ-loop
-times-requires c κs = 
+times-requires c κs =
     let r = c .before in
     let t = r .before in
     let s = t .before .before in
     (subst (λ (v : Scalar). Operand (value v)) (sym (r .read-cell .ensures)) (s .pre .0 .0 .operand (t .before .loop .j) (t .loop-test .taken)), s .pre .1 .1)
 
--- src/global_phase.rt:106:13
 times-requires-2 : tie.Need-times-requires-2 Inv-loop μ-loop
-times-requires-2 c κs = 
+times-requires-2 c κs =
     let y = c .before in
     let t = y .before .before in
     let s = t .before .before in
     (subst (λ (v : Scalar). Operand (value v)) (sym (y .read-cell2 .ensures)) (s .pre .0 .1 .operand (t .before .loop .j) (t .loop-test .taken)), s .pre .1 .0)
 
--- src/global_phase.rt:107:13
 same-scalar-requires : tie.Need-same-scalar-requires Inv-loop μ-loop
 same-scalar-requires c κs = search needs
 
--- src/global_phase.rt:108:13
 returns : tie.Need-returns Inv-loop μ-loop
-returns c = 
+returns c =
     let t = c .before .before .before .before .before .before in
     let l = t .before in
     sym (all-no (l .before .args .n) (l .loop .j) _ (t .loop-test .taken) (sym (same-is (c .before)) ∙ not-true _ (c .if1 .taken)))
 
--- src/global_phase.rt:110:9
 add-j : tie.Need-add-j Inv-loop μ-loop
 add-j c = omega arith
 
--- src/global_phase.rt:102:5
 loop-less : tie.Need-loop-less Inv-loop μ-loop
 loop-less c = omega arith
 
--- src/global_phase.rt:102:5
 loop-again : tie.Need-loop-again Inv-loop μ-loop
-loop-again c = 
+loop-again c =
     let l = c .before .before .before .before .before .before .before in
     (omega arith, all-step (l .loop .j) _ (l .loop .inv .1) (sym (same-is (c .before)) ∙ not-false _ (c .if1 .left)))
 
--- src/global_phase.rt:97:1
 returns-2 : tie.Need-returns-2 Inv-loop μ-loop
-returns-2 c = 
+returns-2 c =
     let l = c .before in
     let s = l .before .args in
     let e : l .loop .j ≡ s .n = omega arith in
-    sym (ap (λ (n : ℕ). allBelow n (λ (k : ℕ). same (entryOf (s .left .now) k · value (s .b)) (entryOf (s .right .now) k · value (s .a)))) (sym e) ∙ l .loop .inv .1)
+    sym (ap (λ (n : ℕ). equalRatios n (entryOf (s .left .now)) (entryOf (s .right .now)) (value (s .a)) (value (s .b))) (sym e) ∙ l .loop .inv .1)
 
 pub ratios-same-spec : {M : Type 1} → statement M
 ratios-same-spec =

@@ -1,3 +1,4 @@
+-- `matrix::global_phase::same_scalar` meets its contract.
 use mathlib.Core.Bool.{_&&_}
 use lib.Dec.{eqb}
 use Rattle.scalar.specs.Calls.{numberOf}
@@ -5,44 +6,33 @@ use Rattle.matrix.proofs.Operands.{eq-word}
 use borrow.Author.Needs.{needs}
 use Rattle.matrix.proofs.global_phase.same_scalar.Statement.{statement}
 use Rattle.matrix.proofs.global_phase.same_scalar.Tie as tie
-use Rattle.matrix.proofs.global_phase.same_scalar.Reads as reads
-use Rattle.matrix.proofs.global_phase.same_scalar.Lts as lts
 
--- src/global_phase.rt:75:8
 array-copy-out-result : tie.Need-array-copy-out-result
 array-copy-out-result c = search needs
 
--- src/global_phase.rt:75:16
 array-copy-out-result-2 : tie.Need-array-copy-out-result-2
 array-copy-out-result-2 c = search needs
 
--- src/global_phase.rt:75:25
 array-copy-out-result-3 : tie.Need-array-copy-out-result-3
 array-copy-out-result-3 c = search needs
 
--- src/global_phase.rt:75:33
 array-copy-out-result-4 : tie.Need-array-copy-out-result-4
 array-copy-out-result-4 c = search needs
 
--- src/global_phase.rt:75:44
 array-copy-out-result-5 : tie.Need-array-copy-out-result-5
 array-copy-out-result-5 c = search needs
 
--- src/global_phase.rt:75:52
 array-copy-out-result-6 : tie.Need-array-copy-out-result-6
 array-copy-out-result-6 c = search needs
 
--- src/global_phase.rt:75:61
 array-copy-out-result-7 : tie.Need-array-copy-out-result-7
 array-copy-out-result-7 c = search needs
 
--- src/global_phase.rt:75:69
 array-copy-out-result-8 : tie.Need-array-copy-out-result-8
 array-copy-out-result-8 c = search needs
 
--- src/global_phase.rt:70:1
 returns : tie.Need-returns
-returns c = 
+returns c =
     let c8 = c .before .before in
     let c7 = c8 .before in
     let c6 = c7 .before in

@@ -1,18 +1,14 @@
+-- `matrix::global_phase::times` meets its contract.
 use mathlib.Core.Path.{ap, _∙_}
 use Rattle.scalar.specs.declared.Answer.{Answer}
 use Rattle.matrix.proofs.Operands.{mul-value}
 use borrow.Author.Needs.{needs}
 use Rattle.matrix.proofs.global_phase.times.Statement.{statement}
 use Rattle.matrix.proofs.global_phase.times.Tie as tie
-use Rattle.matrix.proofs.global_phase.times.Reads as reads
-use Rattle.matrix.proofs.global_phase.times.Lts as lts
-use Rattle.scalar.proofs.Scalar.mul.Reads as mul-reads
 
--- src/global_phase.rt:82:9
 mul-requires : tie.Need-mul-requires
 mul-requires c κs = search needs
 
--- src/global_phase.rt:78:1
 returns : tie.Need-returns
 returns c = ap (λ (a : Answer). a .value) (c .before .mul .ensures) ∙ mul-value (c .before .before .pre .0) (c .before .before .pre .1)
 

@@ -1,10 +1,9 @@
+-- `matrix::products::add_row` meets its contract.
 use mathlib.Core.Path.{_≡_, sym, ap, _∙_, subst₂}
 use Prim.Native.Nat.{ℕ, _+_, _*_, _-_, _≤_}
 use native.Mathlib.Nat.{le-refl}
 use native.Mathlib.Omega.{arith}
 use lib.ListN.{length}
-use Rattle.algebra.specs.Ops.{Ops}
-use Rattle.algebra.specs.Dyadic.{Frac}
 use Rattle.algebra.proofs.Blocks.{Writing, begin, again, done, long, kept, rest, Same, cut, block-in}
 use Rattle.scalar.specs.Exact.{Exact, exact, isLowest}
 use Rattle.scalar.specs.Calls.{value}
@@ -15,11 +14,6 @@ use Rattle.matrix.specs.Factors.{added}
 use Rattle.matrix.proofs.Terms.{factor-same}
 use Rattle.matrix.proofs.products.add_row.Statement.{statement}
 use Rattle.matrix.proofs.products.add_row.Tie as tie
-use Rattle.matrix.proofs.products.add_row.Reads as reads
-use Rattle.matrix.proofs.products.add_row.Lts as lts
-use Rattle.matrix.proofs.products.add_term.Reads as add-term-reads
-use Rattle.scalar.proofs.cells.read_cell.Reads as read-cell-reads
-use Rattle.scalar.proofs.cells.write_cell.Reads as write-cell-reads
 
 abbrev Inv-loop : tie.InvT-loop
 Inv-loop buf₀ x from to d c₀ buf c = Writing 5 buf₀ to d (λ (k : ℕ). cellWords (added buf₀ (value x) from to k)) buf c
@@ -27,7 +21,6 @@ Inv-loop buf₀ x from to d c₀ buf c = Writing 5 buf₀ to d (λ (k : ℕ). ce
 abbrev μ-loop : tie.MeasureT-loop
 μ-loop buf₀ x from to d c₀ buf c = d - c
 
--- src/products.rt:70:5
 loop-holds : tie.Need-loop-holds Inv-loop μ-loop
 loop-holds c = begin (λ k. le-refl 5)
 
@@ -48,32 +41,26 @@ module _ (t : tie.In-loop Inv-loop μ-loop) where
 acc-is : (r : tie.After-read-cell Inv-loop μ-loop) → value (r .read-cell .result) ≡ cellAt (r .before .before .before .before .args .buf .now) (r .before .before .before .before .args .to + r .before .before .before .loop .c * 5)
 acc-is r = ap value (r .read-cell .ensures) ∙ cell-same (own (r .before .before))
 
--- src/products.rt:71:24
 mul-q : tie.Need-mul-q Inv-loop μ-loop
 mul-q c = omega (arith, q-in c)
 
--- src/products.rt:71:17
 add-q : tie.Need-add-q Inv-loop μ-loop
 add-q c = omega (arith, q-in c)
 
--- src/products.rt:72:23
 mul-at : tie.Need-mul-at Inv-loop μ-loop
 mul-at c = omega (arith, c .before .before .pre .room)
 
--- src/products.rt:72:18
 add-at : tie.Need-add-at Inv-loop μ-loop
 add-at c = omega (arith, c .before .before .pre .room)
 
--- src/products.rt:73:13
 read-cell-requires : tie.Need-read-cell-requires Inv-loop μ-loop
-read-cell-requires c κs = 
+read-cell-requires c κs =
     let t = c .before in
     let s = t .before .before in
     (omega (arith, s .pre .room, long (t .before .loop .inv)), exponent-same (own t) ∙ s .pre .exponent (t .before .loop .c) (t .loop-test .taken))
 
--- src/products.rt:74:13
 add-term-requires : tie.Need-add-term-requires Inv-loop μ-loop
-add-term-requires c κs = 
+add-term-requires c κs =
     let t = c .before .before .before in
     let s = t .before .before in
     let i = t .before .loop .c in
@@ -86,21 +73,17 @@ add-term-requires c κs =
       ),
     )
 
--- src/products.rt:75:9
 write-cell-requires : tie.Need-write-cell-requires Inv-loop μ-loop
 write-cell-requires c κs = let a = c .before .before .before .before .before .before in omega (arith, a .before .pre .room, long (a .loop .inv))
 
--- src/products.rt:76:9
 add-c : tie.Need-add-c Inv-loop μ-loop
 add-c c = omega arith
 
--- src/products.rt:70:5
 loop-less : tie.Need-loop-less Inv-loop μ-loop
 loop-less c = omega arith
 
--- src/products.rt:70:5
 loop-again : tie.Need-loop-again Inv-loop μ-loop
-loop-again c = 
+loop-again c =
     let w = c .before in
     let v = w .before .before in
     let r = v .before .before in
@@ -108,11 +91,9 @@ loop-again c =
     let x = value (t .before .before .args .x) in
     again (t .before .loop .inv) (t .loop-test .taken) (w .write-cell .ensures) (ap cellWords (v .add-term .ensures ∙ (λ i. exact ._⊕_ (acc-is r i) (exact ._⊗_ x (cell-same (src t) i)))))
 
--- src/products.rt:65:1
 same-length : tie.Need-same-length Inv-loop μ-loop
 same-length c = long (c .before .loop .inv)
 
--- src/products.rt:65:1
 returns : tie.Need-returns Inv-loop μ-loop
 returns c = done (c .before .loop .inv) (c .loop-test .left)
 

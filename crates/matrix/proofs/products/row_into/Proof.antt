@@ -1,3 +1,4 @@
+-- `matrix::products::row_into` meets its contract.
 use Prim.Native.Nat.{_+_, _*_, _≤_}
 use native.Mathlib.Omega.{arith}
 use lib.ListN.{length}
@@ -6,48 +7,36 @@ use Rattle.matrix.proofs.Rows.{cleared-places, cleared, row-written}
 use borrow.Author.Needs.{needs}
 use Rattle.matrix.proofs.products.row_into.Statement.{statement}
 use Rattle.matrix.proofs.products.row_into.Tie as tie
-use Rattle.matrix.proofs.products.row_into.Reads as reads
-use Rattle.matrix.proofs.products.row_into.Lts as lts
-use Rattle.matrix.proofs.products.sum_row.Reads as sum-row-reads
-use Rattle.matrix.proofs.words.clear.Reads as clear-reads
 
 row-in : (s : tie.Start) → s .args .out + s .args .r * s .args .d * 5 + s .args .d * 5 ≤ length (s .args .buf .now)
 row-in s = omega (arith, s .pre .1 .room, block-in (s .pre .0) (s .args .d))
 
--- src/products.rt:103:22
 mul-clear : tie.Need-mul-clear
 mul-clear c = omega (arith, row-in (c .before))
 
--- src/products.rt:103:22
 mul-clear-2 : tie.Need-mul-clear-2
 mul-clear-2 c = omega (arith, row-in (c .before))
 
--- src/products.rt:103:16
 add-clear : tie.Need-add-clear
 add-clear c = omega (arith, row-in (c .before))
 
--- src/products.rt:103:33
 mul-clear-3 : tie.Need-mul-clear-3
 mul-clear-3 c = omega (arith, row-in (c .before))
 
--- src/products.rt:103:5
 clear-requires : tie.Need-clear-requires
 clear-requires c κs = omega (arith, row-in (c .before))
 
--- src/products.rt:104:5
 sum-row-requires : tie.Need-sum-row-requires
-sum-row-requires c κs = 
+sum-row-requires c κs =
     let e = c .before .before in
     let s = e .before .before in
     (s .pre .0, (cleared-places (s .pre .1) (s .pre .0) (e .clear .ensures), cleared (s .pre .1) (s .pre .0) (e .clear .ensures)))
 
--- src/products.rt:99:1
 same-length : tie.Need-same-length
 same-length c = search needs
 
--- src/products.rt:99:1
 returns : tie.Need-returns
-returns c = 
+returns c =
     let w = c .before in
     let e = w .before .before .before in
     let s = e .before .before in

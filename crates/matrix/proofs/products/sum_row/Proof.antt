@@ -1,3 +1,4 @@
+-- `matrix::products::sum_row` meets its contract.
 use mathlib.Core.Path.{_≡_, sym, ap, _∙_}
 use mathlib.Core.Logic.{⊎-elim}
 use Prim.Native.Nat.{ℕ, _+_, _*_, _-_, _≤_}
@@ -9,16 +10,11 @@ use lib.ListN.{length}
 use Rattle.algebra.proofs.Blocks.{wrote, long, Same, block-in}
 use Rattle.scalar.specs.Calls.{value}
 use Rattle.scalar.specs.Cells.{fill}
-use Rattle.scalar.proofs.Cell.{cell-same, exponent-same}
+use Rattle.scalar.proofs.Cell.{exponent-same}
 use Rattle.matrix.specs.Factors.{Factor, partial}
 use Rattle.matrix.proofs.Rows.{Summed, left-same, skipped, addable, summed}
 use Rattle.matrix.proofs.products.sum_row.Statement.{statement}
 use Rattle.matrix.proofs.products.sum_row.Tie as tie
-use Rattle.matrix.proofs.products.sum_row.Reads as reads
-use Rattle.matrix.proofs.products.sum_row.Lts as lts
-use Rattle.matrix.proofs.products.add_row.Reads as add-row-reads
-use Rattle.scalar.proofs.cells.read_cell.Reads as read-cell-reads
-use Rattle.scalar.proofs.cells.zero_at.Reads as zero-at-reads
 
 abbrev Inv-loop : tie.InvT-loop
 Inv-loop buf₀ g h out d r to k₀ buf k = (k ≤ d) × Summed buf₀ g h out d r buf k
@@ -45,76 +41,59 @@ module _ (t : tie.In-loop Inv-loop μ-loop) where
   left-at : Same (t .before .loop .buf) (start .args .buf .now) (start .args .g + (start .args .r * start .args .d + t .before .loop .k) * 5) 5
   left-at = left-same (start .pre .1 .0) (start .pre .0) (t .before .loop .inv .1) (t .loop-test .taken)
 
--- src/products.rt:85:20
 mul-to : tie.Need-mul-to Inv-loop μ-loop
 mul-to c = omega (arith, row-in c)
 
--- src/products.rt:85:20
 mul-to-2 : tie.Need-mul-to-2 Inv-loop μ-loop
 mul-to-2 c = omega (arith, row-in c)
 
--- src/products.rt:85:14
 add-to : tie.Need-add-to Inv-loop μ-loop
 add-to c = omega (arith, row-in c)
 
--- src/products.rt:88:5
 loop-holds : tie.Need-loop-holds Inv-loop μ-loop
 loop-holds c = (omega arith, wrote (λ k. le-refl 5) (c .pre .1 .1))
 
--- src/products.rt:89:22
 mul-p : tie.Need-mul-p Inv-loop μ-loop
 mul-p c = omega (arith, p-in c)
 
--- src/products.rt:89:22
 add-p : tie.Need-add-p Inv-loop μ-loop
 add-p c = omega (arith, p-in c)
 
--- src/products.rt:89:21
 mul-p-2 : tie.Need-mul-p-2 Inv-loop μ-loop
 mul-p-2 c = omega (arith, p-in c)
 
--- src/products.rt:89:17
 add-p-2 : tie.Need-add-p-2 Inv-loop μ-loop
 add-p-2 c = omega (arith, p-in c)
 
--- src/products.rt:90:13
 zero-at-requires : tie.Need-zero-at-requires Inv-loop μ-loop
 zero-at-requires c κs = omega (arith, p-in (c .before), long (c .before .before .loop .inv .1))
 
--- src/products.rt:91:17
 read-cell-requires : tie.Need-read-cell-requires Inv-loop μ-loop
-read-cell-requires c κs = 
+read-cell-requires c κs =
     let t = c .before .before .before .before in
     (omega (arith, p-in t, long (t .before .loop .inv .1)), exponent-same (left-at t) ∙ factor t .exponent)
 
--- src/products.rt:92:28
 mul-from : tie.Need-mul-from Inv-loop μ-loop
 mul-from c = omega (arith, from-in (c .before .before .before .before .before))
 
--- src/products.rt:92:28
 mul-from-2 : tie.Need-mul-from-2 Inv-loop μ-loop
 mul-from-2 c = omega (arith, from-in (c .before .before .before .before .before))
 
--- src/products.rt:92:24
 add-from : tie.Need-add-from Inv-loop μ-loop
 add-from c = omega (arith, from-in (c .before .before .before .before .before))
 
--- src/products.rt:93:13
 add-row-requires : tie.Need-add-row-requires Inv-loop μ-loop
-add-row-requires c κs = 
+add-row-requires c κs =
     let r = c .before in
     let t = r .before .before .before .before .before in
     addable (start t .pre .1 .0) (start t .pre .0) (t .before .loop .inv .1) (t .loop-test .taken) (ap value (r .read-cell .ensures))
 
--- src/products.rt:95:9
 add-k : tie.Need-add-k Inv-loop μ-loop
 add-k c = omega arith
 
--- src/products.rt:88:5
 loop-less : tie.Need-loop-less Inv-loop μ-loop
 loop-less c = omega arith
 
--- src/products.rt:88:5
 loop-again : tie.Need-loop-again Inv-loop μ-loop
 loop-again c =
     let t = c .before .before .before in
@@ -126,13 +105,11 @@ loop-again c =
           (λ w. skipped (s .pre .1 .0) (s .pre .0) i h (w .1) (sym (c .before .zero-at .ensures) ∙ not-false _ (w .0 .left))) (c .if1 .came),
     )
 
--- src/products.rt:81:1
 same-length : tie.Need-same-length Inv-loop μ-loop
 same-length c = long (c .before .loop .inv .1)
 
--- src/products.rt:81:1
 returns : tie.Need-returns Inv-loop μ-loop
-returns c = 
+returns c =
     let a = c .before in
     let s = a .before .args in
     let e : a .loop .k ≡ s .d = omega (arith, a .loop .inv .0) in

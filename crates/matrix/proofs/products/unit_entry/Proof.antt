@@ -1,19 +1,15 @@
-use mathlib.Core.Path.{_≡_, sym, ap}
+-- `matrix::products::unit_entry` meets its contract.
+use mathlib.Core.Path.{sym, ap}
 use mathlib.Core.Bool.{Bool, cond}
 use borrow.Author.Tests.{eq-eqb, ne-eqb}
-use Rattle.algebra.specs.Ops.{Ops}
 use Rattle.scalar.specs.Exact.{exact}
 use Rattle.scalar.specs.Calls.{scalarOf}
 use Rattle.matrix.proofs.products.unit_entry.Statement.{statement}
 use Rattle.matrix.proofs.products.unit_entry.Tie as tie
-use Rattle.matrix.proofs.products.unit_entry.Reads as reads
-use Rattle.matrix.proofs.products.unit_entry.Lts as lts
 
--- src/products.rt:22:1
 returns : tie.Need-returns
 returns c = let s = c .before .args in sym (ap (λ (b : Bool). scalarOf (cond b (exact .𝟙) (exact .𝟘))) (eq-eqb (s .r) (s .c) (c .if1 .taken)))
 
--- src/products.rt:22:1
 returns-2 : tie.Need-returns-2
 returns-2 c = let s = c .before .args in sym (ap (λ (b : Bool). scalarOf (cond b (exact .𝟙) (exact .𝟘))) (ne-eqb (s .r) (s .c) (c .if1 .left)))
 

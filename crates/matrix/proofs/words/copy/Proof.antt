@@ -1,11 +1,11 @@
 -- `matrix::words::copy` meets its contract.
-use mathlib.Core.Path.{_≡_, _∙_}
+use mathlib.Core.Path.{_∙_}
 use mathlib.Core.List.{[], _∷_}
 use Prim.Native.Nat.{ℕ, _+_, _*_, _-_}
 use native.Mathlib.Nat.{le-refl}
 use native.Mathlib.Omega.{arith}
 use lib.ListN.{getD}
-use lib.IntN.{ℤ, pos}
+use lib.IntN.{pos}
 use Rattle.algebra.specs.Words.{Apart}
 use Rattle.algebra.proofs.Blocks.{Writing, begin, again-word, done, long, kept, narrow}
 use Rattle.algebra.proofs.Signed.{reads}

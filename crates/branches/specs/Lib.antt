@@ -1,0 +1,4 @@
+pub mod Store
+pub mod Bank
+pub mod Step
+pub mod Run

@@ -1,0 +1,44 @@
+-- Stores in two words: bits 0 to 31, then bits 32 to 63; and one bit written.
+use mathlib.Core.Path.{_≡_}
+use mathlib.Core.Bool.{true, cond}
+use mathlib.Core.List.{List, [], _∷_}
+use Prim.Native.Nat.{ℕ, _+_, _*_, _-_, _/_, _%_, _^_, _<_, _≤_}
+use lib.Dec.{eqb, ltb}
+use lib.ListN.{length, getD, take, drop}
+use lib.IntN.{ℤ, pos, natAbs}
+use Rattle.algebra.specs.Words.{fromBits, upTo}
+use Rattle.algebra.specs.Lists.{All}
+use Rattle.gate.specs.Gate.{Gate, measure}
+use Rattle.kraus.specs.Branch.{Store}
+
+-- each is 0 or 1
+abbrev pub Bits : List ℕ → Type 0
+Bits = All (λ (b : ℕ). b < 2)
+
+abbrev pub storeWords : Store → List ℤ
+storeWords σ = pos (fromBits (take 32 σ)) ∷ pos (fromBits (drop 32 σ)) ∷ []
+
+-- two words from `at` on, each below 2^32
+pub record StoreAt (l : List ℤ) (at : ℕ) : Type 0 where
+  pub room : at + 2 ≤ length l
+  pub low : upTo (2 ^ 32 - 1) (getD l at (pos 0)) ≡ true
+  pub high : upTo (2 ^ 32 - 1) (getD l (at + 1) (pos 0)) ≡ true
+
+-- the number x with bit k made v
+abbrev pub withBit : ℕ → ℕ → ℕ → ℕ
+withBit x k v = x - x / 2 ^ k % 2 * 2 ^ k + v * 2 ^ k
+
+-- the word of the bits from `first` on, with bit `bit` made v where it is one of its 32
+abbrev pub outcomeWord : ℕ → ℕ → ℕ → ℤ → ℤ
+outcomeWord first bit v w = cond (ltb bit first) w (cond (ltb 31 (bit - first)) w (pos (withBit (natAbs w) (bit - first) v)))
+
+-- a store's two words, with bit `bit` made v
+abbrev pub outcomePair : ℕ → ℕ → ℤ → ℤ → List ℤ
+outcomePair bit v low high = outcomeWord 0 bit v low ∷ outcomeWord 32 bit v high ∷ []
+
+abbrev pub outcomeWords : List ℤ → ℕ → ℕ → ℕ → List ℤ
+outcomeWords l at bit v = outcomePair bit v (getD l at (pos 0)) (getD l (at + 1) (pos 0))
+
+-- the classical bit that a gate writes; 64, which no store has, where it writes none
+abbrev pub outcomeBit : Gate → ℕ
+outcomeBit g = cond (eqb (g .kind) measure) (g .b) 64

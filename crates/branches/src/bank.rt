@@ -1,0 +1,69 @@
+use super::store::pack;
+use super::store::write_store;
+use matrix::products::identity_into;
+use matrix::products::mul_into;
+ghost use mathlib.Core.Path.{_≡_};
+ghost use Prim.Native.Nat.{_+_, _*_, _≤_, min};
+ghost use lib.ListN.{length};
+ghost use lib.Seq.{sets};
+ghost use Rattle.algebra.specs.Words.{blocks};
+ghost use Rattle.branches.specs.Store.{Bits};
+ghost use Rattle.branches.specs.Bank.{branchSize, branchWords, identityBranch};
+ghost use Rattle.branches.specs.Step.{Step, stepWords};
+
+// The words of a branch.
+pub fn branch_size(d: usize) -> usize
+    requires { ⌜ d ≤ 32 ⌝ }
+    ensures { λ r. ⌜ r ≡ branchSize d ⌝ }
+{
+    d * d * 5 + 2
+}
+
+fn least(a: usize, b: usize) -> usize
+    ensures { λ r. ⌜ r ≡ min a b ⌝ }
+{
+    if a < b { a } else { b }
+}
+
+// Write the identity with a store of bytes.
+pub fn start_branch(work: &mut [i64], at: usize, d: usize, store: &[u8])
+    requires { ⌜ (d ≤ 32) × ((at + branchSize d ≤ length (now work)) × ((length (now store) ≤ 64) × Bits (now store))) ⌝ }
+    ensures { λ _. ⌜ now (work .exit) ≡ sets (now (work .entry)) at (branchWords d (identityBranch d (now (store .entry)))) ⌝ }
+{
+    identity_into(work, at, d);
+    let cut = least(32, store.len());
+    let low = pack(store, 0, cut);
+    let high = pack(store, cut, store.len());
+    let s = at + d * d * 5;
+    work[s] = low as i64;
+    work[s + 1] = high as i64;
+}
+
+// Send each of n branches to its products with each of `ops` operators, in order, and write the operator's number to the store's bit `bit`.
+pub fn step(
+    work: &mut [i64],
+    slots: usize,
+    ops: usize,
+    from: usize,
+    to: usize,
+    d: usize,
+    n: usize,
+    bit: u32,
+)
+    requires { ⌜ Step (now work) slots ops from to d n ⌝ }
+    ensures { λ _. ⌜ now (work .exit) ≡ blocks (branchSize d) (now (work .entry)) to (n * ops) (stepWords (now (work .entry)) slots ops from d bit) ⌝ }
+{
+    let matrix = d * d * 5;
+    let size = matrix + 2;
+    let total = n * ops;
+    let mut j = 0;
+    while j < total {
+        let v = j % ops;
+        let op = slots + v * size;
+        let old = from + j / ops * size;
+        let new = to + j * size;
+        mul_into(work, op, old, new, d);
+        write_store(work, old + matrix, new + matrix, bit, v as u64);
+        j += 1;
+    }
+}

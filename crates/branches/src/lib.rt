@@ -1,0 +1,4 @@
+// Circuits run on branches in lent words.
+pub mod bank;
+pub mod run;
+pub mod store;

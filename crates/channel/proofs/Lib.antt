@@ -1,0 +1,14 @@
+pub mod Stores
+pub mod Words
+pub mod Judging
+pub mod Chain
+pub mod Finding
+pub mod Scanning
+pub mod Merging
+pub mod Sorted
+pub mod First
+pub mod Claims
+pub mod Visits
+pub mod Least
+pub mod Written
+pub mod RoundTrip

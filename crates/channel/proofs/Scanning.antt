@@ -1,0 +1,32 @@
+-- The scan of two blocks for their first unequal entry, step by step.
+use mathlib.Core.Path.{_≡_, sym, ap, _∙_}
+use mathlib.Core.Bool.{Bool, true, false, cond}
+use Prim.Native.Nat.{ℕ, suc, _+_, _*_, _-_, _/_, _%_, _<_}
+use native.Mathlib.Nat.{suc-mul}
+use native.Mathlib.Numerals.{add-one}
+use native.Mathlib.Omega.{arith}
+use lib.Arith.{digits-div, digits-mod}
+use Rattle.channel.specs.declared.compare.Found.the-variants.{Same}
+use Rattle.channel.specs.Compare.{Both, equal, plain, entry, scan}
+
+module _ (b : Both) (w m k : ℕ) (h : k < m) where
+  step : scan b w (m - k) k ≡ cond (equal (b .left k) (b .right k)) (scan b w (m - (k + 1)) (suc k)) (entry (b .store) (k / w) (k % w) (b .left k) (b .right k))
+  unfolding scan
+  step = let e : m - k ≡ suc (m - (k + 1)) = omega arith in ap (λ (n : ℕ). scan b w n k) e
+
+  pub agrees : equal (b .left k) (b .right k) ≡ true → scan b w (m - k) k ≡ scan b w (m - (k + 1)) (k + 1)
+  agrees e =
+      step ∙ ap (λ (t : Bool). cond t (scan b w (m - (k + 1)) (suc k)) (entry (b .store) (k / w) (k % w) (b .left k) (b .right k))) e
+      ∙ ap (scan b w (m - (k + 1))) (sym (add-one k))
+
+  pub differs : (row col : ℕ) → k ≡ row * w + col → col < w → equal (b .left k) (b .right k) ≡ false → scan b w (m - k) k ≡ entry (b .store) row col (b .left k) (b .right k)
+  differs row col p q e =
+      step ∙ ap (λ (t : Bool). cond t (scan b w (m - (k + 1)) (suc k)) (entry (b .store) (k / w) (k % w) (b .left k) (b .right k))) e
+      ∙ (λ i. entry (b .store) ((ap (λ (n : ℕ). n / w) p ∙ digits-div row q) i) ((ap (λ (n : ℕ). n % w) p ∙ digits-mod row q) i) (b .left k) (b .right k))
+
+pub done : (b : Both) (w m k : ℕ) → k ≡ m → scan b w (m - k) k ≡ plain Same
+unfolding scan
+done b w m k e = let z : m - k ≡ 0 = omega arith in ap (λ (n : ℕ). scan b w n k) z
+
+pub next-row : (row w : ℕ) → (row + 1) * w ≡ row * w + w
+next-row row w = rw (add-one, suc-mul)

@@ -1,0 +1,171 @@
+-- Words read as numbers from 0 up: range tests, casts, and the starts of records.
+use mathlib.Core.Path.{_≡_, refl, sym, ap, _∙_, subst}
+use mathlib.Core.Bool.{Bool, true, false, _&&_, _||_, true≢false}
+use mathlib.Core.Logic.{_⊎_, inl, inr}
+use Prim.Native.Nat.{ℕ, suc, _+_, _*_, _-_, _/_, _%_, _^_, _<_, _≤_}
+use native.Mathlib.Nat.{div-add-mod', mod-lt, div-eq-of-lt, mul-le-mul}
+use native.Mathlib.Omega.{arith}
+use lib.Arith.{digits-div, digits-mod}
+use lib.Dec.{T, leb, eqb, ltb, ltb→lt}
+use lib.Pow.{pow-pos}
+use lib.IntN.{ℤ, pos, negsuc, natAbs}
+use lib.Signed.{ltZ, nonNeg, mag}
+use mir.Syntax.{Width, w64}
+use mir.Val.{Fits, SFits, toZ, ofZ, sel}
+use mir.Facts.{toZ-ofZ}
+use borrow.Author.Tests.{ltb-true, ltb-false, leb-true, le-leb, lt-leb, lt-ltb, le-ltb, eq-eqb, eqb-true, eqb-false, ne-eqb}
+use Rattle.algebra.specs.Words.{upTo, eqℤ}
+use Rattle.algebra.proofs.Tests.{and-split}
+use Rattle.algebra.proofs.Signed.{eq-words}
+use Rattle.algebra.proofs.Blocks.{block-in}
+use Rattle.channel.specs.Layout.{headerSize, recordSize, recordAt}
+use Rattle.channel.specs.WellFormed.{isStart, isDim}
+
+-- a word that is read
+pub reads-back : (z : ℤ) → mag z < 2 ^ 63 → toZ w64 (ofZ w64 z) ≡ z
+reads-back z h = toZ-ofZ (record { sfits = h })
+
+-- what a cast of a word asks
+abbrev pub Casts : Width → ℤ → Type 0
+Casts w z = T (nonNeg z) × Fits w (natAbs z)
+
+module _ {z : ℤ} (f : SFits w64 z) where
+  -- a fact of a word is one of the number that is read
+  pub read : (P : ℤ → Type 0) → P z → P (toZ w64 (ofZ w64 z))
+  read P h = subst P (sym (toZ-ofZ f)) h
+
+  pub unread : (P : ℤ → Type 0) → P (toZ w64 (ofZ w64 z)) → P z
+  unread P h = subst P (toZ-ofZ f) h
+
+-- ---- from 0 to n
+pub low-up : (n : ℕ) (z : ℤ) → ltZ z (pos 0) ≡ true → false ≡ upTo n z
+low-up n (pos a) e = absurd (omega (arith, ltb-true a 0 e))
+low-up n (negsuc a) e = refl
+
+pub high-up : (n : ℕ) (z : ℤ) → ltZ z (pos 0) ≡ false → leb (natAbs z) n ≡ upTo n z
+high-up n (pos a) e = refl
+high-up n (negsuc a) e = absurd (subst T e tt)
+
+pub natural : (k : ℕ) (z : ℤ) → ltZ z (pos k) ≡ false → (T (nonNeg z)) × (k ≤ natAbs z)
+natural k (pos a) e = (tt, ltb-false a k e)
+natural k (negsuc a) e = absurd (subst T e tt)
+
+pub fits-abs : (z : ℤ) → SFits w64 z → T (nonNeg z) → Fits w64 (natAbs z)
+fits-abs (pos a) f t = record { fits = omega (arith, f .sfits) }
+fits-abs (negsuc a) f t = absurd t
+
+pub casts : (k : ℕ) (z : ℤ) → SFits w64 z → ltZ z (pos k) ≡ false → Casts w64 z
+casts k z f e = (natural k z e .0, fits-abs z f (natural k z e .0))
+
+pub casts-up : (n : ℕ) (z : ℤ) → SFits w64 z → upTo n z ≡ true → Casts w64 z
+casts-up n (pos a) f e = (tt, fits-abs (pos a) f tt)
+casts-up n (negsuc a) f e = absurd (true≢false (sym e))
+
+pub up-abs : (n : ℕ) (z : ℤ) → upTo n z ≡ true → natAbs z ≤ n
+up-abs n (pos a) e = leb-true a n e
+up-abs n (negsuc a) e = absurd (true≢false (sym e))
+
+-- ---- starts of records
+pub low-start : (w n : ℕ) (z : ℤ) → ltZ z (pos 4) ≡ true → false ≡ isStart w n z
+low-start w n (pos a) e = ap (λ (b : Bool). b && (eqb ((a - 4) % recordSize w) 0 && ltb ((a - 4) / recordSize w) n)) (sym (lt-leb 4 a (ltb-true a 4 e)))
+low-start w n (negsuc a) e = refl
+
+pub high-start : (w n : ℕ) (z : ℤ) → ltZ z (pos 4) ≡ false → (eqb ((natAbs z - 4) % recordSize w) 0 && ltb ((natAbs z - 4) / recordSize w) n) ≡ isStart w n z
+high-start w n (pos a) e = ap (λ (b : Bool). b && (eqb ((a - 4) % recordSize w) 0 && ltb ((a - 4) / recordSize w) n)) (sym (le-leb 4 a (ltb-false a 4 e)))
+high-start w n (negsuc a) e = absurd (subst T e tt)
+
+-- an index at which a record starts is that of one of the n records
+pub record Starts (w n a : ℕ) : Type 0 where
+  pub place : ℕ
+  pub below : place < n
+  pub is : a ≡ recordAt w place
+
+pub starts : (w n : ℕ) (z : ℤ) → isStart w n z ≡ true → T (nonNeg z) × Starts w n (natAbs z)
+starts w n (pos a) e = (tt, by (recordSize w) (and-split (leb 4 a) _ e))
+  where
+    by : (size : ℕ) → (leb 4 a ≡ true) × ((eqb ((a - 4) % recordSize w) 0 && ltb ((a - 4) / recordSize w) n) ≡ true) → Starts w n a
+    by size t =
+        let u = and-split (eqb ((a - 4) % recordSize w) 0) _ (t .1) in
+        record { place = (a - 4) / recordSize w; below = ltb-true _ n (u .1); is = whole-part (recordSize w) a (leb-true 4 a (t .0)) (eqb-true _ 0 (u .0)) }
+      where
+        whole-part : (s a : ℕ) → 4 ≤ a → (a - 4) % s ≡ 0 → a ≡ 4 + (a - 4) / s * s
+        whole-part s a h z = omega (arith, div-add-mod' (a - 4) s)
+starts w n (negsuc a) e = absurd (true≢false (sym e))
+
+pub start-is : (w n i : ℕ) → i < n → isStart w n (pos (recordAt w i)) ≡ true
+start-is w n i h = λ k. le-leb 4 (recordAt w i) (omega arith) k && (eq-eqb _ 0 (at .0) k && lt-ltb _ n (subst (λ (p : ℕ). p < n) (sym (at .1)) h) k)
+  where
+    at : ((recordAt w i - 4) % recordSize w ≡ 0) × ((recordAt w i - 4) / recordSize w ≡ i)
+    at = by (w * w * 5)
+      where
+        by : (r : ℕ) → ((4 + i * (3 + r) - 4) % (3 + r) ≡ 0) × ((4 + i * (3 + r) - 4) / (3 + r) ≡ i)
+        by r =
+            let z : 4 + i * (3 + r) - 4 ≡ i * (3 + r) + 0 = omega arith in
+            (ap (λ (k : ℕ). k % (3 + r)) z ∙ digits-mod i (omega arith), ap (λ (k : ℕ). k / (3 + r)) z ∙ digits-div i (omega arith))
+
+-- and the record lies inside the n records
+pub starts-inside : {w n a : ℕ} → Starts w n a → a + recordSize w ≤ headerSize + n * recordSize w
+starts-inside {w} {n} {a} s = by (recordSize w) (s .place) (s .is) (s .below)
+  where
+    by : (r j : ℕ) → a ≡ 4 + j * r → j < n → a + r ≤ 4 + n * r
+    by r j e h = omega (arith, block-in h r)
+
+-- ---- bits beyond the m-th, and words equal to a small number
+pub no-high : (s m : ℕ) → eqb (s / 2 ^ m) 0 ≡ ltb s (2 ^ m)
+no-high s m = go (eqb (s / 2 ^ m) 0) refl
+  where
+    go : (b : Bool) → eqb (s / 2 ^ m) 0 ≡ b → eqb (s / 2 ^ m) 0 ≡ ltb s (2 ^ m)
+    go true e = e ∙ sym (lt-ltb s (2 ^ m) (by (eqb-true (s / 2 ^ m) 0 e)))
+      where
+        by : s / 2 ^ m ≡ 0 → s < 2 ^ m
+        by z = omega (arith, div-add-mod' s (2 ^ m), mod-lt s (pow-pos m), ap (λ (k : ℕ). k * 2 ^ m) z)
+    go false e = let n : ¬ (s < 2 ^ m) = λ h. eqb-false (s / 2 ^ m) 0 e (div-eq-of-lt h) in e ∙ sym (le-ltb s (2 ^ m) (omega arith))
+
+pub whole : (s m : ℕ) → Fits w64 s → m ≤ 64 → 64 ≤ m → true ≡ ltb s (2 ^ m)
+whole s m f h k = let e : 64 ≡ m = omega arith in sym (lt-ltb s (2 ^ m) (subst (λ (j : ℕ). s < 2 ^ j) e (f .fits)))
+
+pub eq-small : (n : ℕ) → T (ltb n (2 ^ 63)) → (z : ℤ) → SFits w64 z → eqb (ofZ w64 z) n ≡ eqℤ z (pos n)
+eq-small n t z f = eq-words z (pos n) f (record { sfits = ltb→lt n (2 ^ 63) t })
+
+-- `z == 0`
+pub bits-zero : (n : ℕ) → eqb n 0 ≡ eqℤ (toZ w64 n) (pos 0)
+bits-zero n = go (ltb n (2 ^ 63)) refl
+  where
+    go : (b : Bool) → ltb n (2 ^ 63) ≡ b → eqb n 0 ≡ eqℤ (sel b (pos n) (negsuc (2 ^ 64 - suc n))) (pos 0)
+    go true e = refl
+    go false e = ne-eqb n 0 (λ z. omega (arith, ltb-false n (2 ^ 63) e))
+
+-- ---- dimensions
+either : (a b : Bool) → (a || b) ≡ true → (a ≡ true) ⊎ (b ≡ true)
+either true b e = inl refl
+either false b e = inr e
+
+pub dim-range : (z : ℤ) → isDim z ≡ true → (upTo 16 z ≡ true) × (1 ≤ natAbs z)
+dim-range (negsuc a) e = absurd (true≢false (sym e))
+dim-range (pos a) e = first (either _ _ e)
+  where
+    is : (k : ℕ) → 1 ≤ k → k ≤ 16 → eqb a k ≡ true → (leb a 16 ≡ true) × (1 ≤ a)
+    is k low high t = let q = eqb-true a k t in (le-leb a 16 (omega arith), omega arith)
+
+    fourth : (eqb a 1 ≡ true) ⊎ (eqb a 2 ≡ true) → (leb a 16 ≡ true) × (1 ≤ a)
+    fourth (inl t) = is 1 (omega arith) (omega arith) t
+    fourth (inr t) = is 2 (omega arith) (omega arith) t
+
+    third : ((eqb a 1 || eqb a 2) ≡ true) ⊎ (eqb a 4 ≡ true) → (leb a 16 ≡ true) × (1 ≤ a)
+    third (inl t) = fourth (either _ _ t)
+    third (inr t) = is 4 (omega arith) (omega arith) t
+
+    second : (((eqb a 1 || eqb a 2) || eqb a 4) ≡ true) ⊎ (eqb a 8 ≡ true) → (leb a 16 ≡ true) × (1 ≤ a)
+    second (inl t) = third (either _ _ t)
+    second (inr t) = is 8 (omega arith) (omega arith) t
+
+    first : ((((eqb a 1 || eqb a 2) || eqb a 4) || eqb a 8) ≡ true) ⊎ (eqb a 16 ≡ true) → (leb a 16 ≡ true) × (1 ≤ a)
+    first (inl t) = second (either _ _ t)
+    first (inr t) = is 16 (omega arith) (omega arith) t
+
+pub square-small : (d : ℕ) → d ≤ 16 → d * d ≤ 256
+square-small d h = mul-le-mul h h
+
+-- `x == y` of two words that are read
+pub eq-read : (x y : ℤ) → mag x < 2 ^ 63 → mag y < 2 ^ 63 → eqb (ofZ w64 x) (ofZ w64 y) ≡ eqℤ x y
+eq-read x y h k = eq-words x y (record { sfits = h }) (record { sfits = k })

@@ -1,0 +1,158 @@
+-- `compare::compare` meets its contract.
+use mathlib.Core.Path.{_≡_, sym, ap, _∙_, subst}
+use mathlib.Core.Bool.{Bool, true, cond, _&&_}
+use mathlib.Core.List.{List}
+use Prim.Native.Nat.{ℕ, _*_, _≤_}
+use native.Mathlib.Omega.{arith}
+use lib.Dec.{eqb}
+use lib.IntN.{ℤ}
+use borrow.Author.Tests.{not-true, not-false, eqb-true}
+use Rattle.algebra.proofs.Tests.{and-split}
+use Rattle.channel.specs.declared.Shape.{Shape}
+use Rattle.channel.specs.declared.compare.Difference.{Difference}
+use Rattle.channel.specs.declared.compare.Found.the-variants.{Refused, Dimensions}
+use Rattle.channel.specs.Layout.{side, dimAt, bitsAt, readBack}
+use Rattle.channel.specs.WellFormed.{wellFormed, shapeAt, shapeOf}
+use Rattle.channel.specs.Compare.{plain, first, merge}
+use Rattle.channel.specs.Walk.{Matched}
+use Rattle.channel.proofs.Judging.{formed, shape-test, shape-is}
+use borrow.Author.Needs.{needs}
+use Rattle.channel.proofs.compare.compare.Statement.{statement}
+use Rattle.channel.proofs.compare.compare.Tie as tie
+
+-- what a shape that is judged says
+module _ (l : List ℤ) (h : Shape) (e : h ≡ shapeOf l) where
+  judged : h .ok ≡ wellFormed l
+  judged = shape-test l (wellFormed l) h e
+
+  right : h .ok ≡ true → wellFormed l ≡ true
+  right f = sym judged ∙ f
+
+  is : h .ok ≡ true → h ≡ shapeAt l
+  is f = shape-is l (wellFormed l) h e f
+
+-- the answer by its three tests
+module _ (l r : List ℤ) where
+  abbrev same : Bool
+  same = eqb (dimAt l) (dimAt r) && eqb (bitsAt l) (bitsAt r)
+
+  abbrev by : Bool → Bool → Bool → Difference
+  by p q s = cond (p && q) (cond s (first (side (dimAt l)) (merge (readBack l) (readBack r))) (plain Dimensions)) (plain Refused)
+
+module _ (c : tie.After-struct-known6) where
+  abbrev two : tie.Else2
+  two = c .before .before .before .before
+
+  abbrev one : tie.Else1
+  one = two .before .before .before
+
+  abbrev start : tie.Start
+  start = one .before .before .before
+
+  abbrev g : Shape
+  g = one .before .before .judge .result
+
+  abbrev h : Shape
+  h = two .before .before .judge2 .result
+
+  right-g : wellFormed (start .args .left .now) ≡ true
+  right-g = right (start .args .left .now) g (one .before .before .judge .ensures) (not-false _ (one .if1 .left))
+
+  right-h : wellFormed (start .args .right .now) ≡ true
+  right-h = right (start .args .right .now) h (two .before .before .judge2 .ensures) (not-false _ (two .if2 .left))
+
+  is-g : g ≡ shapeAt (start .args .left .now)
+  is-g = is (start .args .left .now) g (one .before .before .judge .ensures) (not-false _ (one .if1 .left))
+
+  is-h : h ≡ shapeAt (start .args .right .now)
+  is-h = is (start .args .right .now) h (two .before .before .judge2 .ensures) (not-false _ (two .if2 .left))
+
+  sames : (eqb (g .dim) (h .dim) && eqb (g .bits) (h .bits)) ≡ same (start .args .left .now) (start .args .right .now)
+  sames = λ i. eqb (is-g i .dim) (is-h i .dim) && eqb (is-g i .bits) (is-h i .bits)
+
+equal-dims : (c : tie.Else3) → (eqb (g (c .before) .dim) (h (c .before) .dim) && eqb (g (c .before) .bits) (h (c .before) .bits)) ≡ true
+equal-dims c = not-false _ (c .if3 .left)
+
+matched : (c : tie.Else3) → Matched (start (c .before) .args .left .now) (start (c .before) .args .right .now) (g (c .before) .count) (h (c .before) .count) (g (c .before) .dim * g (c .before) .dim)
+matched c =
+    let k = c .before in
+    record {
+      left = right-g k;
+      right = right-h k;
+      leftCount = ap (λ (s : Shape). s .count) (is-g k);
+      rightCount = ap (λ (s : Shape). s .count) (is-h k);
+      leftSide = ap (λ (s : Shape). s .dim * s .dim) (is-g k);
+      rightSide = ap (λ (d : ℕ). d * d) (eqb-true (g k .dim) (h k .dim) (and-split (eqb (g k .dim) (h k .dim)) _ (equal-dims c) .0)) ∙ ap (λ (s : Shape). s .dim * s .dim) (is-h k);
+    }
+
+judge-requires : tie.Need-judge-requires
+judge-requires c κs = search needs
+
+without-entry-requires : tie.Need-without-entry-requires
+without-entry-requires c κs = search needs
+
+returns : tie.Need-returns
+returns c =
+    let t = c .before in
+    let j = t .before .before in
+    let s = j .before .args in
+    c .without-entry .ensures ∙ sym (ap (λ (p : Bool). by (s .left .now) (s .right .now) p (wellFormed (s .right .now)) (same (s .left .now) (s .right .now))) (sym (judged (s .left .now) (j .judge .result) (j .judge .ensures)) ∙ not-true _ (t .if1 .taken)))
+
+judge-requires-2 : tie.Need-judge-requires-2
+judge-requires-2 c κs = search needs
+
+without-entry-requires-2 : tie.Need-without-entry-requires-2
+without-entry-requires-2 c κs = search needs
+
+returns-2 : tie.Need-returns-2
+returns-2 c =
+    let t = c .before in
+    let j = t .before .before in
+    let e = j .before in
+    let i = e .before .before in
+    let s = i .before .args in
+    c .without-entry2 .ensures
+    ∙ sym (λ k. by (s .left .now) (s .right .now) (right (s .left .now) (i .judge .result) (i .judge .ensures) (not-false _ (e .if1 .left)) k) ((sym (judged (s .right .now) (j .judge2 .result) (j .judge2 .ensures)) ∙ not-true _ (t .if2 .taken)) k) (same (s .left .now) (s .right .now)))
+
+without-entry-requires-3 : tie.Need-without-entry-requires-3
+without-entry-requires-3 c κs = search needs
+
+returns-3 : tie.Need-returns-3
+returns-3 c =
+    let t = c .before in
+    let k = t .before in
+    let s = start k .args in
+    c .without-entry3 .ensures ∙ sym (λ i. by (s .left .now) (s .right .now) (right-g k i) (right-h k i) ((sym (sames k) ∙ not-true _ (t .if3 .taken)) i))
+
+mul-compare-chains : tie.Need-mul-compare-chains
+mul-compare-chains c =
+    let k = c .before in
+    let q : g k .dim * g k .dim ≤ 256 = subst (λ (s : Shape). s .dim * s .dim ≤ 256) (sym (is-g k)) (formed _ (right-g k) .head .room .width) in
+    omega arith
+
+compare-chains-requires : tie.Need-compare-chains-requires
+compare-chains-requires c κs = matched c
+
+returns-4 : tie.Need-returns-4
+returns-4 c =
+    let e = c .before in
+    let k = e .before in
+    let s = start k .args in
+    c .compare-chains .ensures ∙ ap (λ (w : ℕ). first w (merge (readBack (s .left .now)) (readBack (s .right .now)))) (matched e .leftSide)
+    ∙ sym (λ i. by (s .left .now) (s .right .now) (right-g k i) (right-h k i) ((sym (sames k) ∙ equal-dims e) i))
+
+pub compare-spec : {M : Type 1} → statement M
+compare-spec =
+    tie.close
+    (tie.spec
+    judge-requires
+    without-entry-requires
+    returns
+    judge-requires-2
+    without-entry-requires-2
+    returns-2
+    without-entry-requires-3
+    returns-3
+    mul-compare-chains
+    compare-chains-requires
+    returns-4)

@@ -1,0 +1,148 @@
+-- `lookup::locate` meets its contract.
+use mathlib.Core.Path.{_≡_, sym, ap, _∙_, subst}
+use mathlib.Core.Bool.{true}
+use mathlib.Core.List.{List}
+use Prim.Native.Nat.{ℕ, _+_, _*_, _≤_}
+use native.Mathlib.Omega.{arith}
+use native.Mathlib.Nat.{mul-le-mul}
+use lib.ListN.{length}
+use lib.IntN.{ℤ, natAbs}
+use borrow.Author.Tests.{not-true, not-false}
+use Rattle.channel.specs.declared.Shape.{Shape}
+use Rattle.channel.specs.Layout.{recordSize, word, side, dimAt, bitsAt}
+use Rattle.channel.specs.WellFormed.{wellFormed, shapeAt}
+use Rattle.channel.specs.Lookup.{storeRight, find, placed, spanOf, lookupOf}
+use Rattle.channel.proofs.Judging.{formed, shape-test, shape-is}
+use Rattle.channel.proofs.Finding.{placed-found, look-malformed, look-wrong, look-placed, index, index-inside}
+use borrow.Author.Needs.{needs}
+use Rattle.channel.proofs.lookup.locate.Statement.{statement}
+use Rattle.channel.proofs.lookup.locate.Tie as tie
+
+abbrev words : tie.After-struct-known → List ℤ
+words c = c .before .before .before .args .s .now
+
+abbrev bytes : tie.After-struct-known → List ℕ
+bytes c = c .before .before .before .args .store .now
+
+abbrev shape : tie.After-struct-known → Shape
+shape c = c .before .judge .result
+
+tested : (c : tie.After-struct-known) → shape c .ok ≡ wellFormed (words c)
+tested c = shape-test (words c) (wellFormed (words c)) (shape c) (c .before .judge .ensures)
+
+module _ (c : tie.Else1) where
+  right : wellFormed (words (c .before)) ≡ true
+  right = sym (tested (c .before)) ∙ not-false _ (c .if1 .left)
+
+  is : shape (c .before) ≡ shapeAt (words (c .before))
+  is = shape-is (words (c .before)) (wellFormed (words (c .before))) (shape (c .before)) (c .before .before .judge .ensures) (not-false _ (c .if1 .left))
+
+stores : (c : tie.After-right-store) → c .right-store .result ≡ storeRight (bitsAt (words (c .before .before))) (bytes (c .before .before))
+stores c = c .right-store .ensures ∙ ap (λ (h : Shape). storeRight (h .bits) (bytes (c .before .before))) (is (c .before))
+
+module _ (c : tie.Else2) where
+  abbrev known : tie.After-struct-known
+  known = c .before .before .before
+
+  stored : storeRight (bitsAt (words known)) (bytes known) ≡ true
+  stored = sym (stores (c .before)) ∙ not-false _ (c .if2 .left)
+
+  look : lookupOf (words known) (bytes known) ≡ placed (index (words known) (bytes known))
+  look = look-placed (words known) (bytes known) (right (c .before .before)) stored
+
+found-at : (c : tie.After-find-store) → c .find-store .result ≡ index (words (known (c .before .before))) (bytes (known (c .before .before)))
+found-at c =
+    let k = known (c .before .before) in
+    c .find-store .ensures ∙ (λ i. find (words k) (c .before .store-number .ensures i) (is (c .before .before .before .before) i .count) (natAbs (word (words k) 3)))
+
+module _ (c : tie.Else3) where
+  abbrev two : tie.Else2
+  two = c .before .before .before
+
+  inside : c .before .find-store .result + recordSize (side (dimAt (words (known two)))) ≤ length (words (known two))
+  inside = index-inside (words (known two)) (bytes (known two)) (right (two .before .before)) (c .before .find-store .result) (sym (found-at (c .before))) (omega arith)
+
+  width : shape (known two) .dim * shape (known two) .dim ≤ 256
+  width = subst (λ (h : Shape). h .dim * h .dim ≤ 256) (sym (is (two .before .before))) (formed (words (known two)) (right (two .before .before)) .head .room .width)
+
+judge-requires : tie.Need-judge-requires
+judge-requires c κs = search needs
+
+none-requires : tie.Need-none-requires
+none-requires c κs = search needs
+
+returns : tie.Need-returns
+returns c =
+    let k = c .before .before in
+    c .none .ensures ∙ sym (ap (spanOf (words k)) (look-malformed (words k) (bytes k) (sym (tested k) ∙ not-true _ (c .before .if1 .taken))))
+
+right-store-requires : tie.Need-right-store-requires
+right-store-requires c κs = search needs
+
+none-requires-2 : tie.Need-none-requires-2
+none-requires-2 c κs = search needs
+
+returns-2 : tie.Need-returns-2
+returns-2 c =
+    let r = c .before .before in
+    let k = r .before .before in
+    c .none2 .ensures ∙ sym (ap (spanOf (words k)) (look-wrong (words k) (bytes k) (right (r .before)) (sym (stores r) ∙ not-true _ (c .before .if2 .taken))))
+
+store-number-requires : tie.Need-store-number-requires
+store-number-requires c κs =
+    let k = known c in
+    let e = is (c .before .before) in
+    (subst (λ (h : Shape). h .bits ≤ 64) (sym e) (formed (words k) (right (c .before .before)) .head .room .few), subst (λ (h : Shape). storeRight (h .bits) (bytes k) ≡ true) (sym e) (stored c))
+
+find-store-requires : tie.Need-find-store-requires
+find-store-requires c κs = let e = c .before .before .before in (right e, ap (λ (h : Shape). h .count) (is e))
+
+none-requires-3 : tie.Need-none-requires-3
+none-requires-3 c κs = search needs
+
+returns-3 : tie.Need-returns-3
+returns-3 c =
+    let f = c .before .before in
+    let t = f .before .before in
+    let k = known t in
+    c .none3 .ensures ∙ sym (ap (spanOf (words k)) (look t ∙ ap placed (sym (found-at f) ∙ c .before .if3 .taken)))
+
+mul-w : tie.Need-mul-w
+mul-w c = let q = width (c .before) in omega arith
+
+add-t10 : tie.Need-add-t10
+add-t10 c = let q = inside (c .before) in omega arith
+
+mul-t11 : tie.Need-mul-t11
+mul-t11 c = let q = width (c .before) in let r = mul-le-mul q q in omega arith
+
+mul-t12 : tie.Need-mul-t12
+mul-t12 c = let q = width (c .before) in let r = mul-le-mul q q in omega arith
+
+returns-4 : tie.Need-returns-4
+returns-4 c =
+    let f = c .before .before in
+    let t = f .before .before in
+    let k = known t in
+    (λ i. record { start = f .find-store .result + 3; size = (is (t .before .before) i .dim * is (t .before .before) i .dim) * (is (t .before .before) i .dim * is (t .before .before) i .dim) * 5 })
+    ∙ sym (ap (spanOf (words k)) (look t ∙ ap placed (sym (found-at f)) ∙ placed-found (f .find-store .result) (omega arith)))
+
+pub locate-spec : {M : Type 1} → statement M
+locate-spec =
+    tie.close
+    (tie.spec
+    judge-requires
+    none-requires
+    returns
+    right-store-requires
+    none-requires-2
+    returns-2
+    store-number-requires
+    find-store-requires
+    none-requires-3
+    returns-3
+    mul-w
+    add-t10
+    mul-t11
+    mul-t12
+    returns-4)

@@ -1,0 +1,82 @@
+-- `well_formed::judge` meets its contract.
+use mathlib.Core.Path.{_≡_, sym, ap, _∙_, subst}
+use mathlib.Core.Bool.{true, false}
+use mathlib.Core.List.{List}
+use Prim.Native.Nat.{_*_}
+use native.Mathlib.Omega.{arith}
+use lib.IntN.{ℤ}
+use borrow.Author.Tests.{not-true, not-false}
+use Rattle.channel.specs.declared.Shape.{Shape}
+use Rattle.channel.specs.Layout.{word}
+use Rattle.channel.specs.WellFormed.{Room, headerOk, chainOk, chained, shapeAt}
+use Rattle.channel.proofs.Judging.{headed, shape-test, shape-is, shape-no, shape-of, bad-header, well-formed}
+use borrow.Author.Needs.{needs}
+use Rattle.channel.proofs.well_formed.judge.Statement.{statement}
+use Rattle.channel.proofs.well_formed.judge.Tie as tie
+
+abbrev words : tie.After-struct-known → List ℤ
+words c = c .before .before .args .s .now
+
+abbrev shape : tie.After-struct-known → Shape
+shape c = c .before .header .result
+
+tested : (c : tie.After-struct-known) → shape c .ok ≡ headerOk (words c)
+tested c = shape-test (words c) (headerOk (words c)) (shape c) (c .before .header .ensures)
+
+-- the header is right
+module _ (c : tie.Else1) where
+  right : headerOk (words (c .before)) ≡ true
+  right = sym (tested (c .before)) ∙ not-false _ (c .if1 .left)
+
+  is : shape (c .before) ≡ shapeAt (words (c .before))
+  is = shape-is (words (c .before)) (headerOk (words (c .before))) (shape (c .before)) (c .before .before .header .ensures) (not-false _ (c .if1 .left))
+
+  room : Room (words (c .before)) (shape (c .before) .dim * shape (c .before) .dim) (shape (c .before) .bits) (shape (c .before) .count)
+  room = subst (λ (h : Shape). Room (words (c .before)) (h .dim * h .dim) (h .bits) (h .count)) (sym is) (headed (words (c .before)) right .room)
+
+chains : (c : tie.After-chain-ok) → c .chain-ok .result ≡ chained (words (c .before .before))
+chains c =
+    let l = words (c .before .before) in
+    c .chain-ok .ensures ∙ ap (λ (h : Shape). chainOk l (h .dim * h .dim) (h .bits) (h .count) (h .count) (word l 3) true 0) (is (c .before))
+
+header-requires : tie.Need-header-requires
+header-requires c κs = search needs
+
+returns : tie.Need-returns
+returns c =
+    let k = c .before in
+    let no = not-true _ (c .if1 .taken) in
+    shape-of (words k) false _ (shape-no (words k) (headerOk (words k)) (shape k) (k .before .header .ensures) no) (bad-header (words k) (sym (tested k) ∙ no))
+
+mul-chain-ok : tie.Need-mul-chain-ok
+mul-chain-ok c = let r = room c .width in omega arith
+
+chain-ok-requires : tie.Need-chain-ok-requires
+chain-ok-requires c κs = room c
+
+malformed-requires : tie.Need-malformed-requires
+malformed-requires c κs = search needs
+
+returns-2 : tie.Need-returns-2
+returns-2 c =
+    let k = c .before .before in
+    let e = k .before in
+    shape-of (words (e .before)) false _ (c .malformed .ensures) (well-formed (words (e .before)) false (right e) (sym (chains k) ∙ not-true _ (c .before .if2 .taken)))
+
+returns-3 : tie.Need-returns-3
+returns-3 c =
+    let k = c .before in
+    let e = k .before in
+    shape-of (words (e .before)) true _ (is e) (well-formed (words (e .before)) true (right e) (sym (chains k) ∙ not-false _ (c .if2 .left)))
+
+pub judge-spec : {M : Type 1} → statement M
+judge-spec =
+    tie.close
+    (tie.spec
+    header-requires
+    returns
+    mul-chain-ok
+    chain-ok-requires
+    malformed-requires
+    returns-2
+    returns-3)

@@ -1,0 +1,123 @@
+-- The words of a channel: a header, then records end to end, chained by next indices in the order of their stores.
+use mathlib.Core.Bool.{Bool, true, false, cond, _&&_, _||_}
+use mathlib.Core.List.{List, [], _∷_, _++_}
+use Prim.Native.Nat.{ℕ, zero, suc, _+_, _*_, _-_, _/_, _%_, _^_}
+use lib.Dec.{eqb, ltb}
+use lib.ListN.{getD}
+use lib.IntN.{ℤ, pos, natAbs}
+use Rattle.algebra.specs.Words.{joined}
+use Rattle.scalar.specs.Exact.{Exact}
+use Rattle.scalar.specs.Cells.{cellSize, cellAt, cells}
+
+-- ---- sizes and places
+-- dim, bit count, block count, index of the first block
+abbrev pub headerSize : ℕ
+headerSize = 4
+
+-- next, store bits 0 to 31, store bits 32 to 63
+abbrev pub recordHead : ℕ
+recordHead = 3
+
+-- a block of a channel of dimension d has d² rows and columns
+abbrev pub side : ℕ → ℕ
+side d = d * d
+
+-- the words of a record whose matrix has w rows and columns
+abbrev pub recordSize : ℕ → ℕ
+recordSize w = recordHead + w * w * cellSize
+
+-- the index of record j
+abbrev pub recordAt : ℕ → ℕ → ℕ
+recordAt w j = headerSize + j * recordSize w
+
+-- the place of entry k, row · w + column, of the record at `at`
+abbrev pub entryPlace : ℕ → ℕ → ℕ
+entryPlace at k = at + recordHead + k * cellSize
+
+abbrev pub entryAt : List ℤ → ℕ → ℕ → Exact
+entryAt l at k = cellAt l (entryPlace at k)
+
+abbrev pub word : List ℤ → ℕ → ℤ
+word l at = getD l at (pos 0)
+
+-- ---- stores: bit j weighs 2^j
+-- bits 0 to n − 1
+abbrev pub bits : ℕ → ℕ → List ℕ
+bits zero x = []
+bits (suc n) x = x % 2 ∷ bits n (x / 2)
+
+-- 0 before 1, at the first bit that differs
+abbrev pub precedes : List ℕ → List ℕ → Bool
+precedes [] ys = false
+precedes (x ∷ xs) [] = false
+precedes (x ∷ xs) (y ∷ ys) = cond (eqb x y) (precedes xs ys) (ltb x y)
+
+-- stores in rising order, read from bit 0 on
+unfoldable pub before : ℕ → ℕ → Bool
+before x y = precedes (bits 64 x) (bits 64 y)
+
+-- the store of a list of bits, bit 0 first
+abbrev pub storeOf : List ℕ → ℕ
+storeOf [] = 0
+storeOf (b ∷ bs) = b + 2 * storeOf bs
+
+-- the store in two words
+abbrev pub storeFrom : ℤ → ℤ → ℕ
+storeFrom low high = natAbs low + natAbs high * 2 ^ 32
+
+abbrev pub storeAt : List ℤ → ℕ → ℕ
+storeAt l at = storeFrom (word l (at + 1)) (word l (at + 2))
+
+-- ---- blocks, and their words
+pub record Block : Type 0 where
+  pub store : ℕ
+  -- entry k, row · w + column
+  pub entry : ℕ → Exact
+
+abbrev pub recordWords : ℕ → ℕ → Block → List ℤ
+recordWords w next b = pos next ∷ pos (b .store % 2 ^ 32) ∷ pos (b .store / 2 ^ 32) ∷ cells (w * w) (b .entry)
+
+-- of the first n records, 1 more than the place of the one with the least store that passes p; 0 where none passes
+abbrev pub least : ℕ → (ℕ → ℕ) → (ℕ → Bool) → ℕ
+least zero st p = 0
+least (suc n) st p = let r = least n st p in cond (p (st n) && (eqb r 0 || before (st n) (st (r - 1)))) (suc n) r
+
+-- a place so given, as an index
+abbrev pub link : ℕ → ℕ → ℕ
+link w zero = 0
+link w (suc j) = recordAt w j
+
+-- dimension d, m bits, and n blocks in their order
+module _ (d m n : ℕ) (block : ℕ → Block) where
+  abbrev pub stores : ℕ → ℕ
+  stores j = block j .store
+
+  abbrev pub first : ℕ
+  first = link (side d) (least n stores (λ (s : ℕ). true))
+
+  abbrev pub next : ℕ → ℕ
+  next j = link (side d) (least n stores (before (stores j)))
+
+  abbrev pub header : List ℤ
+  header = pos d ∷ pos m ∷ pos n ∷ pos first ∷ []
+
+  abbrev pub channelWords : List ℤ
+  channelWords = header ++ joined n (λ (j : ℕ). recordWords (side d) (next j) (block j))
+
+-- ---- reading back
+abbrev pub dimAt : List ℤ → ℕ
+dimAt l = natAbs (word l 0)
+
+abbrev pub bitsAt : List ℤ → ℕ
+bitsAt l = natAbs (word l 1)
+
+abbrev pub countAt : List ℤ → ℕ
+countAt l = natAbs (word l 2)
+
+-- n blocks along the chain from index `at` on
+abbrev pub chain : List ℤ → ℕ → ℕ → List Block
+chain l zero at = []
+chain l (suc n) at = record { store = storeAt l at; entry = entryAt l at } ∷ chain l n (natAbs (word l at))
+
+abbrev pub readBack : List ℤ → List Block
+readBack l = chain l (countAt l) (natAbs (word l 3))

@@ -1,0 +1,57 @@
+-- The block of a store: where it lies in a channel's words.
+use mathlib.Core.Bool.{Bool, cond, _&&_}
+use mathlib.Core.List.{List, []}
+use Prim.Native.Nat.{ℕ, zero, suc, _+_, _*_}
+use lib.Dec.{eqb, leb}
+use lib.ListN.{length, getD, take, drop}
+use lib.IntN.{ℤ, natAbs}
+use Rattle.algebra.specs.Lists.{allBelow}
+use Rattle.scalar.specs.Cells.{cellSize}
+use Rattle.channel.specs.declared.lookup.Span.{Span}
+use Rattle.channel.specs.Layout.{recordHead, side, word, storeOf, storeAt, dimAt, bitsAt, countAt}
+use Rattle.channel.specs.WellFormed.{wellFormed}
+
+-- one byte a bit, each 0 or 1
+abbrev pub storeRight : ℕ → List ℕ → Bool
+storeRight m bytes = eqb (length bytes) m && allBelow (length bytes) (λ (i : ℕ). leb (getD bytes i 0) 1)
+
+pub data Lookup : Type 0 where
+  malformed : Lookup
+  wrongStore : Lookup
+  missing : Lookup
+  -- the index of the store's record
+  found : ℕ → Lookup
+
+-- the index of the record with store s among n along the chain from `at` on; 0 where there is none
+unfoldable pub find : List ℤ → ℕ → ℕ → ℕ → ℕ
+find l s zero at = 0
+find l s (suc n) at = cond (eqb (storeAt l at) s) at (find l s n (natAbs (word l at)))
+
+abbrev pub placed : ℕ → Lookup
+placed zero = missing
+placed (suc a) = found (suc a)
+
+abbrev pub lookupOf : List ℤ → List ℕ → Lookup
+lookupOf l bytes =
+    cond (wellFormed l) (cond (storeRight (bitsAt l) bytes) (placed (find l (storeOf bytes) (countAt l) (natAbs (word l 3)))) wrongStore) malformed
+
+-- the words of a block's entries
+abbrev pub blockWords : List ℤ → ℕ
+blockWords l = side (dimAt l) * side (dimAt l) * cellSize
+
+-- the part of the words that holds the block's entries, or an empty part
+abbrev pub partOf : List ℤ → Lookup → List ℤ
+partOf l malformed = []
+partOf l wrongStore = []
+partOf l missing = []
+partOf l (found at) = take (blockWords l) (drop (at + recordHead) l)
+
+-- where that part starts, and its size
+abbrev pub noSpan : Span
+noSpan = record { start = 0; size = 0 }
+
+abbrev pub spanOf : List ℤ → Lookup → Span
+spanOf l malformed = noSpan
+spanOf l wrongStore = noSpan
+spanOf l missing = noSpan
+spanOf l (found at) = record { start = at + recordHead; size = blockWords l }

@@ -1,0 +1,90 @@
+-- Well-formed channels.
+use mathlib.Core.Path.{_≡_}
+use mathlib.Core.Bool.{Bool, true, false, cond, _&&_, _||_}
+use mathlib.Core.List.{List}
+use Prim.Native.Nat.{ℕ, zero, suc, _+_, _*_, _-_, _/_, _%_, _^_, _≤_}
+use lib.Dec.{eqb, leb, ltb}
+use lib.ListN.{length}
+use lib.IntN.{ℤ, pos, negsuc, natAbs}
+use Rattle.algebra.specs.Lists.{allBelow}
+use Rattle.algebra.specs.Words.{eqℤ, upTo}
+use Rattle.scalar.specs.Cells.{wellFormedAt}
+use Rattle.channel.specs.declared.Shape.{Shape}
+use Rattle.channel.specs.declared.well_formed.Judged.{Judged}
+use Rattle.channel.specs.Layout.{headerSize, recordSize, entryPlace, side, word, storeFrom, before, storeAt, dimAt, bitsAt, countAt}
+
+abbrev pub isDim : ℤ → Bool
+isDim z = (((eqℤ z (pos 1) || eqℤ z (pos 2)) || eqℤ z (pos 4)) || eqℤ z (pos 8)) || eqℤ z (pos 16)
+
+-- the records lie inside the words
+abbrev pub counted : List ℤ → Bool
+counted l = upTo ((length l - headerSize) / recordSize (side (dimAt l))) (word l 2)
+
+abbrev pub headerOk : List ℤ → Bool
+headerOk l = leb headerSize (length l) && ((isDim (word l 0) && upTo 64 (word l 1)) && counted l)
+
+-- an index at which one of `count` records starts
+abbrev pub isStart : ℕ → ℕ → ℤ → Bool
+isStart w count (pos a) = leb headerSize a && (eqb ((a - headerSize) % recordSize w) 0 && ltb ((a - headerSize) / recordSize w) count)
+isStart w count (negsuc a) = false
+
+-- both words in range, and the bits beyond the m-th zero
+abbrev pub wordsOk : ℤ → ℤ → ℕ → Bool
+wordsOk low high m = (upTo (2 ^ 32 - 1) low && upTo (2 ^ 32 - 1) high) && ltb (storeFrom low high) (2 ^ m)
+
+abbrev pub storeOk : List ℤ → ℕ → ℕ → Bool
+storeOk l at m = wordsOk (word l (at + 1)) (word l (at + 2)) m
+
+abbrev pub entriesOk : List ℤ → ℕ → ℕ → Bool
+entriesOk l at n = allBelow n (λ (k : ℕ). wellFormedAt l (entryPlace at k))
+
+-- the first store, or one that comes after the store before it
+abbrev pub rises : Bool → ℕ → ℕ → Bool
+rises first prev s = first || before prev s
+
+-- what is asked of the record of side w at `at`, in a channel of m bits
+abbrev pub recordOk : List ℤ → ℕ → ℕ → ℕ → Bool → ℕ → Bool
+recordOk l w m at first prev = storeOk l at m && (rises first prev (storeAt l at) && entriesOk l at (w * w))
+
+-- n of `count` records along the chain from index z on, in rising order, and then its end
+unfoldable pub chainOk : List ℤ → ℕ → ℕ → ℕ → ℕ → ℤ → Bool → ℕ → Bool
+chainOk l w m count zero z first prev = eqℤ z (pos 0)
+chainOk l w m count (suc n) z first prev =
+    isStart w count z && (recordOk l w m (natAbs z) first prev && chainOk l w m count n (word l (natAbs z)) false (storeAt l (natAbs z)))
+
+abbrev pub chained : List ℤ → Bool
+chained l = chainOk l (side (dimAt l)) (bitsAt l) (countAt l) (countAt l) (word l 3) true 0
+
+unfoldable pub wellFormed : List ℤ → Bool
+wellFormed l = headerOk l && chained l
+
+-- the header's numbers, or zeros where the channel is malformed
+abbrev pub noShape : Shape
+noShape = record { ok = false; dim = 0; bits = 0; count = 0 }
+
+abbrev pub shapeAt : List ℤ → Shape
+shapeAt l = record { ok = true; dim = dimAt l; bits = bitsAt l; count = countAt l }
+
+abbrev pub shapeOf : List ℤ → Shape
+shapeOf l = cond (wellFormed l) (shapeAt l) noShape
+
+-- a store, or 0 where the test of its record fails
+abbrev pub judged : Bool → ℕ → Judged
+judged b s = record { ok = b; store = cond b s 0 }
+
+-- the header alone
+abbrev pub headerOf : List ℤ → Shape
+headerOf l = cond (headerOk l) (shapeAt l) noShape
+
+-- room for `count` records of side w
+pub record Room (l : List ℤ) (w m count : ℕ) : Type 0 where
+  pub width : w ≤ 256
+  pub few : m ≤ 64
+  pub inside : headerSize + count * recordSize w ≤ length l
+
+-- a walk along a well-formed chain: n records are left, from index `at` on
+pub record Onward (l : List ℤ) (n at : ℕ) : Type 0 where
+  pub right : wellFormed l ≡ true
+  pub first : Bool
+  pub prev : ℕ
+  pub ahead : chainOk l (side (dimAt l)) (bitsAt l) (countAt l) n (pos at) first prev ≡ true

@@ -1,0 +1,249 @@
+// The comparison of two channels: their chains are walked in step, and the blocks of each store compared entry by entry.
+use super::layout::CELL;
+use super::layout::RECORD_HEAD;
+use super::layout::comes_before;
+use super::layout::follow;
+use super::layout::read_store;
+use super::well_formed::judge;
+use scalar::Scalar;
+use scalar::cells::read_cell;
+ghost use mathlib.Core.Path.{_≡_};
+ghost use mathlib.Core.Bool.{true};
+ghost use Prim.Native.Nat.{ℕ, _*_, _<_, _≤_};
+ghost use Rattle.scalar.specs.Calls.{value, scalarOf};
+ghost use Rattle.channel.specs.Layout.{readBack};
+ghost use Rattle.channel.specs.WellFormed.{Onward};
+ghost use Rattle.channel.specs.Compare.{equal, isSame, plain, scan, first, merge, compareOf};
+ghost use Rattle.channel.specs.Walk.{sideAt, bothAt, turnOf, cursorAt, advance, On, Held, Matched};
+
+// Bit j of a store weighs 2^j.
+pub struct Place {
+    pub store: u64,
+    pub row: usize,
+    pub col: usize,
+}
+
+// Document 01's number of Refused is 10.
+pub enum Found {
+    Refused,
+    Same,
+    Dimensions,
+    Entry(Place),
+}
+
+// Both scalars are zero unless an entry differs.
+pub struct Difference {
+    pub found: Found,
+    pub left: Scalar,
+    pub right: Scalar,
+}
+
+// The sides that have a block of the next store.
+pub struct Turn {
+    pub left: bool,
+    pub right: bool,
+    pub store: u64,
+}
+
+// A place on a chain: the index of the next record, how many are left, and the record's store (0 at the end).
+pub struct Cursor {
+    pub at: usize,
+    pub left: usize,
+    pub store: u64,
+}
+
+pub fn without_entry(f: Found) -> Difference
+    ensures { λ r. ⌜ r ≡ plain f ⌝ }
+{
+    let z = Scalar { n: [0; 4], e: 0 };
+    Difference {
+        found: f,
+        left: z,
+        right: z,
+    }
+}
+
+pub fn is_same(d: Difference) -> bool
+    ensures { λ r. ⌜ r ≡ isSame (d .found) ⌝ }
+{
+    let f = d.found;
+    match f {
+        Found::Refused => false,
+        Found::Same => true,
+        Found::Dimensions => false,
+        Found::Entry(_) => false,
+    }
+}
+
+pub fn same_scalar(s: Scalar, t: Scalar) -> bool
+    ensures { λ r. ⌜ r ≡ equal (value s) (value t) ⌝ }
+{
+    let x = s.n;
+    let y = t.n;
+    let e = s.e;
+    let f = t.e;
+    (x[0] == y[0]) & (x[1] == y[1]) & (x[2] == y[2]) & (x[3] == y[3]) & (e == f)
+}
+
+// Entry k of the record at `at`, or zero where the side has no block.
+pub fn entry_or_zero(has: bool, s: &[i64], at: usize, k: usize) -> Scalar
+    requires { ⌜ Held has (now s) at k ⌝ }
+    ensures { λ r. ⌜ r ≡ scalarOf (sideAt has (now (s .entry)) at k) ⌝ }
+{
+    if has {
+        read_cell(s, at + RECORD_HEAD + k * CELL)
+    } else {
+        Scalar { n: [0; 4], e: 0 }
+    }
+}
+
+// The first unequal entry of the blocks of one store, rows then columns.
+pub fn compare_block(
+    t: Turn,
+    left: &[i64],
+    i: usize,
+    right: &[i64],
+    j: usize,
+    w: usize,
+) -> Difference
+    requires { ⌜ (w ≤ 256) × ((k : ℕ) → k < w * w → Held (t .left) (now left) i k × Held (t .right) (now right) j k) ⌝ }
+    ensures { λ r. ⌜ r ≡ scan (bothAt t (now (left .entry)) i (now (right .entry)) j) w (w * w) 0 ⌝ }
+{
+    let on_left = t.left;
+    let on_right = t.right;
+    let store = t.store;
+    let mut found = without_entry(Found::Same);
+    let mut k = 0;
+    let mut row = 0;
+    'rows: while row < w {
+        let mut col = 0;
+        while col < w {
+            let x = entry_or_zero(on_left, left, i, k);
+            let y = entry_or_zero(on_right, right, j, k);
+            if !same_scalar(x, y) {
+                let place = Place { store, row, col };
+                found = Difference {
+                    found: Found::Entry(place),
+                    left: x,
+                    right: y,
+                };
+                break 'rows;
+            }
+            k += 1;
+            col += 1;
+        }
+        row += 1;
+    }
+    found
+}
+
+// The next of n records, at index `at`.
+pub fn enter(s: &[i64], n: usize, at: usize) -> Cursor
+    requires { ⌜ Onward (now s) n at ⌝ }
+    ensures { λ r. ⌜ r ≡ cursorAt (now (s .entry)) n at ⌝ }
+{
+    if 0 < n {
+        let store = read_store(s, at);
+        return Cursor { at, left: n, store };
+    }
+    Cursor {
+        at,
+        left: n,
+        store: 0,
+    }
+}
+
+// The record after the cursor's, if its side took part.
+pub fn advanced(b: bool, s: &[i64], c: Cursor) -> Cursor
+    requires { ⌜ On (now s) c × (b ≡ true → 0 < c .left) ⌝ }
+    ensures { λ r. ⌜ r ≡ advance b (now (s .entry)) c ⌝ }
+{
+    if !b {
+        return c;
+    }
+    let at = c.at;
+    let n = c.left - 1;
+    let next = follow(s, at);
+    enter(s, n, next)
+}
+
+// The sides that have the least of two cursors' stores.
+pub fn choose(a: Cursor, b: Cursor) -> Turn
+    ensures { λ r. ⌜ r ≡ turnOf a b ⌝ }
+{
+    let x = a.store;
+    let y = b.store;
+    let m = a.left;
+    let n = b.left;
+    if m == 0 {
+        return Turn {
+            left: false,
+            right: true,
+            store: y,
+        };
+    }
+    if n == 0 {
+        return Turn {
+            left: true,
+            right: false,
+            store: x,
+        };
+    }
+    if x == y {
+        return Turn {
+            left: true,
+            right: true,
+            store: x,
+        };
+    }
+    if comes_before(x, y) {
+        return Turn {
+            left: true,
+            right: false,
+            store: x,
+        };
+    }
+    Turn {
+        left: false,
+        right: true,
+        store: y,
+    }
+}
+
+// The first unequal entry along two chains, walked in step.
+pub fn compare_chains(left: &[i64], right: &[i64], m: usize, n: usize, w: usize) -> Difference
+    requires { ⌜ Matched (now left) (now right) m n w ⌝ }
+    ensures { λ r. ⌜ r ≡ first w (merge (readBack (now (left .entry))) (readBack (now (right .entry)))) ⌝ }
+{
+    let mut a = enter(left, m, follow(left, 3));
+    let mut b = enter(right, n, follow(right, 3));
+    while (0 < a.left) | (0 < b.left) {
+        let t = choose(a, b);
+        let d = compare_block(t, left, a.at, right, b.at, w);
+        if !is_same(d) {
+            return d;
+        }
+        a = advanced(t.left, left, a);
+        b = advanced(t.right, right, b);
+    }
+    without_entry(Found::Same)
+}
+
+// The first entry at which two channels differ: the stores of both in rising order, then rows, then columns; a missing block is zero.
+pub fn compare(left: &[i64], right: &[i64]) -> Difference
+    ensures { λ r. ⌜ r ≡ compareOf (now (left .entry)) (now (right .entry)) ⌝ }
+{
+    let g = judge(left);
+    if !g.ok {
+        return without_entry(Found::Refused);
+    }
+    let h = judge(right);
+    if !h.ok {
+        return without_entry(Found::Refused);
+    }
+    if !((g.dim == h.dim) & (g.bits == h.bits)) {
+        return without_entry(Found::Dimensions);
+    }
+    let d = g.dim;
+    compare_chains(left, right, g.count, h.count, d * d)
+}

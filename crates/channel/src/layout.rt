@@ -1,0 +1,93 @@
+// The words of a channel: sizes, starts of records, stores and their order, and the chain.
+ghost use mathlib.Core.Path.{_≡_};
+ghost use mathlib.Core.Bool.{true};
+ghost use Prim.Native.Nat.{_+_, _<_, _≤_, _^_, _-_};
+ghost use lib.Dec.{ltb};
+ghost use lib.ListN.{length};
+ghost use lib.IntN.{pos, natAbs};
+ghost use Rattle.algebra.specs.Words.{upTo};
+ghost use Rattle.channel.specs.Layout.{recordSize, storeFrom, before, storeAt, word};
+ghost use Rattle.channel.specs.WellFormed.{isStart};
+
+pub const HEADER: usize = 4;
+
+pub const RECORD_HEAD: usize = 3;
+
+pub const CELL: usize = 5;
+
+// The words of a record whose matrix has w rows and columns.
+pub fn record_size(w: usize) -> usize
+    requires { ⌜ w ≤ 256 ⌝ }
+    ensures { λ r. ⌜ r ≡ recordSize w ⌝ }
+{
+    RECORD_HEAD + w * w * CELL
+}
+
+// Whether a word is a number from 0 to n.
+pub fn up_to(n: u64, x: i64) -> bool
+    ensures { λ r. ⌜ r ≡ upTo n x ⌝ }
+{
+    if x < 0 {
+        return false;
+    }
+    x as u64 <= n
+}
+
+// Whether one of `count` records starts at index z.
+pub fn is_start(w: usize, count: usize, z: i64) -> bool
+    requires { ⌜ w ≤ 256 ⌝ }
+    ensures { λ r. ⌜ r ≡ isStart w count z ⌝ }
+{
+    if z < 4 {
+        return false;
+    }
+    let size = record_size(w);
+    let a = z as usize - HEADER;
+    (a % size == 0) & (a / size < count)
+}
+
+// Whether store x comes before store y: the first bit that differs is 0 in x.
+pub fn comes_before(x: u64, y: u64) -> bool
+    ensures { λ r. ⌜ r ≡ before x y ⌝ }
+{
+    let t = u64::trailing_zeros(x ^ y);
+    if t < 64 { (y >> t) & 1 == 1 } else { false }
+}
+
+// A store from its two words.
+pub fn join(low: i64, high: i64) -> u64
+    requires { ⌜ (upTo (2 ^ 32 - 1) low ≡ true) × (upTo (2 ^ 32 - 1) high ≡ true) ⌝ }
+    ensures { λ r. ⌜ r ≡ storeFrom low high ⌝ }
+{
+    low as u64 + high as u64 * 4294967296
+}
+
+// The store of the record at `at`.
+pub fn read_store(s: &[i64], at: usize) -> u64
+    requires { ⌜ (at + 3 ≤ length (now s)) × ((upTo (2 ^ 32 - 1) (word (now s) (at + 1)) ≡ true) × (upTo (2 ^ 32 - 1) (word (now s) (at + 2)) ≡ true)) ⌝ }
+    ensures { λ r. ⌜ r ≡ storeAt (now (s .entry)) at ⌝ }
+{
+    let low = s[at + 1];
+    let high = s[at + 2];
+    join(low, high)
+}
+
+// Whether a store has no bit beyond its first m.
+pub fn fits_bits(store: u64, m: u32) -> bool
+    requires { ⌜ m ≤ 64 ⌝ }
+    ensures { λ r. ⌜ r ≡ ltb store (2 ^ m) ⌝ }
+{
+    if m < 64 {
+        return store >> m == 0;
+    }
+    true
+}
+
+// The index in a word of the chain.
+pub fn follow(s: &[i64], at: usize) -> usize
+    requires { ⌜ (at < length (now s)) × (word (now s) at ≡ pos (natAbs (word (now s) at))) ⌝ }
+    ensures { λ r. ⌜ r ≡ natAbs (word (now (s .entry)) at) ⌝ }
+{
+    let z = s[at];
+    z as usize
+}

@@ -1,0 +1,107 @@
+// The block of a store, as a part of the channel's words.
+use super::layout::CELL;
+use super::layout::RECORD_HEAD;
+use super::layout::follow;
+use super::layout::read_store;
+use super::well_formed::judge;
+ghost use mathlib.Core.Path.{_≡_};
+ghost use mathlib.Core.Bool.{true};
+ghost use Prim.Native.Nat.{_≤_};
+ghost use lib.IntN.{natAbs};
+ghost use Rattle.channel.specs.Layout.{storeOf, word, countAt};
+ghost use Rattle.channel.specs.WellFormed.{wellFormed};
+ghost use Rattle.channel.specs.Lookup.{storeRight, find, lookupOf, partOf, spanOf, noSpan};
+
+// A part of a slice.
+pub struct Span {
+    pub start: usize,
+    pub size: usize,
+}
+
+pub fn none() -> Span
+    ensures { λ r. ⌜ r ≡ noSpan ⌝ }
+{
+    Span { start: 0, size: 0 }
+}
+
+// Whether a store has m bytes, each 0 or 1.
+pub fn right_store(m: u32, bytes: &[u8]) -> bool
+    ensures { λ r. ⌜ r ≡ storeRight m (now (bytes .entry)) ⌝ }
+{
+    if bytes.len() != m as usize {
+        return false;
+    }
+    let mut i = 0;
+    while i < bytes.len() {
+        if 1 < bytes[i] {
+            return false;
+        }
+        i += 1;
+    }
+    true
+}
+
+// The store of a list of bits, bit 0 first.
+pub fn store_number(m: u32, bytes: &[u8]) -> u64
+    requires { ⌜ (m ≤ 64) × (storeRight m (now bytes) ≡ true) ⌝ }
+    ensures { λ r. ⌜ r ≡ storeOf (now (bytes .entry)) ⌝ }
+{
+    let mut x = 0;
+    let mut i = bytes.len();
+    while 0 < i {
+        i -= 1;
+        x = bytes[i] as u64 + 2 * x;
+    }
+    x
+}
+
+// The index of the record of a store in a well-formed channel of `count` blocks, or 0.
+pub fn find_store(s: &[i64], store: u64, count: usize) -> usize
+    requires { ⌜ (wellFormed (now s) ≡ true) × (count ≡ countAt (now s)) ⌝ }
+    ensures { λ r. ⌜ r ≡ find (now (s .entry)) store count (natAbs (word (now (s .entry)) 3)) ⌝ }
+{
+    let mut at = follow(s, 3);
+    let mut left = count;
+    while 0 < left {
+        if read_store(s, at) == store {
+            return at;
+        }
+        at = follow(s, at);
+        left -= 1;
+    }
+    0
+}
+
+// Where the entries of a store's block lie.
+pub fn locate(s: &[i64], store: &[u8]) -> Span
+    ensures { λ r. ⌜ r ≡ spanOf (now (s .entry)) (lookupOf (now (s .entry)) (now (store .entry))) ⌝ }
+{
+    let h = judge(s);
+    if !h.ok {
+        return none();
+    }
+    let m = h.bits;
+    if !right_store(m, store) {
+        return none();
+    }
+    let at = find_store(s, store_number(m, store), h.count);
+    if at == 0 {
+        return none();
+    }
+    let w = h.dim * h.dim;
+    Span {
+        start: at + RECORD_HEAD,
+        size: w * w * CELL,
+    }
+}
+
+// The part of the channel's words that holds the entries of a store's block: empty for a malformed channel, for a store of the
+// wrong length or with a byte above 1, and where the channel has no such block.
+pub fn lookup<'a>(channel: &'a [i64], store: &[u8]) -> &'a [i64]
+    ensures { λ r. ⌜ now r ≡ partOf (now (channel .entry)) (lookupOf (now (channel .entry)) (now (store .entry))) ⌝ }
+{
+    let p = locate(channel, store);
+    let a = p.start;
+    let e = a + p.size;
+    &channel[a..e]
+}

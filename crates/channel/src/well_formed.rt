@@ -1,0 +1,184 @@
+// Whether words are a well-formed channel. Each word is read once.
+use super::Shape;
+use super::layout::CELL;
+use super::layout::HEADER;
+use super::layout::RECORD_HEAD;
+use super::layout::comes_before;
+use super::layout::fits_bits;
+use super::layout::is_start;
+use super::layout::join;
+use super::layout::record_size;
+use super::layout::up_to;
+use scalar::cells::well_formed_at;
+ghost use mathlib.Core.Path.{_≡_};
+ghost use mathlib.Core.Bool.{true, false};
+ghost use Prim.Native.Nat.{_+_, _≤_};
+ghost use lib.ListN.{length};
+ghost use Rattle.channel.specs.Layout.{recordSize, entryPlace, storeFrom, storeAt, word};
+ghost use Rattle.channel.specs.WellFormed.{judged, isDim, wordsOk, storeOk, entriesOk, recordOk, chainOk, Room, wellFormed, headerOf, shapeOf, noShape};
+
+// What is found of a record: its store, or `ok` false and 0.
+pub struct Judged {
+    pub ok: bool,
+    pub store: u64,
+}
+
+pub fn bad() -> Judged
+    ensures { λ r. ⌜ r ≡ judged false 0 ⌝ }
+{
+    Judged {
+        ok: false,
+        store: 0,
+    }
+}
+
+pub fn is_dim(z: i64) -> bool
+    ensures { λ r. ⌜ r ≡ isDim z ⌝ }
+{
+    (z == 1) | (z == 2) | (z == 4) | (z == 8) | (z == 16)
+}
+
+// The store in two words, if it has at most m bits.
+pub fn judge_words(low: i64, high: i64, m: u32) -> Judged
+    requires { ⌜ m ≤ 64 ⌝ }
+    ensures { λ r. ⌜ r ≡ judged (wordsOk low high m) (storeFrom low high) ⌝ }
+{
+    if !(up_to(4294967295, low) & up_to(4294967295, high)) {
+        return bad();
+    }
+    let store = join(low, high);
+    if !fits_bits(store, m) {
+        return bad();
+    }
+    Judged { ok: true, store }
+}
+
+// The store of the record at `at`.
+pub fn judge_store(s: &[i64], at: usize, m: u32) -> Judged
+    requires { ⌜ (at + 3 ≤ length (now s)) × (m ≤ 64) ⌝ }
+    ensures { λ r. ⌜ r ≡ judged (storeOk (now (s .entry)) at m) (storeAt (now (s .entry)) at) ⌝ }
+{
+    let low = s[at + 1];
+    let high = s[at + 2];
+    judge_words(low, high, m)
+}
+
+// Whether n entries of the record at `at` are scalars in range and in lowest form.
+pub fn entries_ok(s: &[i64], at: usize, n: usize) -> bool
+    requires { ⌜ entryPlace at n ≤ length (now s) ⌝ }
+    ensures { λ r. ⌜ r ≡ entriesOk (now (s .entry)) at n ⌝ }
+{
+    let mut k = 0;
+    while k < n {
+        if !well_formed_at(s, at + RECORD_HEAD + k * CELL) {
+            return false;
+        }
+        k += 1;
+    }
+    true
+}
+
+// The record at `at`, whose store is to come after `prev` unless it is the first.
+pub fn judge_record(s: &[i64], at: usize, w: usize, m: u32, first: bool, prev: u64) -> Judged
+    requires { ⌜ (w ≤ 256) × ((m ≤ 64) × (at + recordSize w ≤ length (now s))) ⌝ }
+    ensures { λ r. ⌜ r ≡ judged (recordOk (now (s .entry)) w m at first prev) (storeAt (now (s .entry)) at) ⌝ }
+{
+    let j = judge_store(s, at, m);
+    if !j.ok {
+        return bad();
+    }
+    let store = j.store;
+    if !(first | comes_before(prev, store)) {
+        return bad();
+    }
+    if !entries_ok(s, at, w * w) {
+        return bad();
+    }
+    Judged { ok: true, store }
+}
+
+// Whether the chain visits `count` records in rising order of their stores, and ends.
+pub fn chain_ok(s: &[i64], w: usize, m: u32, count: usize) -> bool
+    requires { ⌜ Room (now s) w m count ⌝ }
+    ensures { λ r. ⌜ r ≡ chainOk (now (s .entry)) w m count count (word (now (s .entry)) 3) true 0 ⌝ }
+{
+    let mut z = s[3];
+    let mut first = true;
+    let mut prev = 0;
+    let mut left = count;
+    while 0 < left {
+        if !is_start(w, count, z) {
+            return false;
+        }
+        let at = z as usize;
+        let j = judge_record(s, at, w, m, first, prev);
+        if !j.ok {
+            return false;
+        }
+        z = s[at];
+        first = false;
+        prev = j.store;
+        left -= 1;
+    }
+    z == 0
+}
+
+pub fn malformed() -> Shape
+    ensures { λ r. ⌜ r ≡ noShape ⌝ }
+{
+    Shape {
+        ok: false,
+        dim: 0,
+        bits: 0,
+        count: 0,
+    }
+}
+
+// The header, if it and the room for its records are right.
+pub fn header(s: &[i64]) -> Shape
+    ensures { λ r. ⌜ r ≡ headerOf (now (s .entry)) ⌝ }
+{
+    if s.len() < HEADER {
+        return malformed();
+    }
+    let dim = s[0];
+    let bits = s[1];
+    let count = s[2];
+    if !(is_dim(dim) & up_to(64, bits)) {
+        return malformed();
+    }
+    let d = dim as usize;
+    let size = record_size(d * d);
+    let most = (s.len() - HEADER) / size;
+    if !up_to(most as u64, count) {
+        return malformed();
+    }
+    Shape {
+        ok: true,
+        dim: d,
+        bits: bits as u32,
+        count: count as usize,
+    }
+}
+
+// The header of a well-formed channel.
+pub fn judge(s: &[i64]) -> Shape
+    ensures { λ r. ⌜ r ≡ shapeOf (now (s .entry)) ⌝ }
+{
+    let h = header(s);
+    if !h.ok {
+        return h;
+    }
+    let d = h.dim;
+    if !chain_ok(s, d * d, h.bits, h.count) {
+        return malformed();
+    }
+    h
+}
+
+pub fn well_formed(s: &[i64]) -> bool
+    ensures { λ r. ⌜ r ≡ wellFormed (now (s .entry)) ⌝ }
+{
+    let h = judge(s);
+    h.ok
+}

@@ -1,0 +1,36 @@
+-- Question by question along a list: what the first element decides, and what it leaves to the rest.
+use mathlib.Core.Path.{_≡_, refl, sym, ap, _∙_}
+use mathlib.Core.Bool.{Bool, true, false, _&&_}
+use mathlib.Core.List.{List, [], _∷_}
+use Prim.Native.Nat.{ℕ, zero, suc, _+_, _-_, _*_, _/_, _≤_, _<_}
+use native.Mathlib.Numerals.{add-one}
+use native.Mathlib.Omega.{arith}
+use lib.ListN.{length, getD, drop, drop-of-length-le}
+use lib.Seq.{drop-cons}
+use Rattle.algebra.specs.Lists.{every}
+use Rattle.gate.specs.declared.judge.GateVerdict.{GateVerdict}
+use Rattle.gate.specs.Gate.{Gate, gateAt, gatesFrom}
+use Rattle.gate.proofs.Listed.{gates-more, gates-none}
+use Rattle.circuit.specs.declared.verdict.Verdict.{Verdict}
+use Rattle.circuit.specs.declared.verdict.Verdict.the-variants.{Accepted}
+use Rattle.circuit.specs.Questions.{atGate, gatesVerdict}
+
+-- ---- gates
+module _ (ws : List ℕ) (fault : Gate → GateVerdict) where
+  abbrev pub verdictFrom : ℕ → Verdict
+  verdictFrom i = gatesVerdict fault i (gatesFrom ws i (length ws / 5 - i))
+
+  pub verdict-more : (i : ℕ) (g : Gate) (f : GateVerdict) → i < length ws / 5 → g ≡ gateAt ws (i * 5) → f ≡ fault g → verdictFrom i ≡ atGate i f (verdictFrom (i + 1))
+  verdict-more i g f l e h =
+      ap (gatesVerdict fault i) (gates-more ws (length ws / 5) i l) ∙ rw (sym e, h, add-one i)
+
+  pub verdict-none : (i : ℕ) → length ws / 5 ≤ i → verdictFrom i ≡ Accepted
+  verdict-none i l = ap (gatesVerdict fault i) (gates-none ws (length ws / 5) i l)
+
+-- ---- bytes
+module _ (p : ℕ → Bool) (s : List ℕ) where
+  pub every-more : (i : ℕ) → i < length s → every p (drop i s) ≡ p (getD s i 0) && every p (drop (i + 1) s)
+  every-more i l = rw (add-one i, drop-cons s i 0)
+
+  pub every-none : (i : ℕ) → length s ≤ i → every p (drop i s) ≡ true
+  every-none i l = ap (every p) (drop-of-length-le s l)

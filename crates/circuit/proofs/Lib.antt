@@ -1,0 +1,5 @@
+pub mod Counts
+pub mod Products
+pub mod Gates
+pub mod Numbers
+pub mod Bench

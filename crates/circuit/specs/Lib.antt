@@ -1,0 +1,5 @@
+pub mod Limits
+pub mod Footprint
+pub mod Sizes
+pub mod Questions
+pub mod Claims

@@ -1,0 +1,9 @@
+pub mod Words
+pub mod Adding
+pub mod Summing
+pub mod Recording
+pub mod Linking
+pub mod Whole
+pub mod Branching
+pub mod Delivering
+pub mod Held

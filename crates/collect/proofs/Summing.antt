@@ -1,0 +1,132 @@
+-- The block of a store while it is summed branch by branch.
+use mathlib.Core.Path.{_≡_, refl, sym, ap, _∙_, subst}
+use mathlib.Core.Bool.{Bool, true, false, cond}
+use mathlib.Core.List.{List, [], _∷_}
+use Prim.Native.Nat.{ℕ, zero, suc, _+_, _*_, _/_, _%_, _≤_, _<_}
+use native.Mathlib.Nat.{le-refl}
+use native.Mathlib.Numerals.{add-one}
+use native.Mathlib.Omega.{arith}
+use lib.Arith.{digits-lt, digits-div, digits-mod}
+use lib.ListN.{length}
+use lib.IntN.{ℤ, pos}
+use lib.Dec.{leb}
+use borrow.Author.Tests.{le-leb}
+use Rattle.algebra.specs.Words.{fillWords}
+use Rattle.algebra.proofs.Blocks.{Writing, wrote, long, length-blocks, block-in, blocks-same, blocks-over}
+use Rattle.scalar.specs.Exact.{Exact, exact, conj, isLowest, maxExponent}
+use Rattle.scalar.specs.Cells.{cellAt, cellWords, exponentAt, fill}
+use Rattle.scalar.specs.Inner.{Room}
+use Rattle.scalar.proofs.Exact.{add-lowest}
+use Rattle.scalar.proofs.Cell.{cell-filled, exponent-filled}
+use Rattle.matrix.proofs.Rows.{zero-cells}
+use Rattle.branches.specs.Bank.{branchSize}
+use Rattle.collect.specs.Overlap.{blockOverlapped, Sum, Block}
+use Rattle.collect.specs.Bank.{place, storeOf, entry, has, overlaps, Branch, Bank}
+
+pub bank-branch : {l : List ℤ} {at d n : ℕ} → Bank l at d n → (j : ℕ) → j < n → Branch l at d j
+bank-branch {d = d} b j h = record { dim = b .dim; room = omega (arith, b .room, block-in h (branchSize d)); store = b .stores j h }
+
+-- ---- one branch more
+module _ (l : List ℤ) (at d : ℕ) where
+  -- entry (r, c) with the overlap of branch n added
+  abbrev more : ℕ → ℕ → ℕ → Exact → Exact
+  more n r c x = exact ._⊕_ x (exact ._⊗_ (entry l at d n r) (conj (entry l at d n c)))
+
+  overlaps-step : (n s r c : ℕ) (t : Bool) → has l at d s n ≡ t → overlaps l at d (n + 1) s r c ≡ cond t (more n r c (overlaps l at d n s r c)) (overlaps l at d n s r c)
+  unfolding overlaps
+  overlaps-step n s r c t e = ap (λ (k : ℕ). overlaps l at d k s r c) (add-one n) ∙ ap (λ (b : Bool). cond b (more n r c (overlaps l at d n s r c)) (overlaps l at d n s r c)) e
+
+  overlaps-none : (s r c : ℕ) → overlaps l at d 0 s r c ≡ exact .𝟘
+  unfolding overlaps
+  overlaps-none s r c = refl
+
+  overlaps-lowest : (n s r c : ℕ) → isLowest (overlaps l at d n s r c) ≡ true
+  unfolding overlaps
+  overlaps-lowest zero s r c = refl
+  overlaps-lowest (suc n) s r c = go (has l at d s n) (overlaps-lowest n s r c)
+    where
+      go : (t : Bool) → isLowest (overlaps l at d n s r c) ≡ true → isLowest (cond t (more n r c (overlaps l at d n s r c)) (overlaps l at d n s r c)) ≡ true
+      go true h = add-lowest (overlaps l at d n s r c) (exact ._⊗_ (entry l at d n r) (conj (entry l at d n c)))
+      go false h = h
+
+-- ---- b is m with the block of the first j branches that have the store s, written to `out`
+pub record Summed (m : List ℤ) (out : ℕ) (l : List ℤ) (at d s : ℕ) (b : List ℤ) (j : ℕ) : Type 0 where
+  pub writing : Writing 5 m out (d * d * (d * d)) (λ (k : ℕ). cellWords (overlaps l at d j s (k / (d * d)) (k % (d * d)))) b (d * d * (d * d))
+
+module _ (l : List ℤ) (at d s : ℕ) where
+  -- entry k of the block after j branches
+  abbrev after : ℕ → ℕ → Exact
+  after j k = overlaps l at d j s (k / (d * d)) (k % (d * d))
+
+module _ {m : List ℤ} {out : ℕ} {l : List ℤ} {at d s : ℕ} where
+  written : {b : List ℤ} {j : ℕ} → b ≡ fill m out (d * d * (d * d)) (after l at d s j) → Summed m out l at d s b j
+  written e = record { writing = wrote (λ k. le-refl 5) e }
+
+  module _ (room : out + d * d * (d * d) * 5 ≤ length m) {b : List ℤ} {j : ℕ} (ws : Summed m out l at d s b j) where
+    at-is : (k : ℕ) → k < d * d * (d * d) → cellAt b (out + k * 5) ≡ after l at d s j k
+    at-is k h = ap (λ (n : List ℤ). cellAt n (out + k * 5)) (ws .writing .is) ∙ cell-filled (after l at d s j) m out (d * d * (d * d)) k h room
+
+    entry-is : (r c : ℕ) → r < d * d → c < d * d → after l at d s j (r * (d * d) + c) ≡ overlaps l at d j s r c
+    entry-is r c hr hc = λ i. overlaps l at d j s (digits-div r hc i) (digits-mod r hc i)
+
+    pub summed-more : {n : List ℤ} → n ≡ cond (has l at d s j) (fill b out (d * d * (d * d)) (blockOverlapped b out l (place at d j) (d * d))) b → Summed m out l at d s n (j + 1)
+    summed-more {n} e = go (has l at d s j) refl e
+      where
+        go : (t : Bool) → has l at d s j ≡ t → n ≡ cond t (fill b out (d * d * (d * d)) (blockOverlapped b out l (place at d j) (d * d))) b → Summed m out l at d s n (j + 1)
+        go true h f = written
+            (f
+            ∙ blocks-same 5 b out (d * d * (d * d)) _ _ (λ k hk. ap cellWords (ap (more l at d j (k / (d * d)) (k % (d * d))) (at-is k hk) ∙ sym (overlaps-step l at d j s (k / (d * d)) (k % (d * d)) true h)))
+            ∙ ap (λ (p : List ℤ). fill p out (d * d * (d * d)) (after l at d s (j + 1))) (ws .writing .is)
+            ∙ blocks-over 5 m out (d * d * (d * d)) _ _ (λ i. refl) (λ i. refl) room)
+        go false h f = written (f ∙ ws .writing .is ∙ blocks-same 5 m out (d * d * (d * d)) _ _ (λ k hk. ap cellWords (sym (overlaps-step l at d j s (k / (d * d)) (k % (d * d)) false h))))
+
+-- from words that were cleared before
+pub record Cleared (m : List ℤ) (out d : ℕ) (b : List ℤ) : Type 0 where
+  pub room : out + d * d * (d * d) * 5 ≤ length m
+  pub is : b ≡ fillWords m out (d * d * (d * d) * 5) (λ (i : ℕ). pos 0)
+
+module _ {m : List ℤ} {out d : ℕ} {b : List ℤ} (z : Cleared m out d b) where
+  cleared : (f : ℕ → Exact) → fill b out (d * d * (d * d)) f ≡ fill m out (d * d * (d * d)) f
+  cleared f = ap (λ (n : List ℤ). fill n out (d * d * (d * d)) f) (z .is ∙ zero-cells m out (d * d * (d * d))) ∙ blocks-over 5 m out (d * d * (d * d)) _ _ (λ i. refl) (λ i. refl) (z .room)
+
+  pub none-summed : (l : List ℤ) (at s : ℕ) → Summed b out l at d s b 0
+  none-summed l at s = written (z .is ∙ zero-cells m out (d * d * (d * d)) ∙ sym (cleared (λ (k : ℕ). exact .𝟘)) ∙ blocks-same 5 b out (d * d * (d * d)) _ _ (λ k h. ap cellWords (sym (overlaps-none l at d s (k / (d * d)) (k % (d * d))))))
+
+  pub all-summed : {l : List ℤ} {at s j n : ℕ} {r : List ℤ} → Summed b out l at d s r j → j ≡ n → r ≡ fill m out (d * d * (d * d)) (λ (k : ℕ). overlaps l at d n s (k / (d * d)) (k % (d * d)))
+  all-summed {l} {at} {s} {j} {n} ws h = ws .writing .is ∙ cleared (after l at d s j) ∙ ap (λ (i : ℕ). fill m out (d * d * (d * d)) (after l at d s i)) h
+
+  cleared-long : length b ≡ length m
+  cleared-long = ap length (z .is) ∙ length-blocks 1 m out (λ (i : ℕ). pos 0 ∷ []) (d * d * (d * d) * 5)
+
+  pub cleared-room : out + d * d * (d * d) * 5 ≤ length b
+  cleared-room = omega (arith, cleared-long, z .room)
+
+  pub summed-long : {l : List ℤ} {at s j : ℕ} {r : List ℤ} → Summed b out l at d s r j → length r ≡ length m
+  summed-long ws = long (ws .writing) ∙ cleared-long
+
+-- a bank's branch j may be added to the block of its branch i
+pub addable : {m : List ℤ} {out : ℕ} {l : List ℤ} {at d n : ℕ} (bank : Bank l at d n) {i j : ℕ} (hi : i < n) (hj : j < n) (room : out + d * d * (d * d) * 5 ≤ length m) {b : List ℤ}
+    → Summed m out l at d (storeOf l at d i) b j → Block b out l (place at d j) (d * d)
+addable {m} {out} {l} {at} {d} {n} bank {i} {j} hi hj room {b} ws =
+    record {
+      room = omega (arith, room, long (ws .writing));
+      factors = λ k h. bank .entries j k hj h;
+      sums = sums;
+    }
+  where
+    s : ℕ
+    s = storeOf l at d i
+
+    sums : (r c : ℕ) → r < d * d → c < d * d → Sum b (out + (r * (d * d) + c) * 5) (entry l at d j r .exp + entry l at d j c .exp)
+    sums r c hr hc =
+        let k = r * (d * d) + c in
+        let hk : k < d * d * (d * d) = digits-lt hr hc in
+        let is : cellAt b (out + k * 5) ≡ overlaps l at d j s r c = at-is room ws k hk ∙ entry-is room ws r c hr hc in
+        let small = bank .sums i j r c hi hj hr hc in
+        record {
+          room = omega (arith, room, long (ws .writing), block-in hk 5);
+          exponent = ap (λ (p : List ℤ). exponentAt p (out + k * 5)) (ws .writing .is) ∙ exponent-filled (after l at d s j) m out (d * d * (d * d)) k hk room
+              ∙ ap (λ (x : Exact). leb (x .exp) maxExponent) (entry-is room ws r c hr hc) ∙ le-leb (overlaps l at d j s r c .exp) maxExponent (omega (arith, small .exponent));
+          lowest = ap isLowest is ∙ overlaps-lowest l at d j s r c;
+          small = subst (Room _) (sym is) small;
+        }

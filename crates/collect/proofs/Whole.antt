@@ -1,0 +1,133 @@
+-- The words of a channel: records written with no links, then linked, then headed.
+use mathlib.Core.Path.{_≡_, refl, sym, ap, _∙_}
+use mathlib.Core.Bool.{true}
+use mathlib.Core.List.{List, [], _∷_, _++_, append-assoc}
+use Prim.Native.Nat.{ℕ, zero, suc, _+_, _*_, _-_, _/_, _%_, _^_, _≤_, _<_}
+use native.Mathlib.Nat.{le-refl, add-comm, div-add-mod', mod-lt}
+use native.Mathlib.Omega.{arith}
+use lib.Pow.{pow-pos}
+use lib.ListN.{length, getD, set, take, drop, length-append, length-take}
+use lib.Seq.{sets, sets-eq, drop-at, getD-set-other}
+use lib.IntN.{ℤ, pos}
+use borrow.Author.Tests.{le-leb}
+use Rattle.algebra.specs.Words.{blocks, upTo}
+use Rattle.algebra.specs.Words as words
+use Rattle.algebra.proofs.Blocks.{wrote, rest, block-in, length-blocks, blocks-at, blocks-same, blocks-over, blocks-parts, length-joined, joined-same}
+use Rattle.scalar.specs.Cells.{cells}
+use Rattle.scalar.proofs.Cell.{cells-same}
+use Rattle.channel.specs.Layout.{Block, headerSize, recordSize, recordAt, word, side, storeFrom, before, link, next, first, header, recordWords, channelWords}
+use Rattle.channel.proofs.Words.{square-small}
+use Rattle.collect.specs.Links.{blockIn, linked, headed, Records}
+use Rattle.collect.specs.Delivered.{overwritten}
+use Rattle.collect.proofs.Words.{sets-there}
+use Rattle.collect.proofs.Recording.{length-record}
+use Rattle.collect.proofs.Linking.{least-same, storesIn, Linked, store-kept}
+
+-- a head written before words that are there is the whole block written
+heads-whole : (s : ℕ) (l : List ℤ) (at : ℕ) (y : ℕ → ℤ) (t : ℕ → List ℤ) → ((i : ℕ) → suc (length (t i)) ≤ s) → (n : ℕ) → ((i k : ℕ) → i < n → k < length (t i) → getD l (at + i * s + suc k) (pos 0) ≡ getD (t i) k (pos 0))
+    → blocks s l at n (λ (i : ℕ). y i ∷ []) ≡ blocks s l at n (λ (i : ℕ). y i ∷ t i)
+unfolding blocks
+heads-whole s l at y t h zero e = refl
+heads-whole s l at y t h (suc n) e =
+    ap (λ (m : List ℤ). set m p (y n)) (heads-whole s l at y t h n (λ i k q. e i k (omega arith)))
+    ∙ sym (sets-there (t n) (set before′ p (y n)) (suc p) there)
+  where
+    p : ℕ
+    p = at + n * s
+
+    before′ : List ℤ
+    before′ = blocks s l at n (λ (i : ℕ). y i ∷ t i)
+
+    there : (k : ℕ) → k < length (t n) → getD (set before′ p (y n)) (suc p + k) (pos 0) ≡ getD (t n) k (pos 0)
+    there k q =
+        let f : suc p + k ≡ p + suc k = omega arith in
+        getD-set-other before′ p (suc p + k) (y n) (pos 0) (λ u. omega arith)
+        ∙ ap (λ (w : ℕ). getD before′ w (pos 0)) f
+        ∙ rest (wrote {s = s} {l = l} {at = at} {n = n} {f = λ (i : ℕ). y i ∷ t i} h refl) p s (le-refl p) .word (p + suc k) (omega arith) (omega (arith, h n))
+        ∙ e n k (omega arith) q
+
+module _ (l : List ℤ) (d m n : ℕ) (B : ℕ → Block) (room : headerSize + n * recordSize (side d) ≤ length l) where
+  -- the records, and with next indices
+  abbrev unlinked : List ℤ
+  unlinked = blocks (recordSize (side d)) l headerSize n (λ (j : ℕ). recordWords (side d) 0 (B j))
+
+  abbrev whole : List ℤ
+  whole = blocks (recordSize (side d)) l headerSize n (λ (j : ℕ). recordWords (side d) (next d m n B j) (B j))
+
+  sized : (x j : ℕ) → length (recordWords (side d) x (B j)) ≡ recordSize (side d)
+  sized x j = length-record (side d) x (B j)
+
+  word-read : (j k : ℕ) → j < n → k < recordSize (side d) → word unlinked (recordAt (side d) j + k) ≡ getD (recordWords (side d) 0 (B j)) k (pos 0)
+  word-read j k h q = blocks-at (recordSize (side d)) l headerSize (λ (j : ℕ). recordWords (side d) 0 (B j)) (λ i. omega (arith, sized 0 i)) n j k h (omega (arith, sized 0 j)) room
+
+  store-read : (j : ℕ) → j < n → storesIn unlinked d j ≡ B j .store
+  store-read j h =
+      (λ i. storeFrom (word-read j 1 h (omega arith) i) (word-read j 2 h (omega arith) i))
+      ∙ add-comm (B j .store % 2 ^ 32) (B j .store / 2 ^ 32 * 2 ^ 32) ∙ div-add-mod' (B j .store) (2 ^ 32)
+
+  linked-whole : linked d n unlinked ≡ whole
+  linked-whole =
+      blocks-same (recordSize (side d)) unlinked headerSize n _ (λ (j : ℕ). pos (next d m n B j) ∷ [])
+      (λ j h. ap (λ (k : ℕ). pos (link (side d) k) ∷ []) (least-same n (storesIn unlinked d) (λ (i : ℕ). B i .store) (before (storesIn unlinked d j)) (before (B j .store)) store-read (ap before (store-read j h))))
+      ∙ heads-whole (recordSize (side d)) unlinked headerSize (λ (j : ℕ). pos (next d m n B j)) (λ (j : ℕ). pos (B j .store % 2 ^ 32) ∷ pos (B j .store / 2 ^ 32) ∷ cells (side d * side d) (B j .entry))
+      (λ j. omega (arith, sized 0 j)) n (λ j k h q. word-read j (suc k) h (omega (arith, sized 0 j)))
+      ∙ blocks-over (recordSize (side d)) l headerSize n (λ (j : ℕ). recordWords (side d) 0 (B j)) (λ (j : ℕ). recordWords (side d) (next d m n B j) (B j)) (sized 0) (λ j. sized (next d m n B j) j) room
+
+  first-whole : {b : List ℤ} → b ≡ linked d n unlinked → first d m n (blockIn b (side d)) ≡ first d m n B
+  first-whole {b} e = ap (link (side d)) (least-same n (storesIn b d) (λ (i : ℕ). B i .store) (λ (s : ℕ). true) (λ (s : ℕ). true) (λ i h. store-kept linking i ∙ store-read i h) refl)
+    where
+      linking : Linked unlinked d n b n
+      linking = record { writing = wrote (λ k. omega arith) e }
+
+  -- the header over the first words
+  headed-whole : sets whole 0 (header d m n B) ≡ overwritten (channelWords d m n B) l
+  headed-whole =
+      sets-eq (header d m n B) whole 0 (omega (arith, length-blocks (recordSize (side d)) l headerSize (λ (j : ℕ). recordWords (side d) (next d m n B j) (B j)) n))
+      ∙ ap (λ (t : List ℤ). header d m n B ++ t)
+      (ap (drop 4) (blocks-parts (recordSize (side d)) (λ (j : ℕ). recordWords (side d) (next d m n B j) (B j)) (λ j. sized (next d m n B j) j) l headerSize n room ∙ append-assoc (take 4 l) recs (drop (headerSize + n * recordSize (side d)) l))
+      ∙ drop-at (take 4 l) (recs ++ drop (headerSize + n * recordSize (side d)) l) 4 (simp length-take (omega arith)))
+      ∙ sym (append-assoc (header d m n B) recs (drop (headerSize + n * recordSize (side d)) l))
+      ∙ ap (λ (k : ℕ). (header d m n B ++ recs) ++ drop k l) (sym size)
+    where
+      recs : List ℤ
+      recs = words.joined n (λ (j : ℕ). recordWords (side d) (next d m n B j) (B j))
+
+      size : length (header d m n B ++ recs) ≡ headerSize + n * recordSize (side d)
+      size = length-append (header d m n B) recs ∙ ap (λ (k : ℕ). 4 + k) (length-joined (recordSize (side d)) (λ (j : ℕ). recordWords (side d) (next d m n B j) (B j)) (λ j. sized (next d m n B j) j) n)
+
+  -- what is left once the records are linked and headed
+  pub delivered : {a b c : List ℤ} → a ≡ unlinked → b ≡ linked d n a → c ≡ headed d m n b → c ≡ overwritten (channelWords d m n B) l
+  delivered {a} {b} {c} e f g =
+      let linked-b : b ≡ linked d n unlinked = f ∙ ap (linked d n) e in
+      g
+      ∙ (λ i. sets ((linked-b ∙ linked-whole) i) 0 (pos d ∷ pos m ∷ pos n ∷ pos (first-whole linked-b i) ∷ []))
+      ∙ headed-whole
+
+  -- the records may be linked, where there are few and their stores have 64 bits
+  pub linkable : d ≤ 16 → n ≤ 64 → ((j : ℕ) → j < n → B j .store < 2 ^ 64) → {a : List ℤ} → a ≡ unlinked → Records a d n
+  linkable small few narrow {a} e = record {
+    dim = small;
+    few = few;
+    long = omega (arith, room, size);
+    stored = λ j h. record {
+      width = square-small d small;
+      room = omega (arith, room, size, block-in h (recordSize (side d)));
+      low = ap (λ (b : List ℤ). upTo (2 ^ 32 - 1) (word b (recordAt (side d) j + 1))) e ∙ ap (upTo (2 ^ 32 - 1)) (word-read j 1 h (omega arith)) ∙ le-leb (B j .store % 2 ^ 32) (2 ^ 32 - 1) (omega (arith, mod-lt (B j .store) (pow-pos 32)));
+      high = ap (λ (b : List ℤ). upTo (2 ^ 32 - 1) (word b (recordAt (side d) j + 2))) e ∙ ap (upTo (2 ^ 32 - 1)) (word-read j 2 h (omega arith)) ∙ le-leb (B j .store / 2 ^ 32) (2 ^ 32 - 1) (omega (arith, narrow j h));
+    };
+  }
+    where
+      size : length a ≡ length l
+      size = ap length e ∙ length-blocks (recordSize (side d)) l headerSize (λ (j : ℕ). recordWords (side d) 0 (B j)) n
+
+-- ---- two ways to give the same blocks
+pub channel-same : (d m n : ℕ) (B C : ℕ → Block) → ((j : ℕ) → j < n → B j .store ≡ C j .store) → ((j k : ℕ) → j < n → k < side d * side d → B j .entry k ≡ C j .entry k)
+    → channelWords d m n B ≡ channelWords d m n C
+channel-same d m n B C e f =
+    λ i. (pos d ∷ pos m ∷ pos n ∷ pos (link (side d) (least-same n (λ (j : ℕ). B j .store) (λ (j : ℕ). C j .store) (λ (s : ℕ). true) (λ (s : ℕ). true) e refl i)) ∷ [])
+    ++ joined-same n (λ (j : ℕ). recordWords (side d) (next d m n B j) (B j)) (λ (j : ℕ). recordWords (side d) (next d m n C j) (C j)) one i
+  where
+    one : (j : ℕ) → j < n → recordWords (side d) (next d m n B j) (B j) ≡ recordWords (side d) (next d m n C j) (C j)
+    one j h = λ i.
+        pos (link (side d) (least-same n (λ (j : ℕ). B j .store) (λ (j : ℕ). C j .store) (before (B j .store)) (before (C j .store)) e (ap before (e j h)) i))
+        ∷ pos (e j h i % 2 ^ 32) ∷ pos (e j h i / 2 ^ 32) ∷ cells-same (side d * side d) (B j .entry) (C j .entry) (λ k q. f j k h q) i

@@ -1,0 +1,46 @@
+-- Words that are written where they stand already.
+use mathlib.Core.Path.{_≡_, refl, sym, ap, _∙_}
+use mathlib.Core.Bool.{true, true≢false}
+use mathlib.Core.List.{List, [], _∷_}
+use Prim.Native.Nat.{ℕ, zero, suc, _+_, _*_, _<_}
+use native.Mathlib.Nat.{add-zero}
+use native.Mathlib.Omega.{arith}
+use lib.ListN.{length, getD, set}
+use lib.Seq.{sets, set-getD}
+use lib.IntN.{ℤ, pos, negsuc, natAbs}
+use Rattle.algebra.specs.Words.{blocks, upTo}
+use Rattle.scalar.specs.Exact.{Exact}
+use Rattle.scalar.specs.Cells.{cellWords, cellAt, exponentAt, fill}
+
+pub sets-there : (vs l : List ℤ) (at : ℕ) → ((k : ℕ) → k < length vs → getD l (at + k) (pos 0) ≡ getD vs k (pos 0)) → sets l at vs ≡ l
+sets-there [] l at h = refl
+sets-there (a ∷ vs) l at h = ap (λ (m : List ℤ). sets m (suc at) vs) first ∙ sets-there vs l (suc at) (λ k p. rest k p)
+  where
+    first : set l at a ≡ l
+    first = ap (set l at) (sym (h 0 (omega arith)) ∙ ap (λ (w : ℕ). getD l w (pos 0)) (add-zero at)) ∙ set-getD l at (pos 0)
+
+    rest : (k : ℕ) → k < length vs → getD l (suc at + k) (pos 0) ≡ getD vs k (pos 0)
+    rest k p = let e : suc at + k ≡ at + suc k = omega arith in ap (λ (w : ℕ). getD l w (pos 0)) e ∙ h (suc k) (omega arith)
+
+natural : (n : ℕ) (z : ℤ) → upTo n z ≡ true → z ≡ pos (natAbs z)
+natural n (pos a) e = refl
+natural n (negsuc a) e = absurd (true≢false (sym e))
+
+pub cell-there : (l : List ℤ) (at : ℕ) → exponentAt l at ≡ true → sets l at (cellWords (cellAt l at)) ≡ l
+cell-there l at e = sets-there (cellWords (cellAt l at)) l at by
+  where
+    by : (k : ℕ) → k < 5 → getD l (at + k) (pos 0) ≡ getD (cellWords (cellAt l at)) k (pos 0)
+    by zero h = ap (λ (w : ℕ). getD l w (pos 0)) (add-zero at)
+    by (suc zero) h = refl
+    by (suc (suc zero)) h = refl
+    by (suc (suc (suc zero))) h = refl
+    by (suc (suc (suc (suc zero)))) h = natural 60 _ e
+    by (suc (suc (suc (suc (suc k))))) h = absurd (omega arith)
+
+-- n numbers
+pub fill-there : (l : List ℤ) (at n : ℕ) (f : ℕ → Exact) → ((i : ℕ) → i < n → exponentAt l (at + i * 5) ≡ true) → ((i : ℕ) → i < n → f i ≡ cellAt l (at + i * 5)) → fill l at n f ≡ l
+unfolding blocks
+fill-there l at zero f h e = refl
+fill-there l at (suc n) f h e =
+    (λ i. sets (fill-there l at n f (λ k p. h k (omega arith)) (λ k p. e k (omega arith)) i) (at + n * 5) (cellWords (e n (omega arith) i)))
+    ∙ cell-there l (at + n * 5) (h n (omega arith))

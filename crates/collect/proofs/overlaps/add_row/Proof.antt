@@ -1,0 +1,113 @@
+-- `collect::overlaps::add_row` meets its contract.
+use mathlib.Core.Path.{_≡_, sym, ap, _∙_, subst}
+use Prim.Native.Nat.{ℕ, _+_, _*_, _-_, _≤_}
+use native.Mathlib.Nat.{le-refl}
+use native.Mathlib.Omega.{arith}
+use lib.ListN.{length}
+use Rattle.algebra.proofs.Blocks.{Writing, begin, again, done, long, rest, Same}
+use Rattle.scalar.specs.Exact.{Exact, exact, conj}
+use Rattle.scalar.specs.Calls.{value}
+use Rattle.scalar.specs.Cells.{cellWords, cellAt}
+use Rattle.scalar.specs.Inner.{Coords}
+use Rattle.scalar.proofs.Cell.{cell-same}
+use Rattle.collect.specs.Overlap.{overlapped, Sum}
+use Rattle.collect.proofs.Adding.{row-none, sum-same}
+use Rattle.collect.proofs.overlaps.add_row.Statement.{statement}
+use Rattle.collect.proofs.overlaps.add_row.Tie as tie
+
+abbrev Inv-loop : tie.InvT-loop
+Inv-loop result₀ to work p k w x c₀ result c = Writing 5 result₀ to w (λ (c : ℕ). cellWords (overlapped result₀ (to + c * 5) (cellAt work p) work (k + c * 5))) result c
+
+abbrev μ-loop : tie.MeasureT-loop
+μ-loop result₀ to work p k w x c₀ result c = w - c
+
+module _ (t : tie.In-loop Inv-loop μ-loop) where
+  abbrev s : tie.Start Inv-loop μ-loop
+  s = t .before .before .before .before .before
+
+  q-in : s .args .k + t .before .loop .c * 5 + 5 ≤ length (s .args .work .now)
+  q-in = s .pre .factors (t .before .loop .c) (t .loop-test .taken) .room
+
+  own : Same (t .before .loop .result) (s .args .result .now) (s .args .to + t .before .loop .c * 5) 5
+  own = rest (t .before .loop .inv) (s .args .to + t .before .loop .c * 5) 5 (le-refl _)
+
+  scale : value (t .before .before .read-cell .result) ≡ cellAt (s .args .work .now) (s .args .p)
+  scale = ap value (t .before .before .read-cell .ensures)
+
+zero-at-requires : tie.Need-zero-at-requires Inv-loop μ-loop
+zero-at-requires c κs = c .pre .scale .room
+
+returns : tie.Need-returns Inv-loop μ-loop
+returns c =
+    let z = c .before in
+    row-none (z .before .pre) (sym (z .zero-at .ensures) ∙ c .if1 .taken)
+
+read-cell-requires : tie.Need-read-cell-requires Inv-loop μ-loop
+read-cell-requires c κs = let s = c .before .before .pre .scale in (s .room, s .exponent)
+
+loop-holds : tie.Need-loop-holds Inv-loop μ-loop
+loop-holds c = begin (λ k. le-refl 5)
+
+mul-add-overlap : tie.Need-mul-add-overlap Inv-loop μ-loop
+mul-add-overlap c = omega (arith, s (c .before) .pre .room)
+
+add-add-overlap : tie.Need-add-add-overlap Inv-loop μ-loop
+add-add-overlap c = omega (arith, s (c .before) .pre .room)
+
+mul-add-overlap-2 : tie.Need-mul-add-overlap-2 Inv-loop μ-loop
+mul-add-overlap-2 c = omega (arith, q-in (c .before))
+
+add-add-overlap-2 : tie.Need-add-add-overlap-2 Inv-loop μ-loop
+add-add-overlap-2 c = omega (arith, q-in (c .before))
+
+add-overlap-requires : tie.Need-add-overlap-requires Inv-loop μ-loop
+add-overlap-requires c κs =
+    let t = c .before in
+    let i = t .before .loop .c in
+    let h = t .loop-test .taken in
+    let x = sym (scale t) in
+    let n = s t .args in (
+      subst (λ (v : Exact). Sum (t .before .loop .result) (n .to + i * 5) (v .exp + cellAt (n .work .now) (n .k + i * 5) .exp)) x (sum-same (own t) (s t .pre .sums i h)),
+      (subst (Coords 1 28) x (s t .pre .scale .coords), s t .pre .factors i h),
+    )
+
+add-c : tie.Need-add-c Inv-loop μ-loop
+add-c c = omega arith
+
+loop-less : tie.Need-loop-less Inv-loop μ-loop
+loop-less c = omega arith
+
+loop-again : tie.Need-loop-again Inv-loop μ-loop
+loop-again c =
+    let a = c .before in
+    let t = a .before .before in
+    let n = s t .args in
+    let q = cellAt (n .work .now) (n .k + t .before .loop .c * 5) in
+    again (t .before .loop .inv) (t .loop-test .taken) (a .add-overlap .ensures) (ap cellWords (λ i. exact ._⊕_ (cell-same (own t) i) (exact ._⊗_ (scale t i) (conj q))))
+
+same-length : tie.Need-same-length Inv-loop μ-loop
+same-length c = long (c .before .loop .inv)
+
+returns-2 : tie.Need-returns-2 Inv-loop μ-loop
+returns-2 c = done (c .before .loop .inv) (c .loop-test .left)
+
+pub add-row-spec : {M : Type 1} → statement M
+add-row-spec =
+    tie.close
+    (tie.spec
+    Inv-loop
+    μ-loop
+    zero-at-requires
+    returns
+    read-cell-requires
+    loop-holds
+    mul-add-overlap
+    add-add-overlap
+    mul-add-overlap-2
+    add-add-overlap-2
+    add-overlap-requires
+    add-c
+    loop-less
+    loop-again
+    same-length
+    returns-2)

@@ -1,0 +1,105 @@
+-- Branches as they are read from the words of a bank: those that survive, their stores and their blocks.
+use mathlib.Core.Path.{_≡_}
+use mathlib.Core.Bool.{Bool, cond, not, _&&_}
+use mathlib.Core.List.{List, [], _∷_, _++_}
+use Prim.Native.Nat.{ℕ, zero, suc, _+_, _*_, _/_, _%_, _<_, _≤_}
+use lib.Dec.{eqb}
+use lib.ListN.{length, getD}
+use lib.IntN.{ℤ}
+use Rattle.algebra.specs.Lists.{allBelow}
+use Rattle.scalar.specs.Exact.{Exact, exact, conj}
+use Rattle.scalar.specs.Cells.{cellSize, cellAt}
+use Rattle.scalar.specs.Inner.{Room}
+use Rattle.matrix.specs.Matrix.{zeros}
+use Rattle.matrix.specs.Factors.{Factor}
+use Rattle.kraus.specs.Dense.{tabulate}
+use Rattle.kraus.specs.Branch as kraus
+use Rattle.branches.specs.Store.{StoreAt}
+use Rattle.branches.specs.Bank.{matrixSize, branchSize}
+use Rattle.channel.specs.Layout as layout
+
+-- where branch j lies in the bank at `at`, and where its store does
+abbrev pub place : ℕ → ℕ → ℕ → ℕ
+place at d j = at + j * branchSize d
+
+abbrev pub storePlace : ℕ → ℕ → ℕ → ℕ
+storePlace at d j = place at d j + matrixSize d
+
+-- the bank at `at` of l, with matrices of d rows and columns
+module _ (l : List ℤ) (at d : ℕ) where
+  -- entry i of branch j
+  abbrev pub entry : ℕ → ℕ → Exact
+  entry j i = cellAt l (place at d j + i * cellSize)
+
+  -- the store of branch j: bit i weighs 2^i
+  abbrev pub storeOf : ℕ → ℕ
+  storeOf j = layout.storeFrom (layout.word l (storePlace at d j)) (layout.word l (storePlace at d j + 1))
+
+  -- some entry of branch j is not zero
+  abbrev pub survives : ℕ → Bool
+  survives j = not (zeros l (place at d j) (d * d))
+
+  -- branch j survives with the store s
+  abbrev pub has : ℕ → ℕ → Bool
+  has s j = eqb (storeOf j) s && survives j
+
+  -- no branch before branch b survives with its store
+  abbrev pub isFirst : ℕ → Bool
+  isFirst b = allBelow b (λ (j : ℕ). not (has (storeOf b) j))
+
+  -- branch b is the first to survive with its store
+  abbrev pub starts : ℕ → Bool
+  starts b = survives b && isFirst b
+
+  -- entry (r, c) of the block of the store s, summed over the first n branches
+  unfoldable pub overlaps : ℕ → ℕ → ℕ → ℕ → Exact
+  overlaps zero s r c = exact .𝟘
+  overlaps (suc n) s r c = cond (has s n) (exact ._⊕_ (overlaps n s r c) (exact ._⊗_ (entry n r) (conj (entry n c)))) (overlaps n s r c)
+
+  -- each store of the first n branches once, in the order of the first that survive with it
+  unfoldable pub storesOf : ℕ → List ℕ
+  storesOf zero = []
+  storesOf (suc n) = cond (starts n) (storesOf n ++ (storeOf n ∷ [])) (storesOf n)
+
+  -- the block of the store s of a bank of n branches
+  abbrev pub blockOf : ℕ → ℕ → layout.Block
+  blockOf n s = record { store = s; entry = λ k. overlaps n s (k / layout.side d) (k % layout.side d) }
+
+  -- and its record, as the last of a chain
+  abbrev pub recordOf : ℕ → ℕ → List ℤ
+  recordOf n s = layout.recordWords (layout.side d) 0 (blockOf n s)
+
+  -- the records of a bank of n branches
+  abbrev pub records : ℕ → ℕ → List ℤ
+  records n j = recordOf n (getD (storesOf n) j 0)
+
+  -- the first n branches, with m bits in a store
+  unfoldable pub bankIn : ℕ → ℕ → List kraus.Branch
+  bankIn m zero = []
+  bankIn m (suc n) = bankIn m n ++ (record { matrix = tabulate (d * d) 0 (entry n); store = layout.bits m (storeOf n) } ∷ [])
+
+-- branch j lies in the words, and its store's words are in range
+pub record Branch (l : List ℤ) (at d j : ℕ) : Type 0 where
+  pub dim : d ≤ 16
+  pub room : place at d j + branchSize d ≤ length l
+  pub store : StoreAt l (storePlace at d j)
+
+-- each of the branches up to branch b does
+abbrev pub Branches : List ℤ → ℕ → ℕ → ℕ → Type 0
+Branches l at d b = (j : ℕ) → j ≤ b → Branch l at d j
+
+-- what a bank of n branches has to be: its entries are factors, and the sums of their overlaps stay small
+pub record Bank (l : List ℤ) (at d n : ℕ) : Type 0 where
+  pub dim : d ≤ 16
+  pub few : n ≤ 64
+  pub room : at + n * branchSize d ≤ length l
+  pub stores : (j : ℕ) → j < n → StoreAt l (storePlace at d j)
+  pub entries : (j i : ℕ) → j < n → i < d * d → Factor l (place at d j + i * 5)
+  pub sums : (b j r c : ℕ) → b < n → j < n → r < d * d → c < d * d → Room (entry l at d j r .exp + entry l at d j c .exp) (overlaps l at d j (storeOf l at d b) r c)
+
+-- the records of the branches before branch b are written: n of them, and room for all of the bank's
+pub record Begun (m : List ℤ) (n : ℕ) (l : List ℤ) (at d count b : ℕ) : Type 0 where
+  pub bank : Bank l at d count
+  pub branch : b < count
+  pub so-far : n ≡ length (storesOf l at d b)
+  pub room : layout.headerSize + length (storesOf l at d count) * layout.recordSize (layout.side d) ≤ length m

@@ -1,0 +1,4 @@
+pub mod Overlap
+pub mod Bank
+pub mod Links
+pub mod Delivered

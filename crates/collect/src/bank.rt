@@ -1,0 +1,54 @@
+use channel::layout::join;
+use matrix::words::is_zero;
+ghost use mathlib.Core.Path.{_≡_};
+ghost use Prim.Native.Nat.{_*_, _<_};
+ghost use Rattle.collect.specs.Bank.{storeOf, survives, has, isFirst, Branch, Branches};
+
+// The store of branch j of the bank at `at`.
+pub fn branch_store(work: &[i64], at: usize, d: usize, j: usize) -> u64
+    requires { ⌜ Branch (now work) at d j ⌝ }
+    ensures { λ r. ⌜ r ≡ storeOf (now (work .entry)) at d j ⌝ }
+{
+    let n = d * d * 5;
+    let s = at + j * (n + 2) + n;
+    let low = work[s];
+    let high = work[s + 1];
+    join(low, high)
+}
+
+// Whether some entry of branch j is not zero.
+pub fn is_alive(work: &[i64], at: usize, d: usize, j: usize) -> bool
+    requires { ⌜ Branch (now work) at d j ⌝ }
+    ensures { λ r. ⌜ r ≡ survives (now (work .entry)) at d j ⌝ }
+{
+    let n = d * d;
+    let p = at + j * (n * 5 + 2);
+    !is_zero(work, p, n)
+}
+
+// Whether branch j survives with this store.
+pub fn has_store(work: &[i64], at: usize, d: usize, j: usize, store: u64) -> bool
+    requires { ⌜ Branch (now work) at d j ⌝ }
+    ensures { λ r. ⌜ r ≡ has (now (work .entry)) at d store j ⌝ }
+{
+    if branch_store(work, at, d, j) != store {
+        return false;
+    }
+    is_alive(work, at, d, j)
+}
+
+// Whether no branch before branch b survives with its store.
+pub fn is_first(work: &[i64], at: usize, d: usize, b: usize) -> bool
+    requires { ⌜ Branches (now work) at d b ⌝ }
+    ensures { λ r. ⌜ r ≡ isFirst (now (work .entry)) at d b ⌝ }
+{
+    let store = branch_store(work, at, d, b);
+    let mut j = 0;
+    while j < b {
+        if has_store(work, at, d, j, store) {
+            return false;
+        }
+        j += 1;
+    }
+    true
+}

@@ -1,0 +1,159 @@
+-- What acceptance says of a circuit, and of the words of its channel.
+use mathlib.Core.Path.{_≡_, refl, sym, _∙_, subst}
+use mathlib.Core.Bool.{Bool, true, false, _&&_}
+use mathlib.Core.List.{List, []}
+use Prim.Native.Nat.{ℕ, _+_, _*_, _/_, _%_, _^_, _<_, _≤_, min}
+use native.Mathlib.Nat.{mod-lt, div-lt-iff-lt-mul, mul-assoc, mul-le-mul, le-refl}
+use native.Mathlib.Omega.{arith}
+use lib.Dec.{eqb, leb}
+use lib.Pow.{pow-pos}
+use lib.ListN.{length, getD, take, length-append}
+use lib.Seq.{take-length}
+use lib.IntN.{ℤ, pos}
+use borrow.Author.Tests.{leb-true, leb-false, eqb-true}
+use Rattle.algebra.specs.Lists.{All, every, total, marks}
+use Rattle.algebra.proofs.Tests.{and-split, exhaust, holds-true}
+use Rattle.algebra.proofs.Lists.{every-all}
+use Rattle.algebra.proofs.Totals.{sub-whole, sub-filter}
+use Rattle.scalar.specs.Exact as scalar
+use Rattle.gate.specs.Gate.{Gate, gatesOf, valid, splits, weight}
+use Rattle.gate.proofs.Bits.{Word}
+use Rattle.kraus.specs.Branch.{Store, Branch, branches}
+use Rattle.kraus.specs.Blocks.{alive, survivors, stores, block}
+use Rattle.kraus.proofs.Counting.{stores-bits, store-count}
+use Rattle.kraus.proofs.Limits.{Enough, never-48, block-fits}
+use Rattle.circuit.specs.declared.limits.Limits.{Limits}
+use Rattle.circuit.specs.declared.footprint.Footprint.{Footprint}
+use Rattle.circuit.specs.declared.sizes.Sizes.{Sizes}
+use Rattle.circuit.specs.Limits.{matrixCeilings, branchCeilings}
+use Rattle.circuit.specs.Footprint.{writes, footprintOf}
+use Rattle.circuit.specs.Sizes.{cellsNeeded, resultWords, workWords}
+use Rattle.circuit.specs.Questions.{storeFits, sizesOf, withinLimits, roomFor}
+use Rattle.circuit.proofs.Products.{fourth-is}
+use Rattle.channel.specs.Layout.{side, recordSize}
+use Rattle.channel.specs.WellFormed as wf
+use Rattle.collect.specs.Delivered.{blockAt}
+use Rattle.demands.specs.Delivered.{circuitWords}
+use Rattle.demands.specs.Call.{accepts}
+use Rattle.demands.specs.Asked.{numberQuestions, asked}
+use Rattle.demands.proofs.Verdicts.{yes, gates-every, accepts-all}
+use Rattle.channel.specs.Claims.{Writable}
+use Rattle.channel.proofs.Written.{length-written}
+use Rattle.demands.proofs.Stores.{blocks-writable}
+
+-- ---- what the questions found
+pub record Sound (n m : ℕ) (σ : List ℕ) (gs : List Gate) (result work : ℕ) : Type 0 where
+  pub valid-gates : every (valid n m) gs ≡ true
+  pub qubit-count : n ≤ 4
+  pub bit-count : m ≤ 64
+  pub bytes : All (λ (v : ℕ). v < 2) σ
+  pub byte-count : length σ ≡ m
+  pub light : total weight gs ≤ 48
+  pub branch-count : 2 ^ total splits gs ≤ 64
+  pub room : resultWords (2 ^ min (total splits gs) (marks m writes gs)) (2 ^ n) ≤ result
+  pub workRoom : workWords (2 ^ total splits gs) (2 ^ n) ≤ work
+
+-- four qubits at most: one block of five does not fit the ceiling on cells
+four : (n v x c : ℕ) → n ≤ 5 → 0 < v → v * (2 ^ n) ^ 4 + x ≤ c → c ≤ 262144 → n ≤ 4
+four n v x c h p q r = go (leb n 4) refl
+  where
+    go : (b : Bool) → leb n 4 ≡ b → n ≤ 4
+    go true e = leb-true n 4 e
+    go false e =
+        let is : n ≡ 5 = omega (arith, leb-false n 4 e) in
+        let big : v * 1048576 + x ≤ c = subst (λ (k : ℕ). v * (2 ^ k) ^ 4 + x ≤ c) is q in
+        absurd (omega arith)
+
+module _ (n m : ℕ) (σ : List ℕ) (l : Limits) (ws : List ℕ) (r w : List ℤ) (e : accepts n m σ l ws r w ≡ true) where
+  abbrev gs : List Gate
+  gs = gatesOf ws
+
+  abbrev foot : Footprint
+  foot = footprintOf m gs
+
+  abbrev sizes : Sizes
+  sizes = sizesOf foot n
+
+  pub sound : Sound n m σ (gatesOf ws) (length r) (length w)
+  sound =
+      let all : every yes (asked n m σ l ws (length r) (length w)) ≡ true = sym (accepts-all n m σ l ws (length r) (length w)) ∙ e in
+      let q1 = and-split (matrixCeilings l && branchCeilings l) _ all in
+      let q2 = and-split (eqb (length ws % 5) 0) _ (q1 .1) in
+      let q3 = and-split (leb (length ws / 5) (l .«max_operations»)) _ (q2 .1) in
+      let late = and-split (every (valid n m) gs) _ (sym (gates-every n m (numberQuestions n m σ l ws (length r) (length w)) 0 gs) ∙ q3 .1) in
+      let q7 = and-split (storeFits m σ) _ (late .1) in
+      let q8 = and-split (withinLimits foot n m l) _ (q7 .1) in
+      let q9 = and-split (leb (total weight gs) 48) _ (q8 .1) in
+      let q10 = and-split (roomFor sizes (length r) (length w)) _ (q9 .1) in
+      let bytes = and-split (eqb (length σ) m) _ (q7 .0) in
+      let room = and-split (leb (resultWords (sizes .stores) (sizes .rows)) (length r)) _ (q10 .0) in
+      let low = and-split (matrixCeilings l) (branchCeilings l) (q1 .0) in
+      let low1 = and-split (leb (l .«max_qubits») 5) _ (low .0) in
+      let low2 = and-split (leb (l .«max_matrix_cells») 262144) _ (low1 .1) in
+      let low3 = and-split (leb (l .«max_branches») 64) _ (low .1) in
+      let in1 = and-split (leb m (l .«max_classical_bits»)) _ (q8 .0) in
+      let in2 = and-split (leb (sizes .branches) (l .«max_branches»)) _ (in1 .1) in
+      let in3 = and-split (leb n (l .«max_qubits»)) _ (in2 .1) in
+      let in4 = and-split (leb (cellsNeeded (sizes .branches) (sizes .stores) (sizes .rows)) (l .«max_matrix_cells»)) _ (in3 .1) in
+      record {
+        valid-gates = late .0;
+        qubit-count =
+            four n (sizes .stores) ((3 * sizes .branches + 8) * (2 ^ n) ^ 2) (l .«max_matrix_cells»)
+            (omega (arith, leb-true n (l .«max_qubits») (in3 .0), leb-true (l .«max_qubits») 5 (low1 .0))) (pow-pos (min (foot .splits) (foot .written)))
+            (leb-true _ _ (in4 .0)) (leb-true _ _ (low2 .0));
+        bit-count = omega (arith, leb-true m (l .«max_classical_bits») (in1 .0), leb-true (l .«max_classical_bits») 64 (low3 .1));
+        bytes = every-all (λ (b : ℕ). leb b 1) (λ (v : ℕ). v < 2) (λ v h. omega (arith, leb-true v 1 h)) σ (bytes .1);
+        byte-count = eqb-true (length σ) m (bytes .0);
+        light = leb-true (total weight gs) 48 (q9 .0);
+        branch-count = omega (arith, leb-true (sizes .branches) (l .«max_branches») (in2 .0), leb-true (l .«max_branches») 64 (low3 .0));
+        room = leb-true _ _ (room .0);
+        workRoom = leb-true _ _ (room .1);
+      }
+
+-- ---- the channel of such a circuit
+module _ {n m : ℕ} {σ : List ℕ} {gs : List Gate} {result work : ℕ} (s : Sound n m σ gs result work) where
+  abbrev d : ℕ
+  d = 2 ^ n
+
+  abbrev bs : List Branch
+  bs = survivors (branches n σ gs)
+
+  abbrev count : ℕ
+  count = length (stores (survivors (branches n σ gs)))
+
+  pub enough : (k : ℕ) → Enough 25 n (branches n σ (take k gs))
+  enough = never-48 n m σ gs (omega (arith, s .qubit-count)) (s .valid-gates) (s .light)
+
+  pub block-fine : (τ : Store) (i j : ℕ) → i < side (2 ^ n) → j < side (2 ^ n) → scalar.wellFormed (block (survivors (branches n σ gs)) τ i j) ≡ true
+  block-fine τ i j p q = block-fits (subst (λ (hs : List Gate). Enough 25 n (branches n σ hs)) (take-length gs) (enough (length gs)))
+      (sub-filter alive (sub-whole (branches n σ gs))) τ i j p q .well-formed
+
+  entry-fine : (j k : ℕ) → j < count → k < side d * side d → scalar.wellFormed (blockAt d bs j .entry k) ≡ true
+  entry-fine j k p q = block-fine (getD (stores bs) j []) (k / side d) (k % side d) (div-lt-iff-lt-mul some .1 q) (mod-lt k some)
+    where
+      some : 0 < side d
+      some = mul-le-mul (pow-pos n) (pow-pos n)
+
+  pub store-words : All (Word m) (stores (survivors (branches n σ gs)))
+  store-words = subst (λ (k : ℕ). All (Word k) (stores bs)) (s .byte-count) (stores-bits n σ gs (s .bytes))
+
+  dims : wf.isDim (pos (2 ^ n)) ≡ true
+  dims = holds-true (exhaust (λ (k : ℕ). wf.isDim (pos (2 ^ k))) 5 tt n (omega (arith, s .qubit-count)))
+
+  pub writable : Writable (2 ^ n) m (length (stores (survivors (branches n σ gs)))) (blockAt (2 ^ n) (survivors (branches n σ gs)))
+  writable = blocks-writable d m bs dims (s .bit-count) store-words entry-fine
+
+  -- the whole of it fits the result
+  pub channel-room : length (circuitWords n m σ gs) ≤ result
+  channel-room =
+      let few : count ≤ 2 ^ min (total splits gs) (marks m writes gs) = subst (λ (k : ℕ). count ≤ 2 ^ min (total splits gs) (marks k writes gs)) (s .byte-count) (store-count n σ gs (s .bytes)) in
+      by (2 ^ n) count (2 ^ min (total splits gs) (marks m writes gs)) (circuitWords n m σ gs) few long (s .room)
+    where
+      long : length (circuitWords n m σ gs) ≡ 4 + count * recordSize (side d)
+      long = let e = length-written d m count (blockAt d bs) [] in omega (arith, length-append (circuitWords n m σ gs) [])
+
+      by : (d c v : ℕ) (ws : List ℤ) → c ≤ v → length ws ≡ 4 + c * recordSize (side d) → resultWords v d ≤ result → length ws ≤ result
+      by d c v ws h e r =
+          let f : recordSize (side d) ≡ 3 + 5 * d ^ 4 = omega (arith, fourth-is d, mul-assoc (d * d) d d) in
+          let g : c * recordSize (side d) ≤ v * (3 + 5 * d ^ 4) = subst (λ (x : ℕ). c * recordSize (side d) ≤ v * x) f (mul-le-mul h (le-refl (recordSize (side d)))) in
+          omega arith

@@ -1,0 +1,6 @@
+pub mod Verdicts
+pub mod Reading
+pub mod Stores
+pub mod Accepted
+pub mod Channels
+pub mod Demands

@@ -1,0 +1,122 @@
+-- The blocks of a list of surviving branches: their stores are different numbers below 2^m, and the branches' order is not in them.
+use mathlib.Core.Path.{_≡_, refl, sym, ap, _∙_, subst}
+use mathlib.Core.Bool.{Bool, true, false, cond, not, _||_, true≢false}
+use mathlib.Core.List.{List, [], _∷_, map, map-map}
+use Prim.Native.Nat.{ℕ, zero, suc, _+_, _*_, _/_, _%_, _^_, _<_, _≤_}
+use native.Mathlib.Nat.{pow-suc}
+use native.Mathlib.Omega.{arith}
+use lib.ListN.{length, getD}
+use lib.IntN.{pos}
+use Rattle.algebra.specs.Lists.{All, some, filterBy}
+use Rattle.algebra.specs.Words.{fromBits}
+use Rattle.algebra.proofs.Lists.{all-getD}
+use Rattle.algebra.proofs.Trace.{join, all-back}
+use Rattle.algebra.proofs.Perm.{Perm, perm-path, map-of}
+use Rattle.scalar.specs.Exact.{wellFormed}
+use Rattle.gate.specs.Operators.{sameBits}
+use Rattle.gate.proofs.Bits.{Word, same-true, same-refl}
+use Rattle.kraus.specs.Branch.{Store, Branch}
+use Rattle.kraus.specs.Blocks.{block, stores}
+use Rattle.kraus.proofs.Stores.{other, Distinct, stores-distinct, stores-of, block-of}
+use Rattle.channel.specs.Layout.{side, bits}
+use Rattle.channel.specs.WellFormed.{isDim}
+use Rattle.channel.specs.Claims.{Writable}
+use Rattle.collect.specs.Delivered.{blockAt}
+use Rattle.demands.proofs.Reading.{Covers, range, range-map}
+
+-- ---- a store as a number
+bits-from : (τ : Store) → All (λ (b : ℕ). b < 2) τ → bits (length τ) (fromBits τ) ≡ τ
+bits-from [] h = refl
+bits-from (b ∷ τ) h =
+    let l : b < 2 = h .0 in
+    let low : (b + 2 * fromBits τ) % 2 ≡ b = omega arith in
+    let high : (b + 2 * fromBits τ) / 2 ≡ fromBits τ = omega arith in
+    (λ i. low i ∷ bits (length τ) (high i)) ∙ ap (λ (ρ : Store). b ∷ ρ) (bits-from τ (h .1))
+
+pub bits-word : (m : ℕ) (τ : Store) → Word m τ → bits m (fromBits τ) ≡ τ
+bits-word m τ (e, h) = subst (λ (k : ℕ). bits k (fromBits τ) ≡ τ) e (bits-from τ h)
+
+from-below : (τ : Store) → All (λ (b : ℕ). b < 2) τ → fromBits τ < 2 ^ length τ
+from-below [] h = omega arith
+from-below (b ∷ τ) h = omega (arith, h .0, from-below τ (h .1), pow-suc 2 (length τ))
+
+from-word : (m : ℕ) (τ : Store) → Word m τ → fromBits τ < 2 ^ m
+from-word m τ (e, h) = subst (λ (k : ℕ). fromBits τ < 2 ^ k) e (from-below τ h)
+
+-- ---- different places have different stores
+apart : (ss : List Store) → Distinct ss → (i j : ℕ) → i < length ss → j < length ss → getD ss i [] ≡ getD ss j [] → i ≡ j
+apart [] h i j l m e = absurd (omega arith)
+apart (σ ∷ ss) h zero zero l m e = refl
+apart (σ ∷ ss) h zero (suc j) l m e =
+    absurd (true≢false (sym (ap (sameBits σ) (sym e) ∙ same-refl σ) ∙ all-getD (λ (τ : Store). sameBits σ τ ≡ false) ss (h .0) j (omega arith) []))
+apart (σ ∷ ss) h (suc i) zero l m e =
+    absurd (true≢false (sym (ap (sameBits σ) e ∙ same-refl σ) ∙ all-getD (λ (τ : Store). sameBits σ τ ≡ false) ss (h .0) i (omega arith) []))
+apart (σ ∷ ss) h (suc i) (suc j) l m e = ap suc (apart ss (h .1) i j (omega arith) (omega arith) e)
+
+pub blocks-writable : (d m : ℕ) (bs : List Branch) → isDim (pos d) ≡ true → m ≤ 64 → All (Word m) (stores bs)
+    → ((j k : ℕ) → j < length (stores bs) → k < side d * side d → wellFormed (blockAt d bs j .entry k) ≡ true) → Writable d m (length (stores bs)) (blockAt d bs)
+blocks-writable d m bs dim few h fine = record {
+  dim = dim;
+  few = few;
+  small = λ j l. from-word m (at j) (word j l);
+  different = λ i j k l e. apart (stores bs) (stores-distinct bs) i j k l (sym (bits-word m (at i) (word i k)) ∙ ap (bits m) e ∙ bits-word m (at j) (word j l));
+  formed = fine;
+}
+  where
+    at : ℕ → Store
+    at j = getD (stores bs) j []
+
+    word : (j : ℕ) → j < length (stores bs) → Word m (getD (stores bs) j [])
+    word j l = all-getD (Word m) (stores bs) h j l []
+
+-- ---- the order of the branches
+record Place (ss : List Store) (τ : Store) : Type 0 where
+  place : ℕ
+  below : place < length ss
+  is : getD ss place [] ≡ τ
+
+all-range : (P : Store → Type 0) (ss : List Store) → ((i : ℕ) → i < length ss → P (getD ss i [])) → All P ss
+all-range P [] h = tt
+all-range P (σ ∷ ss) h = (h 0 (omega arith), all-range P ss (λ i l. h (suc i) (omega arith)))
+
+pub covers : (d : ℕ) {bs cs : List Branch} → Perm bs cs → Covers (side d) (length (stores bs)) (blockAt d bs) (length (stores cs)) (blockAt d cs)
+covers d {bs} {cs} p j l =
+    let f : Place (stores cs) (getD (stores bs) j []) = all-getD (Place (stores cs)) (stores bs)
+    (all-back (Place (stores cs)) (stores-of p) (all-range (Place (stores cs)) (stores cs) (λ i k. record { place = i; below = k; is = refl }))) j l [] in
+    record {
+      place = f .place;
+      below = f .below;
+      agree = record {
+        store = ap fromBits (sym (f .is));
+        entries = λ k q. block-of p (getD (stores bs) j []) (k / side d) (k % side d) ∙ ap (λ (τ : Store). block cs τ (k / side d) (k % side d)) (sym (f .is));
+      };
+    }
+
+-- the numbers of the stores, by their places
+numbered : (d : ℕ) (bs : List Branch) → map (λ (j : ℕ). blockAt d bs j .store) (range 0 (length (stores bs))) ≡ map fromBits (stores bs)
+numbered d bs =
+    sym (map-map fromBits (λ (j : ℕ). getD (stores bs) j []) (range 0 (length (stores bs))))
+    ∙ ap (map fromBits) (range-map [] (stores bs) 0 (λ (j : ℕ). getD (stores bs) j []) (λ k h. let e : 0 + k ≡ k = omega arith in ap (λ (j : ℕ). getD (stores bs) j []) e))
+
+pub stores-perm : (d : ℕ) {bs cs : List Branch} → Perm bs cs
+    → Perm (map (λ (j : ℕ). blockAt d bs j .store) (range 0 (length (stores bs)))) (map (λ (j : ℕ). blockAt d cs j .store) (range 0 (length (stores cs))))
+stores-perm d {bs} {cs} p = join (perm-path (numbered d bs)) (join (map-of fromBits (stores-of p)) (perm-path (sym (numbered d cs))))
+
+-- ---- a test of the stores is one of the branches
+pub some-stores : (q : Store → Bool) (bs : List Branch) → some q (stores bs) ≡ some (λ (b : Branch). q (b .store)) bs
+some-stores q [] = refl
+some-stores q (b ∷ bs) = go (q (b .store)) refl (some-stores q bs)
+  where
+    skip : (ss : List Store) → q (b .store) ≡ false → some q (filterBy (other (b .store)) ss) ≡ some q ss
+    skip [] e = refl
+    skip (σ ∷ ss) e = one (sameBits (b .store) σ) refl (skip ss e)
+      where
+        one : (t : Bool) → sameBits (b .store) σ ≡ t → some q (filterBy (other (b .store)) ss) ≡ some q ss
+            → some q (cond (not t) (σ ∷ filterBy (other (b .store)) ss) (filterBy (other (b .store)) ss)) ≡ (q σ || some q ss)
+        one true f r = r ∙ ap (λ (t : Bool). t || some q ss) (sym (ap q (sym (same-true (b .store) σ f)) ∙ e))
+        one false f r = ap (λ (t : Bool). q σ || t) r
+
+    go : (t : Bool) → q (b .store) ≡ t → some q (stores bs) ≡ some (λ (b : Branch). q (b .store)) bs
+        → (t || some q (filterBy (other (b .store)) (stores bs))) ≡ (t || some (λ (b : Branch). q (b .store)) bs)
+    go true e r = refl
+    go false e r = skip (stores bs) e ∙ r

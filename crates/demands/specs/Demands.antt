@@ -1,0 +1,124 @@
+-- The three demands, a type each. A call has n qubits, m classical bits, the initial store σ, the limits l, the gates' words ws,
+-- the result r and the work buffer w.
+use mathlib.Core.Path.{_≡_}
+use mathlib.Core.Logic.{_≢_}
+use mathlib.Core.Bool.{true, false}
+use mathlib.Core.List.{List, [], _∷_, _++_, map, foldl}
+use Prim.Native.Nat.{ℕ, zero, suc, _+_, _*_, _%_, _^_, _≤_, _<_}
+use lib.Dec.{eqb}
+use lib.ListN.{length, getD, take, drop}
+use lib.IntN.{ℤ, pos}
+use Rattle.algebra.specs.Lists.{All, every, some}
+use Rattle.algebra.specs.Sum.{sum, δ}
+use Rattle.algebra.specs.Schedule.{Schedule}
+use Rattle.algebra.specs.Words.{fromBits}
+use Rattle.scalar.specs.Exact as scalar
+use Rattle.scalar.specs.Exact.{Exact, exact, conj, narrow}
+use Rattle.gate.specs.Gate.{gate, gatesOf, share}
+use Rattle.kraus.specs.Branch.{Store, Branch, branches}
+use Rattle.kraus.specs.Blocks.{survivors, stores, block}
+use Rattle.circuit.specs.declared.limits.Limits.{Limits}
+use Rattle.channel.specs.declared.compare.Found.the-variants.{Same}
+use Rattle.channel.specs.Layout.{Block, side, bits, dimAt, bitsAt, countAt, readBack}
+use Rattle.channel.specs.WellFormed.{wellFormed}
+use Rattle.channel.specs.Compare.{plain, compareOf}
+use Rattle.demands.specs.Delivered.{circuitWords}
+use Rattle.demands.specs.Call.{worked, verdictOf, accepts, resultAfter, workAfter}
+use Rattle.demands.specs.Asked.{Question, firstNo, decidedBy, ofGates, asked}
+
+abbrev pub zeros : ℕ → List ℤ
+zeros zero = []
+zeros (suc k) = pos 0 ∷ zeros k
+
+-- the words of the channel of a list of gate words
+abbrev pub delivered : ℕ → ℕ → List ℕ → List ℕ → List ℤ
+delivered n m σ ws = circuitWords n m σ (gatesOf ws)
+
+-- ---- demand 1: refused by the first question that fails, with both buffers untouched; accepted every other circuit, and its whole channel delivered
+module _ (n m : ℕ) (σ : List ℕ) (l : Limits) (ws : List ℕ) (r w : List ℤ) where
+  -- of an accepted call
+  pub record Delivers : Type 0 where
+    -- the whole channel stands in the result, and the words after it are as they were
+    pub room : length (delivered n m σ ws) ≤ length r
+    pub result : resultAfter n m σ l ws r w ≡ delivered n m σ ws ++ drop (length (delivered n m σ ws)) r
+    -- the work words are zero, and those after them as they were
+    pub workRoom : worked n m ws ≤ length w
+    pub work : workAfter n m σ l ws r w ≡ zeros (worked n m ws) ++ drop (worked n m ws) w
+    -- no number grows too large: after every k gates each entry of each Kraus matrix is narrow, and each entry of each block is in range
+    pub matrices : (k : ℕ) → All (λ (b : Branch). (i : ℕ) → i < 2 ^ n * 2 ^ n → narrow (getD (b .matrix) i (exact .𝟘)) ≡ true) (branches n σ (take k (gatesOf ws)))
+    pub blocks : (τ : Store) (i j : ℕ) → i < side (2 ^ n) → j < side (2 ^ n) → scalar.wellFormed (block (survivors (branches n σ (gatesOf ws))) τ i j) ≡ true
+
+  pub record Judges : Type 0 where
+    -- the first question that is answered by no decides; accepted is what answers each by yes, and nothing else
+    pub verdict : verdictOf n m σ l ws r w ≡ firstNo (asked n m σ l ws (length r) (length w))
+    pub acceptance : accepts n m σ l ws r w ≡ every (λ (q : Question). q .answer) (asked n m σ l ws (length r) (length w))
+    pub refused : accepts n m σ l ws r w ≡ false → (resultAfter n m σ l ws r w ≡ r) × (workAfter n m σ l ws r w ≡ w)
+    pub accepted : accepts n m σ l ws r w ≡ true → Delivers
+
+abbrev pub Demand1 : Type 0
+Demand1 = (n m : ℕ) (σ : List ℕ) (l : Limits) (ws : List ℕ) (r w : List ℤ) → Judges n m σ l ws r w
+
+-- ---- demand 2: the channel delivered is that of the definitions, whatever the result held
+-- entry (r, c) of a block's effect, in a channel of dimension d
+abbrev pub effectAt : ℕ → ℕ → ℕ → Block → Exact
+effectAt d r c b = sum exact d (λ (o : ℕ). b .entry ((o * d + r) * side d + (o * d + c)))
+
+-- of the result of an accepted call; bs are the surviving branches
+pub record IsChannel (n m : ℕ) (bs : List Branch) (l : List ℤ) : Type 0 where
+  pub formed : wellFormed l ≡ true
+  pub dim : dimAt l ≡ 2 ^ n
+  pub bitCount : bitsAt l ≡ m
+  -- a block for each of the stores, and at least one
+  pub count : countAt l ≡ length (stores bs)
+  pub nonempty : 1 ≤ countAt l
+  -- the stores along the chain are those of the surviving branches
+  pub listed : (s : ℕ) → some (λ (a : Block). eqb (a .store) s) (readBack l) ≡ some (λ (b : Branch). eqb (fromBits (b .store)) s) bs
+  -- each with its block, which is Hermitian
+  pub entries : All (λ (a : Block). (i j : ℕ) → i < side (2 ^ n) → j < side (2 ^ n) → a .entry (i * side (2 ^ n) + j) ≡ block bs (bits m (a .store)) i j) (readBack l)
+  pub hermitian : All (λ (a : Block). (i j : ℕ) → i < side (2 ^ n) → j < side (2 ^ n) → a .entry (i * side (2 ^ n) + j) ≡ conj (a .entry (j * side (2 ^ n) + i))) (readBack l)
+  -- the effects add up to the identity
+  pub effects : (r c : ℕ) → r < 2 ^ n → c < 2 ^ n → foldl (λ (x : Exact) (a : Block). exact ._⊕_ x (effectAt (2 ^ n) r c a)) (exact .𝟘) (readBack l) ≡ δ exact r c
+
+abbrev pub Demand2 : Type 0
+Demand2 =
+    (n m : ℕ) (σ : List ℕ) (l : Limits) (ws : List ℕ) (r w : List ℤ) → accepts n m σ l ws r w ≡ true
+    → IsChannel n m (survivors (branches n σ (gatesOf ws))) (resultAfter n m σ l ws r w)
+
+-- ---- demand 3: schedules
+-- vs has the gates of ws in another order, by a table from new places to old ones: gates that share a qubit or a bit keep their order.
+-- A list that fails question 2 has only itself.
+pub data ScheduleOf (ws vs table : List ℕ) : Type 0 where
+  itself : length ws % 5 ≢ 0 → vs ≡ ws → ScheduleOf ws vs table
+  reordered : length ws % 5 ≡ 0 → length vs % 5 ≡ 0 → Schedule share (gate 0 0 0 0 0) (gatesOf ws) (gatesOf vs) table → ScheduleOf ws vs table
+
+abbrev pub noBlock : Block
+noBlock = record { store = 0; entry = λ (k : ℕ). exact .𝟘 }
+
+-- two channels, record places and chain indices apart
+pub record SameChannel (l r : List ℤ) : Type 0 where
+  pub count : countAt l ≡ countAt r
+  -- along the chain
+  pub stores : map (λ (b : Block). b .store) (readBack l) ≡ map (λ (b : Block). b .store) (readBack r)
+  pub entries : (j row col : ℕ) → row < side (dimAt l) → col < side (dimAt l)
+      → getD (readBack l) j noBlock .entry (row * side (dimAt l) + col) ≡ getD (readBack r) j noBlock .entry (row * side (dimAt l) + col)
+  -- whichever is on the left
+  pub compared : compareOf l r ≡ plain Same
+  pub comparedBack : compareOf r l ≡ plain Same
+
+-- a circuit with the buffers r and w, and a schedule of it with the buffers s and x
+module _ (n m : ℕ) (σ : List ℕ) (l : Limits) (ws vs : List ℕ) (r w s x : List ℤ) where
+  abbrev pub decided : ℕ
+  decided = decidedBy (asked n m σ l ws (length r) (length w))
+
+  pub record Alike : Type 0 where
+    pub acceptance : accepts n m σ l vs s x ≡ accepts n m σ l ws r w
+    -- a question of the gates, 4 to 6, decides for both or for neither; any other refusal is the same
+    pub gates : ofGates (decidedBy (asked n m σ l vs (length s) (length x))) ≡ ofGates decided
+    pub refusal : ofGates decided ≡ false → verdictOf n m σ l vs s x ≡ verdictOf n m σ l ws r w
+    pub channels : accepts n m σ l ws r w ≡ true → SameChannel (resultAfter n m σ l ws r w) (resultAfter n m σ l vs s x)
+
+-- for every circuit, sound or faulty, and every schedule of it, whatever buffers of the same lengths held
+abbrev pub Demand3 : Type 0
+Demand3 =
+    (n m : ℕ) (σ : List ℕ) (l : Limits) (ws vs table : List ℕ) → ScheduleOf ws vs table
+    → (r w s x : List ℤ) → length s ≡ length r → length x ≡ length w → Alike n m σ l ws vs r w s x

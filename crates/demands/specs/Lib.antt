@@ -1,0 +1,4 @@
+pub mod Delivered
+pub mod Call
+pub mod Asked
+pub mod Demands

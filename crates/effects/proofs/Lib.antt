@@ -1,0 +1,3 @@
+pub mod Summing
+pub mod Linking
+pub mod Records

@@ -1,0 +1,133 @@
+-- `sum_entry` meets its contract.
+use mathlib.Core.Path.{_≡_, refl, sym, ap, _∙_, subst}
+use mathlib.Core.Bool.{Bool, true, cond}
+use Prim.Native.Nat.{ℕ, _+_, _*_, _-_, _≤_, _<_}
+use native.Mathlib.Omega.{arith}
+use lib.ListN.{length}
+use borrow.Author.Tests.{not-true, not-false}
+use Rattle.algebra.proofs.Tests.{and-split}
+use Rattle.scalar.specs.declared.Verdict.the-variants.{TooLarge}
+use Rattle.scalar.specs.Exact.{Exact, wellFormed}
+use Rattle.scalar.specs.Calls.{scalarOf, acceptedAs, accepted, refusedWith}
+use Rattle.scalar.specs.Cells.{exponentAt, wellFormedAt}
+use Rattle.channel.specs.Layout.{entryPlace, entryAt, recordSize, side}
+use Rattle.effects.specs.Effects.{term, effectAt}
+use Rattle.effects.proofs.Summing.{place-below, Summed, stops, goes-on, done}
+use Rattle.effects.proofs.sum_entry.Statement.{statement}
+use Rattle.effects.proofs.sum_entry.Tie as tie
+
+abbrev Inv-loop : tie.InvT-loop
+Inv-loop s at d i acc₀ o₀ acc o = Summed (term s at d i) d o acc
+
+abbrev μ-loop : tie.MeasureT-loop
+μ-loop s at d i acc₀ o₀ acc o = d - o
+
+abbrev terms : tie.In-loop Inv-loop μ-loop → ℕ → Exact
+terms n = let s = n .before .before .args in term (s .s .now) (s .at) (s .d) (s .i)
+
+-- the term that comes next
+module _ (c : tie.After-term-place Inv-loop μ-loop) where
+  abbrev start : tie.Start Inv-loop μ-loop
+  start = c .before .before .before
+
+  below : c .term-place .result < side (start .args .d) * side (start .args .d)
+  below = subst (λ (k : ℕ). k < side (start .args .d) * side (start .args .d)) (sym (c .term-place .ensures)) (place-below (start .args .d) (start .args .i) (c .before .before .loop .o) (start .pre .0 .dim) (start .pre .1) (c .before .loop-test .taken))
+
+  inside : entryPlace (start .args .at) (c .term-place .result) + 5 ≤ length (start .args .s .now)
+  inside = by (side (start .args .d)) (start .pre .0 .inside) below
+    where
+      by : (v : ℕ) → start .args .at + recordSize v ≤ length (start .args .s .now) → c .term-place .result < v * v → entryPlace (start .args .at) (c .term-place .result) + 5 ≤ length (start .args .s .now)
+      by v p q = omega arith
+
+  right : wellFormedAt (start .args .s .now) (entryPlace (start .args .at) (c .term-place .result)) ≡ true
+  right = start .pre .0 .formed (c .term-place .result) below
+
+read : (a : tie.After-add Inv-loop μ-loop) → (let n = a .before .before .before in a .before .read-cell .result ≡ scalarOf (terms n (n .before .loop .o)))
+read a =
+    let t = a .before .before in
+    a .before .read-cell .ensures ∙ ap (λ (k : ℕ). scalarOf (entryAt (start t .args .s .now) (start t .args .at) k)) (t .term-place .ensures)
+
+formed : (a : tie.After-add Inv-loop μ-loop) → (let n = a .before .before .before in wellFormed (terms n (n .before .loop .o)) ≡ true)
+formed a =
+    let t = a .before .before in
+    subst (λ (k : ℕ). wellFormed (entryAt (start t .args .s .now) (start t .args .at) k) ≡ true) (t .term-place .ensures) (and-split (exponentAt (start t .args .s .now) (entryPlace (start t .args .at) (t .term-place .result))) _ (right t) .1)
+
+loop-holds : tie.Need-loop-holds Inv-loop μ-loop
+loop-holds c = record { count = omega arith; is = refl; fit = refl }
+
+term-place-requires : tie.Need-term-place-requires Inv-loop μ-loop
+term-place-requires c κs = let s = c .before .before in (s .pre .0 .dim, (s .pre .1, c .loop-test .taken))
+
+add-read-cell : tie.Need-add-read-cell Inv-loop μ-loop
+add-read-cell c = let q = inside c in omega arith
+
+mul-read-cell : tie.Need-mul-read-cell Inv-loop μ-loop
+mul-read-cell c = let q = inside c in omega arith
+
+add-read-cell-2 : tie.Need-add-read-cell-2 Inv-loop μ-loop
+add-read-cell-2 c = let q = inside c in omega arith
+
+read-cell-requires : tie.Need-read-cell-requires Inv-loop μ-loop
+read-cell-requires c κs = (inside c, and-split (exponentAt (start c .args .s .now) (entryPlace (start c .args .at) (c .term-place .result))) _ (right c) .0)
+
+add-requires : tie.Need-add-requires Inv-loop μ-loop
+add-requires c κs = tt
+
+is-accepted-requires : tie.Need-is-accepted-requires Inv-loop μ-loop
+is-accepted-requires c κs = tt
+
+refused-requires : tie.Need-refused-requires Inv-loop μ-loop
+refused-requires c κs = tt
+
+returns : tie.Need-returns Inv-loop μ-loop
+returns c =
+    let v = c .before .before in
+    let a = v .before in
+    let n = a .before .before .before in
+    let s = n .before .before .args in
+    c .refused .ensures
+    ∙ ap (λ (b : Bool). cond b (accepted (effectAt (s .s .now) (s .at) (s .d) (s .i))) (refusedWith TooLarge))
+    (sym (stops (terms n) (s .d) (n .before .loop .o) (n .before .loop .acc) (n .before .loop .inv) _ _ (n .loop-test .taken) (formed a) (read a) (a .add .ensures) (sym (v .is-accepted .ensures) ∙ not-true _ (c .before .if1 .taken))))
+
+add-o : tie.Need-add-o Inv-loop μ-loop
+add-o c = omega arith
+
+loop-less : tie.Need-loop-less Inv-loop μ-loop
+loop-less c = omega arith
+
+loop-again : tie.Need-loop-again Inv-loop μ-loop
+loop-again c =
+    let e = c .before in
+    let v = e .before in
+    let a = v .before in
+    let n = a .before .before .before in
+    let s = n .before .before .args in
+    goes-on (terms n) (s .d) (n .before .loop .o) (n .before .loop .acc) (n .before .loop .inv) _ _ (n .loop-test .taken) (formed a) (read a) (a .add .ensures) (sym (v .is-accepted .ensures) ∙ not-false _ (e .if1 .left))
+
+returns-2 : tie.Need-returns-2 Inv-loop μ-loop
+returns-2 c =
+    let l = c .before in
+    let s = l .before .args in
+    let d = done (term (s .s .now) (s .at) (s .d) (s .i)) (s .d) (l .loop .o) (l .loop .acc) (l .loop .inv) (c .loop-test .left) in
+    ap acceptedAs (d .1) ∙ ap (λ (b : Bool). cond b (accepted (effectAt (s .s .now) (s .at) (s .d) (s .i))) (refusedWith TooLarge)) (sym (d .0))
+
+pub sum-entry-spec : {M : Type 1} → statement M
+sum-entry-spec =
+    tie.close
+    (tie.spec
+    Inv-loop
+    μ-loop
+    loop-holds
+    term-place-requires
+    add-read-cell
+    mul-read-cell
+    add-read-cell-2
+    read-cell-requires
+    add-requires
+    is-accepted-requires
+    refused-requires
+    returns
+    add-o
+    loop-less
+    loop-again
+    returns-2)

@@ -1,0 +1,83 @@
+-- The effects of a channel: each block summed over the outputs, in words of the same layout.
+use mathlib.Core.Bool.{Bool, cond}
+use mathlib.Core.List.{List, [], _∷_}
+use Prim.Native.Nat.{ℕ, zero, suc, _+_, _*_, _-_, _/_, _%_}
+use lib.Dec.{leb}
+use lib.ListN.{length}
+use lib.Seq.{sets}
+use lib.IntN.{ℤ, pos, negsuc}
+use Rattle.algebra.specs.Sum.{sum}
+use Rattle.algebra.specs.Lists.{allBelow}
+use Rattle.algebra.specs.Words.{blocks}
+use Rattle.scalar.specs.Exact.{Exact, exact, inRange}
+use Rattle.scalar.specs.Cells.{cells}
+use Rattle.channel.specs.Layout.{headerSize, recordSize, recordAt, side, word, entryAt, dimAt, countAt}
+use Rattle.channel.specs.WellFormed.{wellFormed}
+use Rattle.effects.specs.declared.Outcome.{Outcome}
+use Rattle.effects.specs.declared.Outcome.the-variants.{Written, ShortBuffer, TooLarge, Malformed}
+
+-- document 01's number of an outcome
+abbrev pub outcomeNumber : Outcome → ℕ
+outcomeNumber Written = 0
+outcomeNumber ShortBuffer = 8
+outcomeNumber TooLarge = 9
+outcomeNumber Malformed = 10
+
+-- ---- the effect of the block at `at`, of a channel of dimension d
+-- block entry (o·d + r, o·d + c), for i = r·d + c
+abbrev pub termPlace : ℕ → ℕ → ℕ → ℕ
+termPlace d i o = (o * d + i / d) * side d + (o * d + i % d)
+
+abbrev pub term : List ℤ → ℕ → ℕ → ℕ → ℕ → Exact
+term l at d i o = entryAt l at (termPlace d i o)
+
+-- entry i, row · d + column, of the effect
+abbrev pub effectAt : List ℤ → ℕ → ℕ → ℕ → Exact
+effectAt l at d i = sum exact d (term l at d i)
+
+-- the first n partial sums from 0 up are in range
+abbrev pub partialsFit : ℕ → (ℕ → Exact) → Bool
+partialsFit n f = allBelow n (λ (m : ℕ). inRange (sum exact (suc m) f))
+
+abbrev pub recordFits : List ℤ → ℕ → ℕ → Bool
+recordFits l at d = allBelow (d * d) (λ (i : ℕ). partialsFit d (term l at d i))
+
+abbrev pub sumsFit : List ℤ → ℕ → ℕ → Bool
+sumsFit l d n = allBelow n (λ (j : ℕ). recordFits l (recordAt (side d) j) d)
+
+-- ---- the words
+-- the index among the effects' records that matches an index z of the channel's chain
+abbrev pub relink : ℕ → ℤ → ℤ
+relink d (pos zero) = pos 0
+relink d (pos (suc a)) = pos (recordAt d ((suc a - headerSize) / recordSize (side d)))
+relink d (negsuc a) = pos 0
+
+abbrev pub effectHeader : List ℤ → ℕ → List ℤ
+effectHeader l d = word l 0 ∷ word l 1 ∷ word l 2 ∷ relink d (word l 3) ∷ []
+
+-- the record of the block at `at`: next, the store's two words, then d² entries
+abbrev pub effectRecord : List ℤ → ℕ → ℕ → List ℤ
+effectRecord l d at = relink d (word l at) ∷ word l (at + 1) ∷ word l (at + 2) ∷ cells (d * d) (effectAt l at d)
+
+-- the first n records, in the channel's own order
+abbrev pub withRecords : List ℤ → ℕ → ℕ → List ℤ → List ℤ
+withRecords l d n res = blocks (recordSize d) res headerSize n (λ (j : ℕ). effectRecord l d (recordAt (side d) j))
+
+abbrev pub effectsWords : List ℤ → List ℤ → List ℤ
+effectsWords l res = withRecords l (dimAt l) (countAt l) (sets res 0 (effectHeader l (dimAt l)))
+
+-- ---- the call's answer, and what it leaves in the result
+abbrev pub outcomeOf : List ℤ → List ℤ → Outcome
+outcomeOf l res =
+    cond (wellFormed l)
+    (cond (leb (headerSize + countAt l * recordSize (dimAt l)) (length res)) (cond (sumsFit l (dimAt l) (countAt l)) Written TooLarge) ShortBuffer)
+    Malformed
+
+abbrev pub resultBy : Outcome → List ℤ → List ℤ → List ℤ
+resultBy Written l res = effectsWords l res
+resultBy ShortBuffer l res = res
+resultBy TooLarge l res = res
+resultBy Malformed l res = res
+
+abbrev pub resultOf : List ℤ → List ℤ → List ℤ
+resultOf l res = resultBy (outcomeOf l res) l res

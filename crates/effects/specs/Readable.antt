@@ -1,0 +1,40 @@
+-- What the effects' inner calls know of the records that they read.
+use mathlib.Core.Path.{_≡_}
+use mathlib.Core.Bool.{Bool, true, false}
+use mathlib.Core.List.{List}
+use Prim.Native.Nat.{ℕ, _+_, _*_, _<_, _≤_}
+use lib.ListN.{length}
+use lib.IntN.{ℤ, pos, natAbs}
+use Rattle.scalar.specs.declared.Verdict.{Verdict}
+use Rattle.scalar.specs.declared.Verdict.the-variants.{Accepted, TooLarge, Malformed}
+use Rattle.scalar.specs.Cells.{wellFormedAt}
+use Rattle.channel.specs.Layout.{headerSize, recordSize, recordAt, entryPlace, side, word}
+
+abbrev pub isAccepted : Verdict → Bool
+isAccepted Accepted = true
+isAccepted TooLarge = false
+isAccepted Malformed = false
+
+-- a dimension
+pub record Dim (d : ℕ) : Type 0 where
+  pub some : 1 ≤ d
+  pub small : d ≤ 16
+
+-- an index of a chain of records of dimension d that lie in a slice of 64-bit words: 0, or one from the first record on
+pub record Linked (d : ℕ) (z : ℤ) : Type 0 where
+  pub dim : Dim d
+  pub index : z ≡ pos (natAbs z)
+  pub from : (z ≡ pos 0 → ⊥) → headerSize ≤ natAbs z
+
+-- a record of a block of dimension d at `at`, with well-formed entries
+pub record Readable (l : List ℤ) (at d : ℕ) : Type 0 where
+  pub dim : Dim d
+  pub inside : at + recordSize (side d) ≤ length l
+  pub formed : (k : ℕ) → k < side d * side d → wellFormedAt l (entryPlace at k) ≡ true
+  pub next : Linked d (word l at)
+
+-- n such records, end to end
+pub record Records (l : List ℤ) (d n : ℕ) : Type 0 where
+  pub dim : Dim d
+  pub inside : recordAt (side d) n ≤ length l
+  pub each : (j : ℕ) → j < n → Readable l (recordAt (side d) j) d

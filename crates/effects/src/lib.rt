@@ -1,0 +1,213 @@
+// The effects of a channel's blocks. The sums are tried before the first word is written, so that a refusal leaves the result as it was.
+use channel::layout::CELL;
+use channel::layout::HEADER;
+use channel::layout::RECORD_HEAD;
+use channel::layout::record_size;
+use channel::well_formed::judge;
+use scalar::Answer;
+use scalar::Scalar;
+use scalar::Verdict;
+use scalar::cells::read_cell;
+use scalar::cells::write_cell;
+use scalar::refused;
+ghost use mathlib.Core.Path.{_≡_};
+ghost use mathlib.Core.Bool.{true, cond};
+ghost use Prim.Native.Nat.{_+_, _*_, _<_, _≤_};
+ghost use mathlib.Core.List.{[], _∷_};
+ghost use lib.ListN.{length};
+ghost use lib.Seq.{sets};
+ghost use Rattle.scalar.specs.Calls.{accepted, refusedWith};
+ghost use Rattle.scalar.specs.declared.Verdict.the-variants.{TooLarge};
+ghost use Rattle.scalar.specs.Cells.{fill};
+ghost use Rattle.channel.specs.Layout.{headerSize, recordSize, word};
+ghost use Rattle.effects.specs.Effects.{termPlace, term, effectAt, partialsFit, recordFits, sumsFit, relink, effectHeader, effectRecord, withRecords, outcomeOf, resultOf};
+ghost use Rattle.effects.specs.Readable.{isAccepted, Dim, Readable, Records, Linked};
+
+// Document 01's numbers: Written is 0, ShortBuffer 8, TooLarge 9, Malformed 10.
+pub enum Outcome {
+    Written,
+    ShortBuffer,
+    TooLarge,
+    Malformed,
+}
+
+pub fn is_accepted(v: Verdict) -> bool
+    ensures { λ r. ⌜ r ≡ isAccepted v ⌝ }
+{
+    match v {
+        Verdict::Accepted => true,
+        Verdict::TooLarge => false,
+        Verdict::Malformed => false,
+    }
+}
+
+// The place in a block of its entry (o·d + r, o·d + c), for i = r·d + c.
+pub fn term_place(d: usize, i: usize, o: usize) -> usize
+    requires { ⌜ Dim d × ((i < d * d) × (o < d)) ⌝ }
+    ensures { λ r. ⌜ r ≡ termPlace d i o ⌝ }
+{
+    let w = d * d;
+    let row = o * d + i / d;
+    let col = o * d + i % d;
+    row * w + col
+}
+
+// Entry i of the effect of the block at `at`, or 9 where a partial sum leaves the range.
+pub fn sum_entry(s: &[i64], at: usize, d: usize, i: usize) -> Answer
+    requires { ⌜ Readable (now s) at d × (i < d * d) ⌝ }
+    ensures { λ r. ⌜ r ≡ cond (partialsFit d (term (now (s .entry)) at d i)) (accepted (effectAt (now (s .entry)) at d i)) (refusedWith TooLarge) ⌝ }
+{
+    let mut acc = Scalar { n: [0; 4], e: 0 };
+    let mut o = 0;
+    while o < d {
+        let k = term_place(d, i, o);
+        let x = read_cell(s, at + RECORD_HEAD + k * CELL);
+        let a = acc.add(x);
+        let v = a.verdict;
+        if !is_accepted(v) {
+            return refused(Verdict::TooLarge);
+        }
+        acc = a.value;
+        o += 1;
+    }
+    Answer {
+        value: acc,
+        verdict: Verdict::Accepted,
+    }
+}
+
+// Whether every partial sum of the block at `at` fits.
+pub fn record_fits(s: &[i64], at: usize, d: usize) -> bool
+    requires { ⌜ Readable (now s) at d ⌝ }
+    ensures { λ r. ⌜ r ≡ recordFits (now (s .entry)) at d ⌝ }
+{
+    let n = d * d;
+    let mut i = 0;
+    while i < n {
+        let a = sum_entry(s, at, d, i);
+        let v = a.verdict;
+        if !is_accepted(v) {
+            return false;
+        }
+        i += 1;
+    }
+    true
+}
+
+// Whether every partial sum of n blocks fits.
+pub fn sums_fit(s: &[i64], d: usize, n: usize) -> bool
+    requires { ⌜ Records (now s) d n ⌝ }
+    ensures { λ r. ⌜ r ≡ sumsFit (now (s .entry)) d n ⌝ }
+{
+    let size = record_size(d * d);
+    let mut j = 0;
+    while j < n {
+        if !record_fits(s, HEADER + j * size, d) {
+            return false;
+        }
+        j += 1;
+    }
+    true
+}
+
+// The index among the effects' records that matches an index of the channel's chain.
+pub fn relinked(d: usize, z: i64) -> i64
+    requires { ⌜ Linked d z ⌝ }
+    ensures { λ r. ⌜ r ≡ relink d z ⌝ }
+{
+    if z == 0 {
+        return 0;
+    }
+    let size = record_size(d * d);
+    let place = (z as usize - HEADER) / size;
+    let to = HEADER + place * record_size(d);
+    to as i64
+}
+
+// Write the d² entries of the effect of the block at `at` from `out` on.
+pub fn write_entries(s: &[i64], at: usize, d: usize, result: &mut [i64], out: usize)
+    requires { ⌜ Readable (now s) at d × ((recordFits (now s) at d ≡ true) × (out + d * d * 5 ≤ length (now result))) ⌝ }
+    ensures { λ _. ⌜ now (result .exit) ≡ fill (now (result .entry)) out (d * d) (effectAt (now (s .entry)) at d) ⌝ }
+{
+    let n = d * d;
+    let mut i = 0;
+    while i < n {
+        let a = sum_entry(s, at, d, i);
+        write_cell(result, out + i * CELL, a.value);
+        i += 1;
+    }
+}
+
+// Write three words from `at` on.
+pub fn put_three(result: &mut [i64], at: usize, a: i64, b: i64, c: i64)
+    requires { ⌜ at + 3 ≤ length (now result) ⌝ }
+    ensures { λ _. ⌜ now (result .exit) ≡ sets (now (result .entry)) at (a ∷ b ∷ c ∷ []) ⌝ }
+{
+    result[at] = a;
+    result[at + 1] = b;
+    result[at + 2] = c;
+}
+
+// Write the effect's record of the block at `at` from `out` on.
+pub fn write_record(s: &[i64], at: usize, d: usize, result: &mut [i64], out: usize)
+    requires { ⌜ Readable (now s) at d × ((recordFits (now s) at d ≡ true) × (out + recordSize d ≤ length (now result))) ⌝ }
+    ensures { λ _. ⌜ now (result .exit) ≡ sets (now (result .entry)) out (effectRecord (now (s .entry)) d at) ⌝ }
+{
+    let next = s[at];
+    let low = s[at + 1];
+    let high = s[at + 2];
+    put_three(result, out, relinked(d, next), low, high);
+    write_entries(s, at, d, result, out + RECORD_HEAD);
+}
+
+// Write the effects' records of n blocks, in the channel's own order.
+pub fn write_records(s: &[i64], d: usize, n: usize, result: &mut [i64])
+    requires { ⌜ Records (now s) d n × ((sumsFit (now s) d n ≡ true) × (headerSize + n * recordSize d ≤ length (now result))) ⌝ }
+    ensures { λ _. ⌜ now (result .exit) ≡ withRecords (now (s .entry)) d n (now (result .entry)) ⌝ }
+{
+    let from = record_size(d * d);
+    let to = record_size(d);
+    let mut j = 0;
+    while j < n {
+        write_record(s, HEADER + j * from, d, result, HEADER + j * to);
+        j += 1;
+    }
+}
+
+// Write the effects' header.
+pub fn write_header(s: &[i64], d: usize, result: &mut [i64])
+    requires { ⌜ Linked d (word (now s) 3) × ((4 ≤ length (now s)) × (4 ≤ length (now result))) ⌝ }
+    ensures { λ _. ⌜ now (result .exit) ≡ sets (now (result .entry)) 0 (effectHeader (now (s .entry)) d) ⌝ }
+{
+    let dim = s[0];
+    let bits = s[1];
+    let count = s[2];
+    let first = s[3];
+    let link = relinked(d, first);
+    put_three(result, 0, dim, bits, count);
+    result[3] = link;
+}
+
+// The effect of each store's block, d² entries each, in the channel's own order: entry (r, c) sums block entry (o·d + r, o·d + c)
+// over o from 0 up. A refusal leaves the result as it was.
+pub fn classical_blocks(channel: &[i64], result: &mut [i64]) -> Outcome
+    ensures verdict { λ r. ⌜ r ≡ outcomeOf (now (channel .entry)) (now (result .entry)) ⌝ }
+    ensures words { λ r. ⌜ now (result .exit) ≡ resultOf (now (channel .entry)) (now (result .entry)) ⌝ }
+{
+    let h = judge(channel);
+    if !h.ok {
+        return Outcome::Malformed;
+    }
+    let d = h.dim;
+    let n = h.count;
+    let size = record_size(d);
+    if result.len() < HEADER + n * size {
+        return Outcome::ShortBuffer;
+    }
+    if !sums_fit(channel, d, n) {
+        return Outcome::TooLarge;
+    }
+    write_header(channel, d, result);
+    write_records(channel, d, n, result);
+    Outcome::Written
+}

@@ -1,0 +1,178 @@
+-- The kinds of each arity, their qubits, and their entries by the matrices that the code embeds.
+use mathlib.Core.Path.{_≡_, refl, sym, ap, _∙_, subst}
+use mathlib.Core.Bool.{Bool, true, false, not, _&&_, _||_, or-false, true≢false}
+use mathlib.Core.List.{List, [], _∷_}
+use Prim.Native.Nat.{ℕ, suc, _≤_, _<_}
+use native.Mathlib.Omega.{arith}
+use lib.Dec.{T, eqb, leb, ltb}
+use lib.ListN.{length, getD}
+use borrow.Author.Tests.{leb-true, ltb-true, eqb-true, eq-eqb, not-true}
+use Rattle.algebra.specs.Lists.{All, allBelow, every}
+use Rattle.algebra.proofs.Tests.{exhaust, and-split, holds-true}
+use Rattle.scalar.specs.Exact.{exact}
+use Rattle.gate.specs.Gate.{Gate, gate, arity, qubits, bits, elem, distinct, rz, formed, placed, supported, splits, valid}
+use Rattle.gate.specs.Operators.{Small, operator, operators, noUnitary, controlled, swapped}
+use Rattle.gate.specs.Embed.{embed}
+use Rattle.gate.specs.declared.judge.GateVerdict.the-variants.{Fine, Malformed, Operand, Unsupported}
+use Rattle.gate.specs.Verdict.{firstFault, onQubits, gateVerdict, unitaryVerdict}
+use Rattle.gate.specs.Entries.{unitaryOf, targetOf, operatorAt, gateEntry, Ready, Apart2, Apart3}
+use Rattle.gate.proofs.Kind.{each}
+use Rattle.gate.proofs.Questions.{on-one, on-two, on-three}
+
+-- ---- kinds
+abbrev angles : List ℕ
+angles = 14 ∷ 17 ∷ 18 ∷ 21 ∷ 22 ∷ 23 ∷ 24 ∷ []
+
+abbrev only : ℕ → List ℕ → ℕ → Bool
+only u kinds m = not (eqb (arity m) u && not (elem m angles)) || elem m kinds
+
+-- measure and reset, and the kinds after them
+pub is-split : (m : ℕ) → (eqb m 12 || eqb m 13) ≡ true → elem m (12 ∷ 13 ∷ []) ≡ true
+is-split m e = simp or-false e
+
+pub no-split : (m : ℕ) (ks : List ℕ) → (eqb m 12 || eqb m 13) ≡ false → elem m (12 ∷ 13 ∷ ks) ≡ true → elem m ks ≡ true
+no-split m ks = go (eqb m 12) (eqb m 13) (elem m ks)
+  where
+    go : (a b c : Bool) → (a || b) ≡ false → (a || (b || c)) ≡ true → c ≡ true
+    go true b c e h = absurd (true≢false e)
+    go false true c e h = absurd (true≢false e)
+    go false false c e h = h
+
+-- the controlled kinds have a target
+pub target-two : (m : ℕ) → elem m (8 ∷ 9 ∷ 20 ∷ 25 ∷ []) ≡ true → elem m (8 ∷ 10 ∷ 9 ∷ 11 ∷ 20 ∷ 25 ∷ []) ≡ true
+target-two = each (λ (m : ℕ). elem m (8 ∷ 10 ∷ 9 ∷ 11 ∷ 20 ∷ 25 ∷ []) ≡ true) (8 ∷ 9 ∷ 20 ∷ 25 ∷ []) (refl, (refl, (refl, (refl, tt))))
+
+pub target-three : (m : ℕ) → elem m (10 ∷ 11 ∷ []) ≡ true → elem m (8 ∷ 10 ∷ 9 ∷ 11 ∷ 20 ∷ 25 ∷ []) ≡ true
+target-three = each (λ (m : ℕ). elem m (8 ∷ 10 ∷ 9 ∷ 11 ∷ 20 ∷ 25 ∷ []) ≡ true) (10 ∷ 11 ∷ []) (refl, (refl, tt))
+
+module _ {n : ℕ} {g : Gate} {j : ℕ} (ready : Ready n g j) where
+  kind-low : g .kind < 27
+  kind-low = let l : g .kind ≤ 26 = leb-true (g .kind) 26 (and-split (leb (g .kind) 26) _ (ready .known) .0) in omega arith
+
+  able : elem (g .kind) angles ≡ false
+  able = not-true (elem (g .kind) angles) (and-split (not (elem (g .kind) angles)) (not (eqb (g .kind) rz && eqb (g .k) 8)) (ready .able) .0)
+
+  kinds : (u : ℕ) (ks : List ℕ) → T (allBelow 27 (only u ks)) → arity (g .kind) ≡ u → elem (g .kind) ks ≡ true
+  kinds u ks t e =
+      go (eqb (arity (g .kind)) u) (elem (g .kind) angles) (elem (g .kind) ks) (eq-eqb (arity (g .kind)) u e) able
+      (holds-true (exhaust (only u ks) 27 t (g .kind) kind-low))
+    where
+      go : (a b c : Bool) → a ≡ true → b ≡ false → (not (a && not b) || c) ≡ true → c ≡ true
+      go true false c e f h = h
+      go true true c e f h = absurd (true≢false f)
+      go false b c e f h = absurd (true≢false (sym e))
+
+  pub one-kinds : arity (g .kind) ≡ 1 → elem (g .kind) (12 ∷ 13 ∷ 2 ∷ 3 ∷ 4 ∷ 5 ∷ 6 ∷ 7 ∷ 0 ∷ 1 ∷ 15 ∷ 16 ∷ []) ≡ true
+  one-kinds = kinds 1 (12 ∷ 13 ∷ 2 ∷ 3 ∷ 4 ∷ 5 ∷ 6 ∷ 7 ∷ 0 ∷ 1 ∷ 15 ∷ 16 ∷ []) tt
+
+  pub two-kinds : arity (g .kind) ≡ 2 → elem (g .kind) (19 ∷ 8 ∷ 9 ∷ 20 ∷ 25 ∷ []) ≡ true
+  two-kinds = kinds 2 (19 ∷ 8 ∷ 9 ∷ 20 ∷ 25 ∷ []) tt
+
+  pub three-kinds : arity (g .kind) ≡ 3 → elem (g .kind) (26 ∷ 10 ∷ 11 ∷ []) ≡ true
+  three-kinds = kinds 3 (26 ∷ 10 ∷ 11 ∷ []) tt
+
+  pub three-else : (u : ℕ) → u ≡ arity (g .kind) → (u ≡ 1 → ⊥) → (u ≡ 2 → ⊥) → arity (g .kind) ≡ 3
+  three-else u e f h = go (eqb (arity (g .kind)) 1) refl (eqb (arity (g .kind)) 2) refl (eqb (arity (g .kind)) 3) refl (holds-true (exhaust small 27 tt (g .kind) kind-low))
+    where
+      small : ℕ → Bool
+      small m = eqb (arity m) 1 || (eqb (arity m) 2 || eqb (arity m) 3)
+
+      go : (x : Bool) → eqb (arity (g .kind)) 1 ≡ x → (y : Bool) → eqb (arity (g .kind)) 2 ≡ y → (z : Bool) → eqb (arity (g .kind)) 3 ≡ z → (x || (y || z)) ≡ true → arity (g .kind) ≡ 3
+      go true p y q z r t = absurd (f (e ∙ eqb-true (arity (g .kind)) 1 p))
+      go false p true q z r t = absurd (h (e ∙ eqb-true (arity (g .kind)) 2 q))
+      go false p false q true r t = eqb-true (arity (g .kind)) 3 r
+      go false p false q false r t = absurd (true≢false (sym t))
+
+  -- ---- qubits
+  pub one-on : arity (g .kind) ≡ 1 → g .a < n
+  one-on e = ltb-true (g .a) n (on-one n (g .a) (g .b) (g .c) (arity (g .kind)) e ∙ ready .on)
+
+  pub two-on : arity (g .kind) ≡ 2 → Apart2 n (g .a) (g .b)
+  two-on e =
+      let h = and-split (ltb (g .a) n && ltb (g .b) n) (not (eqb (g .a) (g .b))) (on-two n (g .a) (g .b) (g .c) (arity (g .kind)) e ∙ ready .on) in
+      let k = and-split (ltb (g .a) n) (ltb (g .b) n) (h .0) in
+      record { first = ltb-true (g .a) n (k .0); second = ltb-true (g .b) n (k .1); other = not-true (eqb (g .a) (g .b)) (h .1) }
+
+  pub three-on : arity (g .kind) ≡ 3 → Apart3 n (g .a) (g .b) (g .c)
+  three-on e =
+      let h = and-split (ltb (g .a) n && (ltb (g .b) n && ltb (g .c) n)) (not (eqb (g .a) (g .b) || eqb (g .a) (g .c)) && not (eqb (g .b) (g .c)))
+      (on-three n (g .a) (g .b) (g .c) (arity (g .kind)) (omega arith) ∙ ready .on) in
+      let k = and-split (ltb (g .a) n) (ltb (g .b) n && ltb (g .c) n) (h .0) in
+      let m = and-split (ltb (g .b) n) (ltb (g .c) n) (k .1) in
+      let o = and-split (not (eqb (g .a) (g .b) || eqb (g .a) (g .c))) (not (eqb (g .b) (g .c))) (h .1) in
+      record {
+        first = ltb-true (g .a) n (k .0);
+        others = record { first = ltb-true (g .b) n (m .0); second = ltb-true (g .c) n (m .1); other = not-true (eqb (g .b) (g .c)) (o .1) };
+        other = simp or-false (not-true (eqb (g .a) (g .b) || eqb (g .a) (g .c)) (o .0));
+      }
+
+-- ---- entries
+module _ (n j r s : ℕ) where
+  -- of the only operator
+  only-one : (qs : List ℕ) (u : Small) → j < 1 → embed exact n qs u r s ≡ embed exact n qs (getD (operator u 0 ∷ []) j (operator noUnitary 0) .small) r s
+  only-one qs u l = let e : 0 ≡ j = omega arith in ap (λ (j : ℕ). embed exact n qs (getD (operator u 0 ∷ []) j (operator noUnitary 0) .small) r s) e
+
+  module _ (a b c k : ℕ) where
+    abbrev Entry : List ℕ → Small → ℕ → Type 0
+    Entry qs u m = j < length (operators (gate m a b c k)) → embed exact n qs u r s ≡ gateEntry n (gate m a b c k) j r s
+
+    pub split-entry : (m : ℕ) → elem m (12 ∷ 13 ∷ []) ≡ true → embed exact n (a ∷ []) (operatorAt (gate m 0 0 0 0) j .small) r s ≡ gateEntry n (gate m a b c k) j r s
+    split-entry = each (λ (m : ℕ). embed exact n (a ∷ []) (operatorAt (gate m 0 0 0 0) j .small) r s ≡ gateEntry n (gate m a b c k) j r s) (12 ∷ 13 ∷ []) (refl, (refl, tt))
+
+    pub split-two : (m : ℕ) → elem m (12 ∷ 13 ∷ []) ≡ true → j < length (operators (gate m a b c k)) → j < 2
+    split-two = each (λ (m : ℕ). j < length (operators (gate m a b c k)) → j < 2) (12 ∷ 13 ∷ []) ((λ l. l), ((λ l. l), tt))
+
+    pub unitary-entry : (m : ℕ) → elem m (2 ∷ 3 ∷ 4 ∷ 5 ∷ 6 ∷ 7 ∷ 0 ∷ 1 ∷ 15 ∷ 16 ∷ []) ≡ true → Entry (a ∷ []) (unitaryOf m k) m
+    unitary-entry = each (λ (m : ℕ). Entry (a ∷ []) (unitaryOf m k) m) (2 ∷ 3 ∷ 4 ∷ 5 ∷ 6 ∷ 7 ∷ 0 ∷ 1 ∷ 15 ∷ 16 ∷ [])
+        (o 2, (o 3, (o 4, (o 5, (o 6, (o 7, (o 0, (o 1, (o 15, (o 16, tt))))))))))
+      where
+        o : (m : ℕ) → j < 1 → embed exact n (a ∷ []) (unitaryOf m k) r s ≡ embed exact n (a ∷ []) (getD (operator (unitaryOf m k) 0 ∷ []) j (operator noUnitary 0) .small) r s
+        o m = only-one (a ∷ []) (unitaryOf m k)
+
+    pub controlled-entry : (m : ℕ) → elem m (8 ∷ 9 ∷ 20 ∷ 25 ∷ []) ≡ true → Entry (a ∷ b ∷ []) (controlled (targetOf m)) m
+    controlled-entry = each (λ (m : ℕ). Entry (a ∷ b ∷ []) (controlled (targetOf m)) m) (8 ∷ 9 ∷ 20 ∷ 25 ∷ []) (o 8, (o 9, (o 20, (o 25, tt))))
+      where
+        o : (m : ℕ) → j < 1 → embed exact n (a ∷ b ∷ []) (controlled (targetOf m)) r s ≡ embed exact n (a ∷ b ∷ []) (getD (operator (controlled (targetOf m)) 0 ∷ []) j (operator noUnitary 0) .small) r s
+        o m = only-one (a ∷ b ∷ []) (controlled (targetOf m))
+
+    pub swap-entry : (m : ℕ) → m ≡ 19 → Entry (a ∷ b ∷ []) swapped m
+    swap-entry m e = subst (Entry (a ∷ b ∷ []) swapped) (sym e) (only-one (a ∷ b ∷ []) swapped)
+
+    pub twice-controlled-entry : (m : ℕ) → elem m (10 ∷ 11 ∷ []) ≡ true → Entry (a ∷ b ∷ c ∷ []) (controlled (controlled (targetOf m))) m
+    twice-controlled-entry = each (λ (m : ℕ). Entry (a ∷ b ∷ c ∷ []) (controlled (controlled (targetOf m))) m) (10 ∷ 11 ∷ [])
+        (only-one (a ∷ b ∷ c ∷ []) (controlled (controlled (targetOf 10))), (only-one (a ∷ b ∷ c ∷ []) (controlled (controlled (targetOf 11))), tt))
+
+    pub controlled-swap-entry : (m : ℕ) → m ≡ 26 → Entry (a ∷ b ∷ c ∷ []) (controlled swapped) m
+    controlled-swap-entry m e = subst (Entry (a ∷ b ∷ c ∷ []) (controlled swapped)) (sym e) (only-one (a ∷ b ∷ c ∷ []) (controlled swapped))
+
+-- ---- a gate that is valid is ready
+pub placed-on : (n m : ℕ) (g : Gate) → placed n m g ≡ true → onQubits n g ≡ true
+placed-on n m g e =
+    let a = and-split (every (λ (q : ℕ). ltb q n) (qubits g)) (distinct (qubits g) && every (λ (i : ℕ). ltb i m) (bits g)) e in
+    let b = and-split (distinct (qubits g)) (every (λ (i : ℕ). ltb i m) (bits g)) (a .1) in
+    λ i. a .0 i && b .0 i
+
+pub valid-ready : (n m : ℕ) (g : Gate) (j : ℕ) → valid n m g ≡ true → j < length (operators g) → Ready n g j
+valid-ready n m g j e l =
+    let a = and-split (formed g) (placed n m g && supported g) e in
+    let b = and-split (placed n m g) (supported g) (a .1) in
+    record { known = a .0; on = placed-on n m g (b .0); able = b .1; which = l }
+
+-- what is found of a gate that is fine
+pub fine-valid : (n m : ℕ) (g : Gate) → gateVerdict n m g ≡ Fine → valid n m g ≡ true
+fine-valid n m g = go (formed g) (placed n m g) (supported g)
+  where
+    go : (a b c : Bool) → firstFault a b c ≡ Fine → (a && (b && c)) ≡ true
+    go true true true e = refl
+    go true true false e = let z : _≡_ {A = ℕ} 0 1 = cc in absurd (omega arith)
+    go true false c e = let z : _≡_ {A = ℕ} 0 1 = cc in absurd (omega arith)
+    go false b c e = let z : _≡_ {A = ℕ} 0 1 = cc in absurd (omega arith)
+
+pub fine-ready : (n : ℕ) (g : Gate) (j : ℕ) → unitaryVerdict n g ≡ Fine → j < length (operators g) → Ready n g j
+fine-ready n g j e l = go (formed g) refl (onQubits n g) refl (supported g) refl (eqb (splits g) 0) e
+  where
+    go : (a : Bool) → formed g ≡ a → (b : Bool) → onQubits n g ≡ b → (c : Bool) → supported g ≡ c → (d : Bool) → firstFault a b (c && d) ≡ Fine → Ready n g j
+    go true p true q true r d e = record { known = p; on = q; able = r; which = l }
+    go true p true q false r d e = let z : _≡_ {A = ℕ} 0 1 = cc in absurd (omega arith)
+    go true p false q c r d e = let z : _≡_ {A = ℕ} 0 1 = cc in absurd (omega arith)
+    go false p b q c r d e = let z : _≡_ {A = ℕ} 0 1 = cc in absurd (omega arith)

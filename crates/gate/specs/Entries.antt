@@ -1,0 +1,85 @@
+-- Entries of a gate's matrix as the code finds them: qubits by their masks, and two-by-two matrices as arrays.
+use mathlib.Core.Path.{_≡_}
+use mathlib.Core.Bool.{cond, true, false}
+use mathlib.Core.List.{List, [], _∷_}
+use Prim.Native.Nat.{ℕ, _+_, _-_, _*_, _^_, _≤_, _<_}
+use lib.Dec.{eqb}
+use lib.ListN.{length, getD}
+use Rattle.scalar.specs.declared.Scalar.{Scalar}
+use Rattle.scalar.specs.Exact.{Exact, exact}
+use Rattle.scalar.specs.Calls.{value, scalarOf}
+use Rattle.gate.specs.Gate.{Gate, elem, qubits, formed, supported}
+use Rattle.gate.specs.Verdict.{onQubits}
+use Rattle.gate.specs.Operators.{Small, Operator, operator, operators, unitaries, noUnitary, one, none, sameBits}
+use Rattle.gate.specs.Embed.{bit, embed}
+
+-- ---- qubit q of a row or column number r, cleared and set
+abbrev pub cleared : ℕ → ℕ → ℕ → ℕ
+cleared n q r = r - bit n q r * 2 ^ (n - 1 - q)
+
+abbrev pub raised : ℕ → ℕ → ℕ → ℕ
+raised n q r = cleared n q r + 2 ^ (n - 1 - q)
+
+-- ---- two-by-two matrices as arrays, indexed by the row's and the column's bit
+abbrev pub Table : Type 0
+Table = List (List Scalar)
+
+abbrev pub tableOf : Small → Table
+tableOf u =
+    (scalarOf (u (0 ∷ []) (0 ∷ [])) ∷ scalarOf (u (0 ∷ []) (1 ∷ [])) ∷ [])
+    ∷ (scalarOf (u (1 ∷ []) (0 ∷ [])) ∷ scalarOf (u (1 ∷ []) (1 ∷ [])) ∷ [])
+    ∷ []
+
+abbrev pub noScalar : Scalar
+noScalar = record { n = []; e = 0 }
+
+abbrev pub pick : Table → ℕ → ℕ → Scalar
+pick t x y = getD (getD t x []) y noScalar
+
+abbrev pub smallOf : Table → Small
+smallOf t xs ys = value (pick t (getD xs 0 0) (getD ys 0 0))
+
+-- the identity on some qubits
+abbrev pub identity : Small
+identity xs ys = cond (sameBits xs ys) one none
+
+-- the unitary of a kind; rz is given its k
+abbrev pub unitaryOf : ℕ → ℕ → Small
+unitaryOf kind k = getD (unitaries k) kind noUnitary
+
+-- what a controlled kind does to its target
+abbrev pub targetOf : ℕ → Small
+targetOf kind = unitaryOf (cond (elem kind (8 ∷ 10 ∷ [])) 1 (cond (elem kind (9 ∷ 11 ∷ [])) 2 (cond (eqb kind 20) 15 0))) 0
+
+-- ---- the entries
+-- operator j of a gate
+abbrev pub operatorAt : Gate → ℕ → Operator
+operatorAt g j = getD (operators g) j (operator noUnitary 0)
+
+-- entry (r, c) of the matrix of operator j, on n qubits
+abbrev pub gateEntry : ℕ → Gate → ℕ → ℕ → ℕ → Exact
+gateEntry n g j r c = embed exact n (qubits g) (operatorAt g j .small) r c
+
+-- a gate that passes the questions, with one of its operators
+pub record Ready (n : ℕ) (g : Gate) (j : ℕ) : Type 0 where
+  pub known : formed g ≡ true
+  pub on : onQubits n g ≡ true
+  pub able : supported g ≡ true
+  pub which : j < length (operators g)
+
+-- a row and a column of a matrix on at most 5 qubits
+pub record Spot (n r c : ℕ) : Type 0 where
+  pub few : n ≤ 5
+  pub row-in : r < 2 ^ n
+  pub col-in : c < 2 ^ n
+
+-- two or three different qubits
+pub record Apart2 (n a b : ℕ) : Type 0 where
+  pub first : a < n
+  pub second : b < n
+  pub other : eqb a b ≡ false
+
+pub record Apart3 (n a b c : ℕ) : Type 0 where
+  pub first : a < n
+  pub others : Apart2 n b c
+  pub other : elem a (b ∷ c ∷ []) ≡ false

@@ -1,0 +1,317 @@
+// The entries of a gate's matrices on n qubits, by their row and column.
+use super::judge::GateWords;
+use super::judge::qubit_count;
+use super::masks::bit_of;
+use super::masks::clear_bit;
+use super::masks::set_bit;
+use scalar::Scalar;
+use scalar::cells::write_cell;
+ghost use mathlib.Core.Path.{_≡_};
+ghost use mathlib.Core.Bool.{cond};
+ghost use mathlib.Core.List.{[], _∷_};
+ghost use Prim.Native.Nat.{ℕ, _+_, _*_, _/_, _%_, _^_, _≤_, _<_};
+ghost use mathlib.Core.Bool.{true};
+ghost use lib.Dec.{eqb};
+ghost use Rattle.gate.specs.Gate.{gate, arity, elem};
+ghost use lib.ListN.{length};
+ghost use Rattle.scalar.specs.Cells.{fill};
+ghost use Rattle.scalar.specs.Exact.{exact};
+ghost use Rattle.scalar.specs.Calls.{value, scalarOf};
+ghost use Rattle.gate.specs.Operators.{one, none, phase, controlled, swapped};
+ghost use Rattle.gate.specs.Embed.{embed};
+ghost use Rattle.gate.specs.Verdict.{gateOf};
+ghost use Rattle.gate.specs.Entries.{gateEntry, Ready, unitaryOf, targetOf, operatorAt, cleared, tableOf, pick, smallOf, identity, Spot, Apart2, Apart3};
+
+fn zero() -> Scalar
+    ensures { λ r. ⌜ r ≡ scalarOf none ⌝ }
+{
+    Scalar { n: [0; 4], e: 0 }
+}
+
+fn unit() -> Scalar
+    ensures { λ r. ⌜ r ≡ scalarOf one ⌝ }
+{
+    Scalar {
+        n: [1, 0, 0, 0],
+        e: 0,
+    }
+}
+
+fn pick_entry(u: [[Scalar; 2]; 2], x: usize, y: usize) -> Scalar
+    requires { ⌜ (x < 2) × (y < 2) ⌝ }
+    ensures { λ r. ⌜ r ≡ pick u x y ⌝ }
+{
+    u[x][y]
+}
+
+fn identity_table() -> [[Scalar; 2]; 2]
+    ensures { λ r. ⌜ r ≡ tableOf identity ⌝ }
+{
+    let z = Scalar {
+        n: [0, 0, 0, 0],
+        e: 0,
+    };
+    let o = Scalar {
+        n: [1, 0, 0, 0],
+        e: 0,
+    };
+    [[o, z], [z, o]]
+}
+
+// u where the control bit is 1, the identity where it is 0.
+fn under_control(u: [[Scalar; 2]; 2], x: usize) -> [[Scalar; 2]; 2]
+    ensures { λ r. ⌜ r ≡ cond (eqb x 1) u (tableOf identity) ⌝ }
+{
+    if x == 1 {
+        return u;
+    }
+    identity_table()
+}
+
+// u on qubit q: a row has an entry in the column with the qubit cleared, and one in the column with it set.
+fn one_qubit(u: [[Scalar; 2]; 2], n: u32, q: u32, row: usize, col: usize) -> Scalar
+    requires { ⌜ Spot n row col × (q < n) ⌝ }
+    ensures { λ r. ⌜ value r ≡ embed exact n (q ∷ []) (smallOf u) row col ⌝ }
+{
+    let x = bit_of(n, q, row);
+    if col == clear_bit(n, q, row) {
+        return pick_entry(u, x, 0);
+    }
+    if col == set_bit(n, q, row) {
+        return pick_entry(u, x, 1);
+    }
+    zero()
+}
+
+// u on qubit b under control a.
+fn under_one(u: [[Scalar; 2]; 2], n: u32, a: u32, b: u32, row: usize, col: usize) -> Scalar
+    requires { ⌜ Spot n row col × Apart2 n a b ⌝ }
+    ensures { λ r. ⌜ value r ≡ embed exact n (a ∷ b ∷ []) (controlled (smallOf u)) row col ⌝ }
+{
+    let x = bit_of(n, a, row);
+    let m = under_control(u, x);
+    one_qubit(m, n, b, row, col)
+}
+
+// u on qubit c under controls a and b.
+fn under_two(u: [[Scalar; 2]; 2], n: u32, a: u32, b: u32, c: u32, row: usize, col: usize) -> Scalar
+    requires { ⌜ Spot n row col × Apart3 n a b c ⌝ }
+    ensures { λ r. ⌜ value r ≡ embed exact n (a ∷ b ∷ c ∷ []) (controlled (controlled (smallOf u))) row col ⌝ }
+{
+    let x = bit_of(n, a, row);
+    let m = under_control(u, x);
+    under_one(m, n, b, c, row, col)
+}
+
+fn clear_both(n: u32, a: u32, b: u32, r: usize) -> usize
+    requires { ⌜ (n ≤ 5) × (a < n) × (b < n) × (r < 32) ⌝ }
+    ensures { λ s. ⌜ s ≡ cleared n a (cleared n b r) ⌝ }
+{
+    let s = clear_bit(n, b, r);
+    clear_bit(n, a, s)
+}
+
+// Qubits a and b change places.
+fn swap_entry(n: u32, a: u32, b: u32, row: usize, col: usize) -> Scalar
+    requires { ⌜ Spot n row col × Apart2 n a b ⌝ }
+    ensures { λ r. ⌜ value r ≡ embed exact n (a ∷ b ∷ []) swapped row col ⌝ }
+{
+    let s = clear_both(n, a, b, row);
+    let t = clear_both(n, a, b, col);
+    let x = bit_of(n, a, row);
+    let y = bit_of(n, b, row);
+    let z = bit_of(n, a, col);
+    let p = bit_of(n, b, col);
+    if (s == t) & ((x == p) & (y == z)) {
+        return unit();
+    }
+    zero()
+}
+
+// Qubits b and c change places under control a.
+fn swap_under_one(n: u32, a: u32, b: u32, c: u32, row: usize, col: usize) -> Scalar
+    requires { ⌜ Spot n row col × Apart3 n a b c ⌝ }
+    ensures { λ r. ⌜ value r ≡ embed exact n (a ∷ b ∷ c ∷ []) (controlled swapped) row col ⌝ }
+{
+    let x = bit_of(n, a, row);
+    if x == 1 {
+        return swap_entry(n, b, c, row, col);
+    }
+    let m = identity_table();
+    under_one(m, n, b, c, row, col)
+}
+
+// diag(1, ω^k)
+fn phase_table(k: u32) -> [[Scalar; 2]; 2]
+    ensures { λ r. ⌜ r ≡ tableOf (phase k) ⌝ }
+{
+    let z = zero();
+    let o = unit();
+    let a = Scalar::omega(k);
+    let w = a.value;
+    [[o, z], [z, w]]
+}
+
+// h, x, y or sx.
+fn constant_table(kind: u32) -> [[Scalar; 2]; 2]
+    requires { ⌜ elem kind (0 ∷ 1 ∷ 15 ∷ 16 ∷ []) ≡ true ⌝ }
+    ensures { λ r. ⌜ r ≡ tableOf (unitaryOf kind 0) ⌝ }
+{
+    let z = Scalar {
+        n: [0, 0, 0, 0],
+        e: 0,
+    };
+    let o = Scalar {
+        n: [1, 0, 0, 0],
+        e: 0,
+    };
+    let i = Scalar {
+        n: [0, 0, 1, 0],
+        e: 0,
+    };
+    let j = Scalar {
+        n: [0, 0, -1, 0],
+        e: 0,
+    };
+    let h = Scalar {
+        n: [0, 1, 0, 0],
+        e: 1,
+    };
+    let m = Scalar {
+        n: [0, -1, 0, 0],
+        e: 1,
+    };
+    let p = Scalar {
+        n: [1, 0, 1, 0],
+        e: 1,
+    };
+    let q = Scalar {
+        n: [1, 0, -1, 0],
+        e: 1,
+    };
+    match kind {
+        0 => [[h, h], [h, m]],
+        1 => [[z, o], [o, z]],
+        15 => [[z, j], [i, z]],
+        _ => [[p, q], [q, p]],
+    }
+}
+
+// The unitary of a one-qubit kind.
+fn unitary_table(kind: u32, k: u32) -> [[Scalar; 2]; 2]
+    requires { ⌜ elem kind (2 ∷ 3 ∷ 4 ∷ 5 ∷ 6 ∷ 7 ∷ 0 ∷ 1 ∷ 15 ∷ 16 ∷ []) ≡ true ⌝ }
+    ensures { λ r. ⌜ r ≡ tableOf (unitaryOf kind k) ⌝ }
+{
+    match kind {
+        2 => phase_table(4),
+        3 => phase_table(2),
+        4 => phase_table(6),
+        5 => phase_table(1),
+        6 => phase_table(7),
+        7 => phase_table(k),
+        _ => constant_table(kind),
+    }
+}
+
+// Operator j of measure or reset.
+fn split_table(kind: u32, j: usize) -> [[Scalar; 2]; 2]
+    requires { ⌜ (elem kind (12 ∷ 13 ∷ []) ≡ true) × (j < 2) ⌝ }
+    ensures { λ r. ⌜ r ≡ tableOf (operatorAt (gate kind 0 0 0 0) j .small) ⌝ }
+{
+    let z = Scalar {
+        n: [0, 0, 0, 0],
+        e: 0,
+    };
+    let o = Scalar {
+        n: [1, 0, 0, 0],
+        e: 0,
+    };
+    if j == 0 {
+        return [[o, z], [z, z]];
+    }
+    if kind == 12 {
+        return [[z, z], [z, o]];
+    }
+    [[z, o], [z, z]]
+}
+
+// The unitary on the target of a controlled kind.
+fn target_table(kind: u32) -> [[Scalar; 2]; 2]
+    requires { ⌜ elem kind (8 ∷ 10 ∷ 9 ∷ 11 ∷ 20 ∷ 25 ∷ []) ≡ true ⌝ }
+    ensures { λ r. ⌜ r ≡ tableOf (targetOf kind) ⌝ }
+{
+    match kind {
+        8 => constant_table(1),
+        10 => constant_table(1),
+        9 => phase_table(4),
+        11 => phase_table(4),
+        20 => constant_table(15),
+        _ => constant_table(0),
+    }
+}
+
+fn one_qubit_entry(g: GateWords, n: u32, j: usize, row: usize, col: usize) -> Scalar
+    requires { ⌜ Spot n row col × (Ready n (gateOf g) j × (arity (g .kind) ≡ 1)) ⌝ }
+    ensures { λ r. ⌜ value r ≡ gateEntry n (gateOf g) j row col ⌝ }
+{
+    if (g.kind == 12) | (g.kind == 13) {
+        let u = split_table(g.kind, j);
+        return one_qubit(u, n, g.a, row, col);
+    }
+    let u = unitary_table(g.kind, g.k);
+    one_qubit(u, n, g.a, row, col)
+}
+
+fn two_qubit_entry(g: GateWords, n: u32, j: usize, row: usize, col: usize) -> Scalar
+    requires { ⌜ Spot n row col × (Ready n (gateOf g) j × (arity (g .kind) ≡ 2)) ⌝ }
+    ensures { λ r. ⌜ value r ≡ gateEntry n (gateOf g) j row col ⌝ }
+{
+    if g.kind == 19 {
+        return swap_entry(n, g.a, g.b, row, col);
+    }
+    let u = target_table(g.kind);
+    under_one(u, n, g.a, g.b, row, col)
+}
+
+fn three_qubit_entry(g: GateWords, n: u32, j: usize, row: usize, col: usize) -> Scalar
+    requires { ⌜ Spot n row col × (Ready n (gateOf g) j × (arity (g .kind) ≡ 3)) ⌝ }
+    ensures { λ r. ⌜ value r ≡ gateEntry n (gateOf g) j row col ⌝ }
+{
+    if g.kind == 26 {
+        return swap_under_one(n, g.a, g.b, g.c, row, col);
+    }
+    let u = target_table(g.kind);
+    under_two(u, n, g.a, g.b, g.c, row, col)
+}
+
+// Entry (row, col) of the matrix of operator j, on n qubits.
+pub fn gate_entry(g: GateWords, n: u32, j: usize, row: usize, col: usize) -> Scalar
+    requires { ⌜ Spot n row col × Ready n (gateOf g) j ⌝ }
+    ensures { λ r. ⌜ value r ≡ gateEntry n (gateOf g) j row col ⌝ }
+{
+    let used = qubit_count(g.kind);
+    if used == 1 {
+        return one_qubit_entry(g, n, j, row, col);
+    }
+    if used == 2 {
+        return two_qubit_entry(g, n, j, row, col);
+    }
+    three_qubit_entry(g, n, j, row, col)
+}
+
+// Write the matrix of operator j, on n qubits with d rows and columns, to `at` on.
+pub fn write_operator(buf: &mut [i64], at: usize, n: u32, d: usize, g: GateWords, j: usize)
+    requires { ⌜ (at + d * d * 5 ≤ length (now buf)) × ((n ≤ 5) × ((d ≡ 2 ^ n) × Ready n (gateOf g) j)) ⌝ }
+    ensures { λ _. ⌜ now (buf .exit) ≡ fill (now (buf .entry)) at (d * d) (λ (i : ℕ). gateEntry n (gateOf g) j (i / d) (i % d)) ⌝ }
+{
+    let count = d * d;
+    let mut i = 0;
+    while i < count {
+        let row = i / d;
+        let col = i % d;
+        let v = gate_entry(g, n, j, row, col);
+        let to = at + i * 5;
+        write_cell(buf, to, v);
+        i += 1;
+    }
+}

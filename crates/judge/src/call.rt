@@ -1,0 +1,63 @@
+// circuit_channel: the ten questions, then the circuit run and its channel delivered.
+use branches::bank::branch_size;
+use branches::run::run_gates;
+use circuit::footprint::Footprint;
+use circuit::limits::Limits;
+use circuit::questions::judge_channel;
+use circuit::sizes::power;
+use circuit::verdict::Verdict;
+use collect::deliver;
+use matrix::words::clear;
+ghost use mathlib.Core.Path.{_≡_};
+ghost use Prim.Native.Nat.{_^_};
+ghost use Rattle.algebra.specs.Lists.{total};
+ghost use Rattle.gate.specs.Gate.{gatesOf, splits};
+ghost use Rattle.circuit.specs.Sizes.{workWords};
+ghost use Rattle.collect.specs.Delivered.{overwritten};
+ghost use Rattle.demands.specs.Delivered.{circuitWords, zeroed};
+ghost use Rattle.demands.specs.Call.{verdictOf, resultAfter, workAfter};
+ghost use Rattle.judge.specs.Accepted.{Accepted};
+
+// Run an accepted circuit and write its channel; the words of `work` that it takes end as zero.
+fn run_and_deliver(
+    qubits: u32,
+    bits: u32,
+    store: &[u8],
+    gates: &[u32],
+    result: &mut [i64],
+    work: &mut [i64],
+)
+    requires { ⌜ Accepted qubits bits (now store) (now gates) (now result) (now work) ⌝ }
+    ensures { λ _. ⌜ (now (result .exit) ≡ overwritten (circuitWords qubits bits (now (store .entry)) (gatesOf (now (gates .entry)))) (now (result .entry))) × (now (work .exit) ≡ zeroed (workWords (2 ^ total splits (gatesOf (now (gates .entry)))) (2 ^ qubits)) (now (work .entry))) ⌝ }
+{
+    let f = Footprint::of(gates, bits);
+    let d = power(qubits as u64) as usize;
+    let banks = power(f.splits) as usize;
+    let at = run_gates(work, gates, store, qubits, d, banks);
+    deliver(result, work, at, d, bits, banks);
+    let used = (2 * banks + 2) * branch_size(d);
+    clear(work, 0, used);
+}
+
+// The channel of a circuit. A refusal leaves both buffers as they were.
+pub fn circuit_channel(
+    qubits: u32,
+    bits: u32,
+    store: &[u8],
+    gates: &[u32],
+    limits: Limits,
+    result: &mut [i64],
+    work: &mut [i64],
+) -> Verdict
+    ensures { λ v. ⌜ v ≡ verdictOf qubits bits (now (store .entry)) limits (now (gates .entry)) (now (result .entry)) (now (work .entry)) ⌝ }
+    ensures { λ _. ⌜ now (result .exit) ≡ resultAfter qubits bits (now (store .entry)) limits (now (gates .entry)) (now (result .entry)) (now (work .entry)) ⌝ }
+    ensures { λ _. ⌜ now (work .exit) ≡ workAfter qubits bits (now (store .entry)) limits (now (gates .entry)) (now (result .entry)) (now (work .entry)) ⌝ }
+{
+    let r = result.len();
+    let w = work.len();
+    let v = judge_channel(qubits, bits, store, limits, gates, r as u64, w as u64);
+    if v.is_accepted() {
+        run_and_deliver(qubits, bits, store, gates, result, work);
+    }
+    v
+}

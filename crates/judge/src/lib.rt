@@ -1,0 +1,2 @@
+// The judge: circuits as quantum channels.
+pub mod call;
