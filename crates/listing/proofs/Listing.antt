@@ -1,0 +1,95 @@
+-- Laws of the listing's lines.
+use mathlib.Core.Path.{_≡_, refl, sym, ap, _∙_}
+use mathlib.Core.Bool.{Bool, true, false, cond, _&&_, true≢false}
+use mathlib.Core.List.{List, [], _∷_, _++_, map}
+use Prim.Native.Nat.{ℕ, zero, suc, _+_, _*_, _-_, _/_, _%_, _^_, _<_, _≤_}
+use native.Mathlib.Numerals.{add-one}
+use native.Mathlib.Omega.{arith}
+use lib.IntN.{ℤ, pos, negsuc, natAbs}
+use lib.Signed.{mag}
+use mir.Syntax.{w64}
+use mir.Val.{toZ, ofZ}
+use Rattle.algebra.specs.Words.{upTo}
+use Rattle.algebra.specs.Lists.{concatMap}
+use Rattle.algebra.proofs.Signed.{reads}
+use Rattle.scalar.specs.Exact.{Exact}
+use Rattle.scalar.specs.Cells.{cellWords, isZero}
+use Rattle.algebra.proofs.Tests.{and-split}
+use Rattle.channel.specs.Layout.{bits, side, word, storeAt, chain, dimAt, bitsAt, readBack}
+use Rattle.channel.specs.WellFormed.{storeOk, rises, entriesOk, wellFormed, shapeAt}
+use Rattle.channel.specs.declared.Shape.{Shape}
+use Rattle.channel.specs.WellFormed.{Onward}
+use Rattle.channel.proofs.Chain.{on-record}
+use Rattle.listing.specs.Page.{Page, Written, decimal}
+use Rattle.listing.specs.Listing.{newline, spaced, firstLine, storeBits, entryLine, entryLines, blockAt, blockLines, listing, listingOf}
+use Rattle.listing.proofs.Writing.{text}
+
+-- ---- bits
+abbrev pub bitBytes : ℕ → ℕ → List ℕ
+bitBytes m s = map (λ (b : ℕ). 48 + b) (bits m s)
+
+pub bits-none : (m s : ℕ) → m ≡ 0 → 45 ∷ [] ≡ storeBits m s
+unfolding storeBits
+bits-none m s e = ap (λ (k : ℕ). storeBits k s) (sym e)
+
+pub bits-some : (m s : ℕ) → (m ≡ 0 → ⊥) → bitBytes m s ≡ storeBits m s
+unfolding storeBits
+bits-some zero s e = absurd (e refl)
+bits-some (suc m) s e = refl
+
+pub bits-more : (m s : ℕ) → 0 < m → bitBytes m s ≡ (48 + s % 2) ∷ bitBytes (m - 1) (s / 2)
+bits-more m s h = let e : m ≡ suc (m - 1) = omega arith in ap (λ (k : ℕ). bitBytes k s) e
+
+pub bits-end : (m s : ℕ) → m ≤ 0 → bitBytes m s ≡ []
+bits-end m s h = let e : m ≡ 0 = omega arith in ap (λ (k : ℕ). bitBytes k s) e
+
+-- ---- entries
+-- a word, as it is read
+pub spaced-word : {p q : Page} (z : ℤ) → mag z < 2 ^ 63 → Written p (spaced (toZ w64 (ofZ w64 z))) q → Written p (spaced z) q
+spaced-word z h w = text (ap spaced (reads z h)) w
+
+pub natural : (n : ℕ) (z : ℤ) → upTo n z ≡ true → z ≡ pos (natAbs z)
+natural n (pos a) e = refl
+natural n (negsuc a) e = absurd (true≢false (sym e))
+
+module _ (r c : ℕ) (x : Exact) where
+  pub entry-zero : isZero (x .num) ≡ true → [] ≡ entryLine r c x
+  entry-zero e = ap (λ (t : Bool). cond t [] (decimal r ++ concatMap spaced (pos c ∷ cellWords x) ++ newline)) (sym e)
+
+  pub entry-shown : isZero (x .num) ≡ false → decimal r ++ concatMap spaced (pos c ∷ cellWords x) ++ newline ≡ entryLine r c x
+  entry-shown e = ap (λ (t : Bool). cond t [] (decimal r ++ concatMap spaced (pos c ∷ cellWords x) ++ newline)) (sym e)
+
+pub entries-none : (w : ℕ) (f : ℕ → Exact) → [] ≡ entryLines w 0 f
+unfolding entryLines
+entries-none w f = refl
+
+pub entries-more : (w k : ℕ) (f : ℕ → Exact) → entryLines w k f ++ entryLine (k / w) (k % w) (f k) ≡ entryLines w (k + 1) f
+unfolding entryLines
+entries-more w k f = ap (λ (n : ℕ). entryLines w n f) (sym (add-one k))
+
+pub side-some : (w k : ℕ) → k < w * w → 0 < w
+side-some zero k h = absurd (omega arith)
+side-some (suc w) k h = omega arith
+
+-- ---- blocks
+pub store-words : (l : List ℤ) (at m : ℕ) → storeOk l at m ≡ true → (upTo 4294967295 (word l (at + 1)) ≡ true) × (upTo 4294967295 (word l (at + 2)) ≡ true)
+store-words l at m e = and-split (upTo 4294967295 (word l (at + 1))) _ (and-split (upTo 4294967295 (word l (at + 1)) && upTo 4294967295 (word l (at + 2))) _ e .0)
+
+pub on-entries : {l : List ℤ} {n at : ℕ} (o : Onward l n at) → 0 < n → entriesOk l at (side (dimAt l) * side (dimAt l)) ≡ true
+on-entries {l} {at = at} o h = and-split (rises (o .first) (o .prev) (storeAt l at)) _ (and-split (storeOk l at (bitsAt l)) _ (on-record o h) .1) .1
+
+pub chain-more : (l : List ℤ) (n at : ℕ) → 0 < n → chain l n at ≡ blockAt l at ∷ chain l (n - 1) (natAbs (word l at))
+chain-more l n at h = let e : n ≡ suc (n - 1) = omega arith in ap (λ (k : ℕ). chain l k at) e
+
+pub chain-end : (l : List ℤ) (n at : ℕ) → n ≤ 0 → chain l n at ≡ []
+chain-end l n at h = let e : n ≡ 0 = omega arith in ap (λ (k : ℕ). chain l k at) e
+
+-- ---- the listing
+module _ (l : List ℤ) where
+  pub listed : (h : Shape) → wellFormed l ≡ true → h ≡ shapeAt l → firstLine (h .dim) (h .bits) (h .count) ++ concatMap (blockLines (h .bits) (h .dim * h .dim)) (readBack l) ≡ listingOf l
+  listed h e f =
+      ap (λ (h : Shape). firstLine (h .dim) (h .bits) (h .count) ++ concatMap (blockLines (h .bits) (h .dim * h .dim)) (readBack l)) f
+      ∙ ap (λ (t : Bool). cond t (listing l) []) (sym e)
+
+  pub unlisted : wellFormed l ≡ false → [] ≡ listingOf l
+  unlisted e = ap (λ (t : Bool). cond t (listing l) []) (sym e)

@@ -1,0 +1,114 @@
+-- The room that a text takes: it is written whole where there is enough, and a listing has so many bytes at most.
+use mathlib.Core.Path.{_≡_, refl, sym, ap, _∙_}
+use mathlib.Core.Bool.{Bool, true, false, cond}
+use mathlib.Core.List.{List, [], _∷_, _++_}
+use Prim.Native.Nat.{ℕ, zero, suc, _+_, _*_, _-_, _/_, _%_, _≤_}
+use native.Mathlib.Nat.{le-refl, le-trans, suc-mul}
+use native.Mathlib.Numerals.{add-one}
+use native.Mathlib.Omega.{arith}
+use lib.Dec.{ltb}
+use lib.ListN.{length, drop, set, length-set, length-append, length-map}
+use lib.Seq.{sets, sets-eq}
+use lib.IntN.{ℤ, pos, negsuc, natAbs}
+use Rattle.algebra.specs.Lists.{concatMap}
+use Rattle.scalar.specs.Exact.{Exact}
+use Rattle.scalar.specs.Cells.{cellWords, isZero}
+use Rattle.channel.specs.Layout.{Block, recordSize, side, bits, word, dimAt, bitsAt, countAt, chain}
+use Rattle.channel.specs.WellFormed.{wellFormed}
+use Rattle.channel.proofs.Judging.{formed}
+use Rattle.listing.specs.Page.{page, write, ascii, digits, decimal, signed}
+use Rattle.listing.specs.Listing.{newline, spaced, firstLine, storeBits, entryLine, entryLines, blockLines, blockAt, listing}
+use Rattle.listing.specs.Claims.{Whole, Short, maxListing}
+use Rattle.listing.proofs.Writing.{put-in}
+
+-- ---- enough room
+write-from : (bs l : List ℕ) (at : ℕ) → at + length bs ≤ length l → write (page l at) bs ≡ page (sets l at bs) (at + length bs)
+unfolding write
+write-from [] l at h = let e : at ≡ at + 0 = omega arith in ap (page l) e
+write-from (b ∷ bs) l at h =
+    let e : at + 1 + length bs ≡ at + suc (length bs) = omega arith in
+    ap (λ p. write p bs) (sym (put-in l at b (omega arith) .is))
+    ∙ write-from bs (set l at b) (at + 1) (omega (arith, length-set l at b))
+    ∙ (λ i. page (sets (set l at b) (add-one at i) bs) (e i))
+
+pub whole : Whole
+whole bs l h =
+    let n : 0 + length bs ≡ length bs = omega arith in
+    write-from bs l 0 (omega arith) ∙ ap (λ (xs : List ℕ). page xs (0 + length bs)) (sets-eq bs l 0 (omega arith)) ∙ ap (λ (k : ℕ). page (bs ++ drop k l) k) n
+
+-- ---- lines
+record AtMost (xs : List ℕ) (n : ℕ) : Type 0 where
+  pub le : length xs ≤ n
+
+plus : {xs ys : List ℕ} {a b : ℕ} → AtMost xs a → AtMost ys b → AtMost (xs ++ ys) (a + b)
+plus {xs} {ys} p q = record { le = omega (arith, length-append xs ys, p .le, q .le) }
+
+more : {xs : List ℕ} {a b : ℕ} → a ≤ b → AtMost xs a → AtMost xs b
+more h p = record { le = le-trans (p .le) h }
+
+known : (xs : List ℕ) → AtMost xs (length xs)
+known xs = record { le = le-refl (length xs) }
+
+digits-most : (k n : ℕ) → AtMost (digits k n) k
+unfolding digits
+digits-most zero n = known []
+digits-most (suc k) n = by (ltb n 10) (digits-most k (n / 10))
+  where
+    by : (t : Bool) → AtMost (digits k (n / 10)) k → AtMost (cond t ((48 + n) ∷ []) (digits k (n / 10) ++ ((48 + n % 10) ∷ []))) (suc k)
+    by true h = record { le = omega arith }
+    by false h = more (omega arith) (plus h (known ((48 + n % 10) ∷ [])))
+
+signed-most : (z : ℤ) → AtMost (signed z) 21
+signed-most (pos n) = more (omega arith) (digits-most 20 n)
+signed-most (negsuc n) = plus (known (ascii "-")) (digits-most 20 (suc n))
+
+spaced-most : (z : ℤ) → AtMost (spaced z) 22
+spaced-most z = plus (known (ascii " ")) (signed-most z)
+
+words-most : (zs : List ℤ) → AtMost (concatMap spaced zs) (length zs * 22)
+words-most [] = known []
+words-most (z ∷ zs) = more (omega (arith, suc-mul (length zs) 22)) (plus (spaced-most z) (words-most zs))
+
+entry-most : (r c : ℕ) (x : Exact) → AtMost (entryLine r c x) 153
+entry-most r c x = by (isZero (x .num))
+  where
+    by : (t : Bool) → AtMost (cond t [] (decimal r ++ concatMap spaced (pos c ∷ cellWords x) ++ newline)) 153
+    by true = record { le = omega arith }
+    by false = plus (plus (digits-most 20 r) (words-most (pos c ∷ cellWords x))) (known newline)
+
+entries-most : (w n : ℕ) (f : ℕ → Exact) → AtMost (entryLines w n f) (n * 153)
+unfolding entryLines
+entries-most w zero f = known []
+entries-most w (suc n) f = more (omega (arith, suc-mul n 153)) (plus (entries-most w n f) (entry-most (n / w) (n % w) (f n)))
+
+bits-length : (m s : ℕ) → length (bits m s) ≡ m
+bits-length zero s = refl
+bits-length (suc m) s = ap suc (bits-length m (s / 2))
+
+bits-most : (m s : ℕ) → m ≤ 64 → AtMost (storeBits m s) 64
+unfolding storeBits
+bits-most zero s h = record { le = omega arith }
+bits-most (suc m) s h = record { le = omega (arith, length-map (bits (suc m) s) (λ (b : ℕ). 48 + b), bits-length (suc m) s) }
+
+-- a word of a record stands for at most 31 bytes
+block-most : (m w : ℕ) (b : Block) → m ≤ 64 → AtMost (blockLines m w b) (31 * recordSize w)
+block-most m w b h = more (omega arith) (plus (plus (plus (known (ascii "store ")) (bits-most m (b .store) h)) (known newline)) (entries-most w (w * w) (b .entry)))
+
+chain-most : (l : List ℤ) (m w n at : ℕ) → m ≤ 64 → AtMost (concatMap (blockLines m w) (chain l n at)) (31 * (n * recordSize w))
+chain-most l m w zero at h = more (omega arith) (known [])
+chain-most l m w (suc n) at h = more (omega (arith, suc-mul n (recordSize w))) (plus (block-most m w (blockAt l at) h) (chain-most l m w n (natAbs (word l at)) h))
+
+first-most : (d m n : ℕ) → AtMost (firstLine d m n) 83
+first-most d m n =
+    plus
+    (plus (plus (plus (plus (plus (known (ascii "dim")) (spaced-most (pos d))) (known (ascii " cbits"))) (spaced-most (pos m))) (known (ascii " blocks"))) (spaced-most (pos n)))
+    (known newline)
+
+pub short : Short
+short l h = by (wellFormed l) refl
+  where
+    by : (t : Bool) → wellFormed l ≡ t → length (cond t (listing l) []) ≤ maxListing
+    by true e =
+        let r = formed l e .head .room in
+        omega (arith, r .inside, plus (first-most (dimAt l) (bitsAt l) (countAt l)) (chain-most l (bitsAt l) (side (dimAt l)) (countAt l) (natAbs (word l 3)) (r .few)) .le)
+    by false e = omega arith

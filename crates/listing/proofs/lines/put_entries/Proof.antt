@@ -1,0 +1,89 @@
+-- `lines::put_entries` meets its contract.
+use Prim.Native.Nat.{ℕ, _*_, _-_, _≤_}
+use mathlib.Core.Path.{_≡_, ap}
+use native.Mathlib.Nat.{mul-le-mul}
+use native.Mathlib.Omega.{arith}
+use Rattle.algebra.proofs.Tests.{all-at}
+use Rattle.scalar.specs.Cells.{wellFormedAt}
+use Rattle.channel.specs.Layout.{entryPlace, entryAt}
+use Rattle.listing.specs.Page.{page, Written}
+use Rattle.listing.specs.Listing.{entryLines}
+use Rattle.listing.proofs.Writing.{then, text, none, long}
+use Rattle.listing.proofs.Listing.{entries-none, entries-more, side-some}
+use Rattle.listing.proofs.lines.put_entries.Statement.{statement}
+use Rattle.listing.proofs.lines.put_entries.Tie as tie
+
+abbrev Inv-loop : tie.InvT-loop
+Inv-loop out₀ at s place w n p₀ k₀ out p k = (k ≤ n) × Written (page out₀ at) (entryLines w k (entryAt s place)) (page out p)
+
+abbrev μ-loop : tie.MeasureT-loop
+μ-loop out₀ at s place w n p₀ k₀ out p k = n - k
+
+mul-n : tie.Need-mul-n Inv-loop μ-loop
+mul-n c = let q = c .before .pre .0 in let r = mul-le-mul q q in omega arith
+
+loop-holds : tie.Need-loop-holds Inv-loop μ-loop
+loop-holds c = let s = c .before in (omega arith, text (entries-none (s .args .w) (entryAt (s .args .s .now) (s .args .place))) (none _))
+
+add-put-entry : tie.Need-add-put-entry Inv-loop μ-loop
+add-put-entry c = omega arith
+
+mul-put-entry : tie.Need-mul-put-entry Inv-loop μ-loop
+mul-put-entry c = omega arith
+
+add-put-entry-2 : tie.Need-add-put-entry-2 Inv-loop μ-loop
+add-put-entry-2 c = omega arith
+
+div-put-entry : tie.Need-div-put-entry Inv-loop μ-loop
+div-put-entry c = let l = c .before .before in let q = side-some (l .before .before .args .w) (l .loop .k) (c .before .loop-test .taken) in omega arith
+
+rem-put-entry : tie.Need-rem-put-entry Inv-loop μ-loop
+rem-put-entry c = let l = c .before .before in let q = side-some (l .before .before .args .w) (l .loop .k) (c .before .loop-test .taken) in omega arith
+
+put-entry-requires : tie.Need-put-entry-requires Inv-loop μ-loop
+put-entry-requires c κs =
+    let l = c .before .before in
+    let s = l .before .before in
+    (omega arith, all-at (s .args .w * s .args .w) (λ (k : ℕ). wellFormedAt (s .args .s .now) (entryPlace (s .args .place) k)) (s .pre .1 .1) (l .loop .k) (c .before .loop-test .taken))
+
+add-k : tie.Need-add-k Inv-loop μ-loop
+add-k c = omega arith
+
+loop-less : tie.Need-loop-less Inv-loop μ-loop
+loop-less c = omega arith
+
+loop-again : tie.Need-loop-again Inv-loop μ-loop
+loop-again c =
+    let l = c .before .before .before .before .before in
+    let s = l .before .before in
+    (omega arith, text (entries-more (s .args .w) (l .loop .k) (entryAt (s .args .s .now) (s .args .place))) (then (l .loop .inv .1) (c .before .before .put-entry .ensures)))
+
+same-length : tie.Need-same-length Inv-loop μ-loop
+same-length c = long (c .before .loop .inv .1)
+
+returns : tie.Need-returns Inv-loop μ-loop
+returns c =
+    let l = c .before in
+    let s = l .before .before in
+    let e : l .loop .k ≡ s .args .w * s .args .w = omega arith in
+    text (ap (λ (n : ℕ). entryLines (s .args .w) n (entryAt (s .args .s .now) (s .args .place))) e) (l .loop .inv .1)
+
+pub put-entries-spec : {M : Type 1} → statement M
+put-entries-spec =
+    tie.close
+    (tie.spec
+    Inv-loop
+    μ-loop
+    mul-n
+    loop-holds
+    add-put-entry
+    mul-put-entry
+    add-put-entry-2
+    div-put-entry
+    rem-put-entry
+    put-entry-requires
+    add-k
+    loop-less
+    loop-again
+    same-length
+    returns)

@@ -1,0 +1,5 @@
+pub mod Page
+pub mod Listing
+pub mod Text
+pub mod Input
+pub mod Claims

@@ -1,0 +1,61 @@
+-- The listing of a channel, and the line of a refusal.
+use mathlib.Core.Bool.{cond}
+use mathlib.Core.List.{List, [], _∷_, _++_, map}
+use Prim.Native.Nat.{ℕ, zero, suc, _+_, _*_, _/_, _%_}
+use lib.IntN.{ℤ, pos}
+use Rattle.algebra.specs.Lists.{concatMap}
+use Rattle.scalar.specs.Exact.{Exact}
+use Rattle.scalar.specs.Cells.{cellWords, isZero}
+use Rattle.channel.specs.Layout.{Block, side, bits, storeAt, entryAt, dimAt, bitsAt, countAt, readBack}
+use Rattle.channel.specs.WellFormed.{wellFormed}
+use Rattle.listing.specs.Page.{ascii, decimal, signed}
+
+abbrev pub newline : List ℕ
+newline = ascii "\n"
+
+-- a space, then a number
+abbrev pub spaced : ℤ → List ℕ
+spaced z = ascii " " ++ signed z
+
+abbrev pub firstLine : ℕ → ℕ → ℕ → List ℕ
+firstLine d m n = ascii "dim" ++ spaced (pos d) ++ ascii " cbits" ++ spaced (pos m) ++ ascii " blocks" ++ spaced (pos n) ++ newline
+
+-- the bits of a store from bit 0 on, or "-" where there are none
+unfoldable pub storeBits : ℕ → ℕ → List ℕ
+storeBits zero s = ascii "-"
+storeBits (suc m) s = map (λ b. 48 + b) (bits (suc m) s)
+
+abbrev pub storeLine : ℕ → ℕ → List ℕ
+storeLine m s = ascii "store " ++ storeBits m s ++ newline
+
+-- row, column, n0 to n3 and e; nothing for an entry that is zero
+abbrev pub entryLine : ℕ → ℕ → Exact → List ℕ
+entryLine r c x = cond (isZero (x .num)) [] (decimal r ++ concatMap spaced (pos c ∷ cellWords x) ++ newline)
+
+-- the lines of the first n entries of w to a row
+unfoldable pub entryLines : ℕ → ℕ → (ℕ → Exact) → List ℕ
+entryLines w zero entry = []
+entryLines w (suc n) entry = entryLines w n entry ++ entryLine (n / w) (n % w) (entry n)
+
+abbrev pub blockLines : ℕ → ℕ → Block → List ℕ
+blockLines m w b = storeLine m (b .store) ++ entryLines w (w * w) (b .entry)
+
+-- the block of the record at `at`
+abbrev pub blockAt : List ℤ → ℕ → Block
+blockAt l at = record { store = storeAt l at; entry = entryAt l at }
+
+-- the blocks in the order of the chain
+abbrev pub listing : List ℤ → List ℕ
+listing l = firstLine (dimAt l) (bitsAt l) (countAt l) ++ concatMap (blockLines (bitsAt l) (side (dimAt l))) (readBack l)
+
+-- nothing is listed of words that are no channel
+abbrev pub listingOf : List ℤ → List ℕ
+listingOf l = cond (wellFormed l) (listing l) []
+
+-- a refusal: its number and its index
+abbrev pub refusalLine : ℕ → ℕ → List ℕ
+refusalLine n i = ascii "refused" ++ spaced (pos n) ++ spaced (pos i) ++ newline
+
+-- a text that is no input
+abbrev pub inputLine : List ℕ
+inputLine = ascii "refused input\n"

@@ -1,0 +1,64 @@
+-- The lent parts lie within their buffers.
+use mathlib.Core.Path.{sym}
+use native.Mathlib.Omega.{arith}
+use borrow.Author.Needs.{needs}
+use lib.Seq.{length-take-le}
+use Rattle.replay_channel.proofs.lent.Statement.{statement}
+use Rattle.replay_channel.proofs.lent.Tie as tie
+
+read-requires : tie.Need-read-requires
+read-requires c κs = search needs
+
+read-requires-2 : tie.Need-read-requires-2
+read-requires-2 c κs = search needs
+
+fitting-requires : tie.Need-fitting-requires
+fitting-requires c κs = search needs
+
+fitting-requires-2 : tie.Need-fitting-requires-2
+fitting-requires-2 c κs = search needs
+
+slice-relend-prefix-called : tie.Need-slice-relend-prefix-called
+slice-relend-prefix-called c = search needs
+
+slice-aggregate-called : tie.Need-slice-aggregate-called
+slice-aggregate-called c = sym (length-take-le _ _ (omega arith))
+
+slice-relend-prefix-called-2 : tie.Need-slice-relend-prefix-called-2
+slice-relend-prefix-called-2 c = search needs
+
+slice-aggregate-called-2 : tie.Need-slice-aggregate-called-2
+slice-aggregate-called-2 c = sym (length-take-le _ _ (omega arith))
+
+called-requires : tie.Need-called-requires
+called-requires c κs = search needs
+
+same-length : tie.Need-same-length
+same-length c = search needs
+
+same-length-2 : tie.Need-same-length-2
+same-length-2 c = search needs
+
+same-length-3 : tie.Need-same-length-3
+same-length-3 c = search needs
+
+returns : tie.Need-returns
+returns c = search needs
+
+pub lent-spec : {M : Type 1} → statement M
+lent-spec =
+    tie.close
+    (tie.spec
+    read-requires
+    read-requires-2
+    fitting-requires
+    fitting-requires-2
+    slice-relend-prefix-called
+    slice-aggregate-called
+    slice-relend-prefix-called-2
+    slice-aggregate-called-2
+    called-requires
+    same-length
+    same-length-2
+    same-length-3
+    returns)

@@ -1,0 +1,2 @@
+pub mod Unitary
+pub mod Accepted

@@ -1,0 +1,37 @@
+-- The unitary of a circuit: the product of its gates' matrices, the first gate rightmost. And a call of circuit_unitary.
+use mathlib.Core.Bool.{Bool, cond}
+use mathlib.Core.List.{List, foldl}
+use Prim.Native.Nat.{ℕ, _*_, _^_}
+use lib.ListN.{length, getD}
+use lib.IntN.{ℤ, pos}
+use Rattle.algebra.specs.Sum.{δ}
+use Rattle.algebra.specs.Words.{fillWords}
+use Rattle.scalar.specs.Exact.{Exact, exact}
+use Rattle.scalar.specs.Cells.{fill}
+use Rattle.gate.specs.Gate.{Gate, gatesOf}
+use Rattle.gate.specs.Entries.{gateEntry}
+use Rattle.kraus.specs.Dense.{table, left}
+use Rattle.circuit.specs.declared.limits.Limits.{Limits}
+use Rattle.circuit.specs.declared.verdict.Verdict.{Verdict}
+use Rattle.circuit.specs.Sizes.{unitaryWork}
+use Rattle.circuit.specs.Questions.{accepted, unitaryVerdict}
+
+abbrev pub unitaryStep : ℕ → List Exact → Gate → List Exact
+unitaryStep n m g = left exact (2 ^ n) (gateEntry n g 0) m
+
+-- row by row
+abbrev pub circuitUnitary : ℕ → List Gate → List Exact
+circuitUnitary n gs = foldl (unitaryStep n) (table (2 ^ n) (δ exact)) gs
+
+-- n qubits, the gates' words ws, the limits l, the result r and the work buffer w
+module _ (n : ℕ) (l : Limits) (ws : List ℕ) (r w : List ℤ) where
+  abbrev pub verdictOf : Verdict
+  verdictOf = unitaryVerdict n l ws (length r) (length w)
+
+  -- accepted: the entries of the unitary, then what the buffer held; refused: as it was
+  abbrev pub resultAfter : List ℤ
+  resultAfter = cond (accepted verdictOf) (fill r 0 (2 ^ n * 2 ^ n) (λ (i : ℕ). getD (circuitUnitary n (gatesOf ws)) i (exact .𝟘))) r
+
+  -- accepted: zeros in the words that the call asks for, then what the buffer held; refused: as it was
+  abbrev pub workAfter : List ℤ
+  workAfter = cond (accepted verdictOf) (fillWords w 0 (unitaryWork (2 ^ n)) (λ (i : ℕ). pos 0)) w
