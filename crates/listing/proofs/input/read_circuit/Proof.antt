@@ -1,4 +1,4 @@
--- `input::read_input` meets its contract.
+-- `input::read_circuit` meets its contract.
 use Prim.Native.Nat.{ℕ, _+_, _≤_}
 use mathlib.Core.Path.{_≡_, sym, ap, _∙_, subst₂}
 use mathlib.Core.Bool.{true, false}
@@ -11,8 +11,8 @@ use Rattle.listing.specs.declared.input.Circuit.{Circuit}
 use Rattle.listing.specs.declared.input.Input.{Input}
 use Rattle.listing.specs.Input.{bytes, isInput, circuitIn, shapeOf, numbersOf}
 use Rattle.listing.proofs.Shapes.{Whole, whole, no-text, right, given-input, given-circuit, refused-input, input-text, refused-text, refused-store, given-text, given-store}
-use Rattle.listing.proofs.input.read_input.Statement.{statement}
-use Rattle.listing.proofs.input.read_input.Tie as tie
+use Rattle.listing.proofs.input.read_circuit.Statement.{statement}
+use Rattle.listing.proofs.input.read_circuit.Tie as tie
 
 module _ (c : tie.After-known-told) where
   abbrev count : ℕ
@@ -133,8 +133,8 @@ returns-3 c =
       ),
     )
 
-pub read-input-spec : {M : Type 1} → statement M
-read-input-spec =
+pub read-circuit-spec : {M : Type 1} → statement M
+read-circuit-spec =
     tie.close
     (tie.spec
     read-numbers-requires
