@@ -12,7 +12,7 @@ use Rattle.scalar.specs.Exact.{Exact, number}
 use Rattle.channel.specs.Layout.{channelWords}
 use Rattle.listing.specs.declared.input.Input.{Input}
 use Rattle.listing.specs.Page.{page, write, ascii}
-use Rattle.listing.specs.Listing.{listingOf}
+use Rattle.listing.specs.Listing.{listingOf, refusalLine}
 use Rattle.listing.specs.Input.{inputOf}
 
 -- a text for which there is room is written whole
@@ -25,6 +25,10 @@ maxListing = 161159
 
 abbrev pub Short : Type 0
 Short = (l : List ℤ) → length l ≤ 5200 → length (listingOf l) ≤ maxListing
+
+-- the line of a refusal has at most so many
+abbrev pub ShortRefusal : Type 0
+ShortRefusal = (n i : ℕ) → length (refusalLine n i) ≤ 52
 
 -- ---- h, then measure, on one qubit
 abbrev pub half : ℤ → Exact
