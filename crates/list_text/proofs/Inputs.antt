@@ -10,12 +10,10 @@ use lib.Seq.{sets, sets-eq, length-sets, length-take-le, take-at, drop-at, take-
 use borrow.Author.Tests.{le-leb}
 use Rattle.algebra.specs.Lists.{every}
 use Rattle.algebra.proofs.Tests.{and-split}
-use Rattle.listing.specs.declared.input.Input.{Input}
-use Rattle.listing.specs.declared.input.Circuit.{Circuit}
 use Rattle.listing.specs.declared.text.Read.{Read}
 use Rattle.listing.specs.Text.{body, pieces, value, isNumber, leading, textOf, filled}
-use Rattle.listing.specs.Input.{bitsIn, gatesIn, storeIn, wordsIn, circuitIn, isInput, numbersOf, isInputText, inputOf, stored}
-use Rattle.listing.proofs.Shapes.{Right, right, Whole, whole, given-store}
+use Rattle.listing.specs.Input.{bitsIn, gatesIn, storeIn, wordsIn, isInput, numbersOf, isInputText, stored}
+use Rattle.listing.proofs.Shapes.{Right, right, whole, given-store}
 
 module _ (t : List ℕ) where
   abbrev ns : List ℕ
@@ -23,28 +21,6 @@ module _ (t : List ℕ) where
 
   abbrev ps : List (List ℕ)
   ps = pieces (body t)
-
-  abbrev by : Bool → Input
-  by b = cond b (Input.Given (circuitIn ns)) Input.Refused
-
-  -- ---- what an answer says of the text
-  pub not-input : inputOf t ≡ Input.Refused → isInputText t ≡ false
-  not-input e = go (isInputText t) e
-    where
-      go : (b : Bool) → by b ≡ Input.Refused → b ≡ false
-      go true e = let z : _≡_ {A = ℕ} 0 1 = cc in absurd (omega arith)
-      go false e = refl
-
-  module _ (c : Circuit) (e : inputOf t ≡ Input.Given c) where
-    pub input-text : isInputText t ≡ true
-    input-text = go (isInputText t) e
-      where
-        go : (b : Bool) → by b ≡ Input.Given c → b ≡ true
-        go true e = refl
-        go false e = let z : _≡_ {A = ℕ} 0 1 = cc in absurd (omega arith)
-
-    pub circuit-is : c ≡ circuitIn (numbersOf t)
-    circuit-is = let f : Input.Given c ≡ Input.Given (circuitIn ns) = sym e ∙ ap by input-text in cc
 
   -- ---- the room keeps its length
   pub stored-long : (s : List ℕ) → length (stored t s) ≡ length s

@@ -1,22 +1,28 @@
--- Every answer is written whole.
-use mathlib.Core.Path.{_≡_, refl, ap}
+-- The words of an accepted circuit are listed, and every answer is written whole.
+use mathlib.Core.Path.{_≡_, refl, sym, ap, _∙_}
 use mathlib.Core.Bool.{Bool, true, false, cond}
-use mathlib.Core.List.{List}
+use mathlib.Core.List.{List, []}
 use Prim.Native.Nat.{ℕ, _≤_}
 use native.Mathlib.Omega.{arith}
 use lib.ListN.{length, drop, length-append, length-drop}
 use lib.IntN.{ℤ}
 use Rattle.circuit.specs.Limits.{ceilings}
-use Rattle.circuit.specs.Questions.{accepted, verdictNumber, verdictIndex}
+use Rattle.circuit.specs.Questions.{verdictNumber, verdictIndex}
 use Rattle.demands.specs.Call.{verdictOf, accepts, resultAfter}
 use Rattle.demands.specs.Demands.{delivered}
-use Rattle.demands.proofs.Demands.{demand1}
+use Rattle.demands.proofs.Demands.{demand1, demand2}
 use Rattle.listing.specs.Input.{bitsIn, storeIn, wordsIn, circuitIn, numbersOf, isInputText}
-use Rattle.listing.specs.Listing.{listingOf, refusalLine, inputLine}
+use Rattle.listing.specs.Listing.{listing, listingOf, refusalLine, inputLine}
 use Rattle.listing.specs.Claims.{maxListing}
 use Rattle.listing.proofs.Room.{whole, short, short-refusal}
 use Rattle.list_text.specs.Answer.{linesOf, answerOf}
-use Rattle.list_text.specs.Claims.{Printed}
+use Rattle.list_text.specs.Claims.{Listed, Printed}
+use Rattle.list_text.proofs.Answers.{listed}
+
+pub accepted-listed : Listed
+accepted-listed n m σ ws r w e =
+    let q = resultAfter n m σ ceilings ws r w in
+    sym (listed (verdictOf n m σ ceilings ws r w) q e) ∙ ap (λ (b : Bool). cond b (listing q) []) (demand2 n m σ ceilings ws r w e .formed)
 
 module _ (n m : ℕ) (σ ws : List ℕ) (r w : List ℤ) (h : length r ≤ 5200) where
   channel-most : accepts n m σ ceilings ws r w ≡ true → length (resultAfter n m σ ceilings ws r w) ≤ 5200

@@ -1,7 +1,7 @@
 -- `list` meets its contract.
 use Prim.Native.Nat.{ℕ, _+_, _*_, _-_, _≤_}
-use mathlib.Core.Path.{_≡_, refl, sym, ap, _∙_, subst}
-use mathlib.Core.Bool.{Bool, true, false, cond}
+use mathlib.Core.Path.{_≡_, sym, ap, _∙_, subst}
+use mathlib.Core.Bool.{true}
 use mathlib.Core.List.{List}
 use native.Mathlib.Nat.{le-refl}
 use native.Mathlib.Omega.{arith}
@@ -11,10 +11,9 @@ use borrow.Author.Needs.{needs}
 use Rattle.listing.specs.declared.input.Circuit.{Circuit}
 use Rattle.listing.specs.declared.input.Input.{Input}
 use Rattle.listing.specs.Page.{page, write}
-use Rattle.listing.specs.Text.{filled}
-use Rattle.listing.specs.Input.{numbersOf, circuitIn, storeIn, wordsIn, isInputText, inputOf, stored}
-use Rattle.listing.proofs.Shapes.{Right}
-use Rattle.list_text.proofs.Inputs.{not-input, input-text, circuit-is, stored-long, filled-long, sound, store-is, words-are}
+use Rattle.listing.specs.Input.{numbersOf, circuitIn, storeIn, wordsIn, isInputText, inputOf}
+use Rattle.listing.proofs.Shapes.{given-true, given-is, refused-false}
+use Rattle.list_text.proofs.Inputs.{stored-long, filled-long, sound, store-is, words-are}
 use Rattle.list_text.proofs.Answers.{no-answer, no-result, no-work, an-answer, a-result, a-work}
 use Rattle.list_text.proofs.list.Statement.{statement}
 use Rattle.list_text.proofs.list.Tie as tie
@@ -30,10 +29,10 @@ module _ (k : tie.After-known-told) where
   told = sym (k .before .before .before .read-input .ensures .0) ∙ k .before .circuit .given .1
 
   yes : isInputText text ≡ true
-  yes = input-text text circuit told
+  yes = given-true (isInputText text) (circuitIn (numbersOf text)) circuit told
 
   is : circuit ≡ circuitIn (numbersOf text)
-  is = circuit-is text circuit told
+  is = given-is (isInputText text) (circuitIn (numbersOf text)) circuit told
 
   bits-few : circuit .bits ≤ 64
   bits-few = subst (λ (x : Circuit). x .bits ≤ 64) (sym is) (sound text yes .bits)
@@ -75,7 +74,7 @@ returns c =
     let k = e .before .before in
     let a = k .before .before .before .before .before .args in
     let t = a .text .now in
-    let no = not-input t (sym (k .read-input .ensures .0) ∙ e .enum-told .given .1) in (
+    let no = refused-false (isInputText t) (circuitIn (numbersOf t)) (sym (k .read-input .ensures .0) ∙ e .enum-told .given .1) in (
       n .write-no-input .ensures ∙ ap (write (page (a .out .now) 0)) (no-answer t (a .result .now) (a .work .now) no),
       (no-result t (a .result .now) (a .work .now) no, no-work t (a .result .now) (a .work .now) no),
     )
