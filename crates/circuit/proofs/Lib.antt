@@ -2,4 +2,3 @@ pub mod Counts
 pub mod Products
 pub mod Gates
 pub mod Numbers
-pub mod Bench

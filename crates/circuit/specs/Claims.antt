@@ -1,9 +1,9 @@
 -- Circuits of the bench, with document 01's verdicts on them.
-use mathlib.Core.Path.{_≡_}
+use mathlib.Core.Bool.{Bool, _&&_}
 use mathlib.Core.List.{List, [], _∷_, _++_}
 use Prim.Native.Nat.{ℕ, zero, suc, _^_}
+use lib.Dec.{eqb}
 use lib.ListN.{replicate}
-use Rattle.algebra.specs.Lists.{All}
 use Rattle.circuit.specs.declared.verdict.Verdict.{Verdict}
 use Rattle.circuit.specs.Limits.{ceilings}
 use Rattle.circuit.specs.Questions.{channelVerdict, verdictNumber, verdictIndex}
@@ -40,5 +40,5 @@ rows =
     ∷ row 1 0 (gates 7 13 0 0) 1  -- seven resets
     ∷ []
 
-abbrev pub Verdicts : Type 0
-Verdicts = All (λ (r : Row). (verdictNumber (judged r) ≡ r .number) × (verdictIndex (judged r) ≡ 0)) rows
+abbrev pub holds : Row → Bool
+holds r = eqb (verdictNumber (judged r)) (r .number) && eqb (verdictIndex (judged r)) 0

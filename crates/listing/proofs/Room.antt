@@ -18,7 +18,7 @@ use Rattle.channel.specs.WellFormed.{wellFormed}
 use Rattle.channel.proofs.Judging.{formed}
 use Rattle.listing.specs.Page.{page, write, ascii, digits, decimal, signed}
 use Rattle.listing.specs.Listing.{newline, spaced, firstLine, storeBits, entryLine, entryLines, blockLines, blockAt, listing}
-use Rattle.listing.specs.Claims.{Whole, Short, maxListing}
+use Rattle.listing.specs.Claims.{Whole, Short, ShortRefusal, maxListing}
 use Rattle.listing.proofs.Writing.{put-in}
 
 -- ---- enough room
@@ -112,3 +112,6 @@ short l h = by (wellFormed l) refl
         let r = formed l e .head .room in
         omega (arith, r .inside, plus (first-most (dimAt l) (bitsAt l) (countAt l)) (chain-most l (bitsAt l) (side (dimAt l)) (countAt l) (natAbs (word l 3)) (r .few)) .le)
     by false e = omega arith
+
+pub short-refusal : ShortRefusal
+short-refusal n i = plus (plus (plus (known (ascii "refused")) (spaced-most (pos n))) (spaced-most (pos i))) (known newline) .le

@@ -55,24 +55,18 @@ module _ (ns : List ℕ) where
   pub given : Right ns → Input.Given (circuitIn ns) ≡ shapeOf ns
   given r = ap (λ (c : Bool). cond c (Input.Given (circuitIn ns)) Input.Refused) (sym (is-input r))
 
-  -- what an answer says of the numbers
-  module _ (c : Circuit) (e : shapeOf ns ≡ Input.Given c) where
-    pub given-input : isInput ns ≡ true
-    given-input = by (isInput ns) e
-      where
-        by : (b : Bool) → cond b (Input.Given (circuitIn ns)) Input.Refused ≡ Input.Given c → b ≡ true
-        by true e = refl
-        by false e = let z : _≡_ {A = ℕ} 0 1 = cc in absurd (omega arith)
+-- ---- what an answer says of the test that picks it
+pub given-true : (b : Bool) (x c : Circuit) → cond b (Input.Given x) Input.Refused ≡ Input.Given c → b ≡ true
+given-true true x c e = refl
+given-true false x c e = let z : _≡_ {A = ℕ} 0 1 = cc in absurd (omega arith)
 
-    pub given-circuit : c ≡ circuitIn ns
-    given-circuit = let f : Input.Given c ≡ Input.Given (circuitIn ns) = sym e ∙ sym (given (right given-input)) in cc
+pub given-is : (b : Bool) (x c : Circuit) → cond b (Input.Given x) Input.Refused ≡ Input.Given c → c ≡ x
+given-is true x c e = cc
+given-is false x c e = let z : _≡_ {A = ℕ} 0 1 = cc in absurd (omega arith)
 
-  pub refused-input : shapeOf ns ≡ Input.Refused → isInput ns ≡ false
-  refused-input e = by (isInput ns) e
-    where
-      by : (b : Bool) → cond b (Input.Given (circuitIn ns)) Input.Refused ≡ Input.Refused → b ≡ false
-      by true e = let z : _≡_ {A = ℕ} 0 1 = cc in absurd (omega arith)
-      by false e = refl
+pub refused-false : (b : Bool) (x : Circuit) → cond b (Input.Given x) Input.Refused ≡ Input.Refused → b ≡ false
+refused-false true x e = let z : _≡_ {A = ℕ} 0 1 = cc in absurd (omega arith)
+refused-false false x e = refl
 
 -- ---- the numbers of a text
 leading-all : (ps : List (List ℕ)) → every isNumber ps ≡ true → leading ps ≡ map value ps

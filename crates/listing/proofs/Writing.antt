@@ -15,7 +15,7 @@ use Rattle.algebra.proofs.Parts.{sfits-abs}
 use Rattle.algebra.proofs.Signed.{neg-fits, neg-back, is-neg, not-neg}
 use Rattle.channel.proofs.Words.{Casts}
 use lib.ListN.{length, set, length-set}
-use borrow.Author.Tests.{lt-ltb, le-ltb, ltb-false}
+use borrow.Author.Tests.{lt-ltb, le-ltb, ltb-true, ltb-false}
 use Rattle.listing.specs.Page.{Page, page, put, write, Written, digits, decimal, signed}
 
 -- ---- one byte
@@ -57,6 +57,23 @@ write-long p (b ∷ bs) = write-long (put p b) bs ∙ put-long p b
 
 pub long : {p q : Page} {bs : List ℕ} → Written p bs q → length (q .room) ≡ length (p .room)
 long {p} {bs = bs} w = ap (λ (q : Page). length (q .room)) (w .is) ∙ write-long p bs
+
+-- the next byte's place is inside the room, or its end
+put-inside : (p : Page) (b : ℕ) → p .at ≤ length (p .room) → put p b .at ≤ length (put p b .room)
+unfolding put
+put-inside p b h = by (ltb (p .at) (length (p .room))) refl
+  where
+    by : (t : Bool) → ltb (p .at) (length (p .room)) ≡ t → cond t (page (set (p .room) (p .at) b) (p .at + 1)) p .at ≤ length (cond t (page (set (p .room) (p .at) b) (p .at + 1)) p .room)
+    by true e = omega (arith, ltb-true (p .at) (length (p .room)) e, length-set (p .room) (p .at) b)
+    by false e = h
+
+write-inside : (p : Page) (bs : List ℕ) → p .at ≤ length (p .room) → write p bs .at ≤ length (write p bs .room)
+unfolding write
+write-inside p [] h = h
+write-inside p (b ∷ bs) h = write-inside (put p b) bs (put-inside p b h)
+
+pub inside : (o bs : List ℕ) {q : List ℕ} {n : ℕ} → page q n ≡ write (page o 0) bs → n ≤ length q
+inside o bs e = subst (λ (p : Page). p .at ≤ length (p .room)) (sym e) (write-inside (page o 0) bs (omega arith))
 
 -- q is p after a part of zs, of which ys is left
 pub record Left (p : Page) (zs : List ℕ) (q : Page) (ys : List ℕ) : Type 0 where

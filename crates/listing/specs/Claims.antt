@@ -1,18 +1,13 @@
--- What holds of the listing: the room that it takes, and document 01's example.
+-- What holds of the listing: the room that it takes, and which texts are an input.
 use mathlib.Core.Path.{_≡_}
-use mathlib.Core.Bool.{cond, _&&_}
 use mathlib.Core.List.{List, [], _∷_, _++_}
-use Prim.Native.Nat.{ℕ, _/_, _%_, _≤_}
-use lib.Dec.{eqb, leb}
+use Prim.Native.Nat.{ℕ, _≤_}
 use lib.ListN.{length, drop}
-use lib.IntN.{ℤ, pos, negsuc}
+use lib.IntN.{ℤ}
 use Rattle.algebra.specs.Lists.{All}
-use Rattle.algebra.specs.Dyadic.{frac}
-use Rattle.scalar.specs.Exact.{Exact, number}
-use Rattle.channel.specs.Layout.{channelWords}
 use Rattle.listing.specs.declared.input.Input.{Input}
 use Rattle.listing.specs.Page.{page, write, ascii}
-use Rattle.listing.specs.Listing.{listingOf}
+use Rattle.listing.specs.Listing.{listingOf, refusalLine}
 use Rattle.listing.specs.Input.{inputOf}
 
 -- a text for which there is room is written whole
@@ -26,28 +21,9 @@ maxListing = 161159
 abbrev pub Short : Type 0
 Short = (l : List ℤ) → length l ≤ 5200 → length (listingOf l) ≤ maxListing
 
--- ---- h, then measure, on one qubit
-abbrev pub half : ℤ → Exact
-half z = frac (number z (pos 0) (pos 0) (pos 0)) 1
-
--- entry k of block j: row and column lie in the outcome's half, and the signs differ where those do in block 1
-abbrev pub exampleEntry : ℕ → ℕ → Exact
-exampleEntry j k =
-    cond (eqb (k / 4 / 2) j && eqb (k % 4 / 2) j) (cond (leb j 0) (half (pos 1)) (cond (eqb (k / 4) (k % 4)) (half (pos 1)) (half (negsuc 0)))) (frac (number (pos 0) (pos 0) (pos 0) (pos 0)) 0)
-
-abbrev pub exampleWords : List ℤ
-exampleWords = channelWords 2 1 2 (λ (j : ℕ). record { store = j; entry = exampleEntry j })
-
-abbrev pub exampleText : List ℕ
-exampleText =
-    ascii "dim 2 cbits 1 blocks 2\n"
-    ++ ascii "store 0\n"
-    ++ ascii "0 0 1 0 0 0 1\n0 1 1 0 0 0 1\n1 0 1 0 0 0 1\n1 1 1 0 0 0 1\n"
-    ++ ascii "store 1\n"
-    ++ ascii "2 2 1 0 0 0 1\n2 3 -1 0 0 0 1\n3 2 -1 0 0 0 1\n3 3 1 0 0 0 1\n"
-
-abbrev pub Example : Type 0
-Example = listingOf exampleWords ≡ exampleText
+-- the line of a refusal has at most so many
+abbrev pub ShortRefusal : Type 0
+ShortRefusal = (n i : ℕ) → length (refusalLine n i) ≤ 52
 
 -- ---- texts that are an input, and texts that are none
 pub record Row : Type 0 where

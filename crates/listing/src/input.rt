@@ -9,6 +9,11 @@ ghost use lib.Seq.{sets};
 ghost use Rattle.listing.specs.Text.{filled};
 ghost use Rattle.listing.specs.Input.{maxBits, maxNumbers, bytes, shapeOf, inputOf, stored};
 
+// The most numbers that an input has, and the most bits.
+pub const MAX_NUMBERS: usize = 387;
+
+pub const MAX_BITS: usize = 64;
+
 // How many qubits, bits and gates a circuit has. In the numbers of its text the store begins at 2, and the gates' words at 3 + bits.
 pub struct Circuit {
     pub qubits: u32,
@@ -22,7 +27,7 @@ pub enum Input {
 }
 
 // Whether the m numbers from the third on are bytes.
-pub fn are_bytes(numbers: &[u32], m: usize) -> bool
+fn are_bytes(numbers: &[u32], m: usize) -> bool
     requires { ⌜ 2 + m ≤ length (now numbers) ⌝ }
     ensures { λ r. ⌜ r ≡ bytes (now (numbers .entry)) m ⌝ }
 {
@@ -37,7 +42,7 @@ pub fn are_bytes(numbers: &[u32], m: usize) -> bool
 }
 
 // The circuit in a list of numbers.
-pub fn shape(numbers: &[u32]) -> Input
+fn shape(numbers: &[u32]) -> Input
     ensures { λ r. ⌜ r ≡ shapeOf (now (numbers .entry)) ⌝ }
 {
     let n = numbers.len();
@@ -70,7 +75,7 @@ pub fn shape(numbers: &[u32]) -> Input
 }
 
 // Copies the m bytes of the store.
-pub fn copy_store(numbers: &[u32], m: usize, store: &mut [u8])
+fn copy_store(numbers: &[u32], m: usize, store: &mut [u8])
     requires { ⌜ ((2 + m ≤ length (now numbers)) × (m ≤ length (now store))) × (bytes (now numbers) m ≡ true) ⌝ }
     ensures { λ _. ⌜ now (store .exit) ≡ sets (now (store .entry)) 0 (take m (drop 2 (now (numbers .entry)))) ⌝ }
 {
@@ -81,8 +86,8 @@ pub fn copy_store(numbers: &[u32], m: usize, store: &mut [u8])
     }
 }
 
-// Reads the circuit in a text; its numbers go to `numbers`, and the bytes of its store to `store`.
-pub fn read_input(text: &[u8], numbers: &mut [u32], store: &mut [u8]) -> Input
+// Reads a circuit into as much room as any input needs.
+fn read_circuit(text: &[u8], numbers: &mut [u32], store: &mut [u8]) -> Input
     requires { ⌜ (maxNumbers ≤ length (now numbers)) × (maxBits ≤ length (now store)) ⌝ }
     ensures answer { λ r. ⌜ r ≡ inputOf (now (text .entry)) ⌝ }
     ensures numbers { λ _. ⌜ now (numbers .exit) ≡ filled (now (text .entry)) (now (numbers .entry)) ⌝ }
@@ -96,4 +101,17 @@ pub fn read_input(text: &[u8], numbers: &mut [u32], store: &mut [u8]) -> Input
     };
     copy_store(&numbers[..count], circuit.bits as usize, store);
     Input::Given(circuit)
+}
+
+// Reads the circuit in a text; its numbers go to `numbers`, and the bytes of its store to `store`.
+pub fn read_input(
+    text: &[u8],
+    numbers: &mut [u32; MAX_NUMBERS],
+    store: &mut [u8; MAX_BITS],
+) -> Input
+    ensures answer { λ r. ⌜ r ≡ inputOf (now (text .entry)) ⌝ }
+    ensures numbers { λ _. ⌜ now (numbers .exit) ≡ filled (now (text .entry)) (now (numbers .entry)) ⌝ }
+    ensures store { λ _. ⌜ now (store .exit) ≡ stored (now (text .entry)) (now (store .entry)) ⌝ }
+{
+    read_circuit(text, numbers, store)
 }

@@ -1,5 +1,5 @@
 // What the program that lists a channel reads and writes: its text as numbers, and the lines of its answer.
 pub mod input;
 pub mod lines;
-pub mod page;
-pub mod text;
+mod page;
+mod text;

@@ -22,7 +22,7 @@ ghost use Rattle.listing.specs.Page.{page, write, Written};
 ghost use Rattle.listing.specs.Listing.{spaced, firstLine, storeBits, storeLine, entryLine, entryLines, blockAt, blockLines, listingOf, refusalLine, inputLine};
 
 // The bits of a store from bit 0 on, or "-" where there are none.
-pub fn put_bits(out: &mut [u8], at: usize, store: u64, m: u32) -> usize
+fn put_bits(out: &mut [u8], at: usize, store: u64, m: u32) -> usize
     ensures { λ r. ⌜ Written (page (now (out .entry)) at) (storeBits m store) (page (now (out .exit)) r) ⌝ }
 {
     if m == 0 {
@@ -39,7 +39,7 @@ pub fn put_bits(out: &mut [u8], at: usize, store: u64, m: u32) -> usize
     p
 }
 
-pub fn put_store(out: &mut [u8], at: usize, store: u64, m: u32) -> usize
+fn put_store(out: &mut [u8], at: usize, store: u64, m: u32) -> usize
     ensures { λ r. ⌜ Written (page (now (out .entry)) at) (storeLine m store) (page (now (out .exit)) r) ⌝ }
 {
     let a = put_all(out, at, b"store ");
@@ -48,7 +48,7 @@ pub fn put_store(out: &mut [u8], at: usize, store: u64, m: u32) -> usize
 }
 
 // The five numbers of a cell, each after a space.
-pub fn put_cell(out: &mut [u8], at: usize, s: &[i64], place: usize) -> usize
+fn put_cell(out: &mut [u8], at: usize, s: &[i64], place: usize) -> usize
     requires { ⌜ (place + 5 ≤ length (now s)) × (exponentAt (now s) place ≡ true) ⌝ }
     ensures { λ r. ⌜ Written (page (now (out .entry)) at) (concatMap spaced (cellWords (cellAt (now (s .entry)) place))) (page (now (out .exit)) r) ⌝ }
 {
@@ -60,14 +60,7 @@ pub fn put_cell(out: &mut [u8], at: usize, s: &[i64], place: usize) -> usize
 }
 
 // The line of an entry that is not zero.
-pub fn put_entry(
-    out: &mut [u8],
-    at: usize,
-    s: &[i64],
-    place: usize,
-    row: usize,
-    column: usize,
-) -> usize
+fn put_entry(out: &mut [u8], at: usize, s: &[i64], place: usize, row: usize, column: usize) -> usize
     requires { ⌜ (place + 5 ≤ length (now s)) × (wellFormedAt (now s) place ≡ true) ⌝ }
     ensures { λ r. ⌜ Written (page (now (out .entry)) at) (entryLine row column (cellAt (now (s .entry)) place)) (page (now (out .exit)) r) ⌝ }
 {
@@ -81,7 +74,7 @@ pub fn put_entry(
 }
 
 // The entries of the record of side w at `place`, rows then columns.
-pub fn put_entries(out: &mut [u8], at: usize, s: &[i64], place: usize, w: usize) -> usize
+fn put_entries(out: &mut [u8], at: usize, s: &[i64], place: usize, w: usize) -> usize
     requires { ⌜ (w ≤ 256) × ((place + recordSize w ≤ length (now s)) × (entriesOk (now s) place (w * w) ≡ true)) ⌝ }
     ensures { λ r. ⌜ Written (page (now (out .entry)) at) (entryLines w (w * w) (entryAt (now (s .entry)) place)) (page (now (out .exit)) r) ⌝ }
 {
@@ -96,7 +89,7 @@ pub fn put_entries(out: &mut [u8], at: usize, s: &[i64], place: usize, w: usize)
 }
 
 // The block of the record of side w at `place`: its store, then its entries.
-pub fn put_block(out: &mut [u8], at: usize, s: &[i64], place: usize, w: usize, m: u32) -> usize
+fn put_block(out: &mut [u8], at: usize, s: &[i64], place: usize, w: usize, m: u32) -> usize
     requires { ⌜ (w ≤ 256) × ((place + recordSize w ≤ length (now s)) × ((storeOk (now s) place m ≡ true) × (entriesOk (now s) place (w * w) ≡ true))) ⌝ }
     ensures { λ r. ⌜ Written (page (now (out .entry)) at) (blockLines m w (blockAt (now (s .entry)) place)) (page (now (out .exit)) r) ⌝ }
 {
@@ -105,7 +98,7 @@ pub fn put_block(out: &mut [u8], at: usize, s: &[i64], place: usize, w: usize, m
 }
 
 // The blocks of a well-formed channel, along its chain.
-pub fn put_blocks(out: &mut [u8], at: usize, s: &[i64], w: usize, m: u32, count: usize) -> usize
+fn put_blocks(out: &mut [u8], at: usize, s: &[i64], w: usize, m: u32, count: usize) -> usize
     requires { ⌜ (wellFormed (now s) ≡ true) × ((w ≡ side (dimAt (now s))) × ((m ≡ bitsAt (now s)) × (count ≡ countAt (now s)))) ⌝ }
     ensures { λ r. ⌜ Written (page (now (out .entry)) at) (concatMap (blockLines m w) (readBack (now (s .entry)))) (page (now (out .exit)) r) ⌝ }
 {
@@ -120,7 +113,7 @@ pub fn put_blocks(out: &mut [u8], at: usize, s: &[i64], w: usize, m: u32, count:
     p
 }
 
-pub fn put_first(out: &mut [u8], at: usize, dim: u64, bits: u64, count: u64) -> usize
+fn put_first(out: &mut [u8], at: usize, dim: u64, bits: u64, count: u64) -> usize
     ensures { λ r. ⌜ Written (page (now (out .entry)) at) (firstLine dim bits count) (page (now (out .exit)) r) ⌝ }
 {
     let a = put_all(out, at, b"dim");

@@ -26,19 +26,19 @@ fn none() -> Number
     }
 }
 
-pub fn is_digit(b: u8) -> bool
+fn is_digit(b: u8) -> bool
     ensures { λ r. ⌜ r ≡ isDigit b ⌝ }
 {
     (b'0' <= b) & (b <= b'9')
 }
 
-pub fn is_blank(b: u8) -> bool
+fn is_blank(b: u8) -> bool
     ensures { λ r. ⌜ r ≡ isBlank b ⌝ }
 {
     (b == b' ') | (b == b'\n')
 }
 
-pub fn number_in(piece: &[u8]) -> Number
+fn number_in(piece: &[u8]) -> Number
     ensures { λ r. ⌜ r ≡ numberOf (now (piece .entry)) ⌝ }
 {
     if !((1 <= piece.len()) & (piece.len() <= 10)) {
@@ -64,7 +64,7 @@ pub fn number_in(piece: &[u8]) -> Number
 }
 
 // Where the first blank from `at` on stands, or the text's end.
-pub fn next_blank(text: &[u8], at: usize) -> usize
+fn next_blank(text: &[u8], at: usize) -> usize
     requires { ⌜ at ≤ length (now text) ⌝ }
     ensures { λ r. ⌜ r ≡ at + run (drop at (now (text .entry))) ⌝ }
 {
@@ -79,7 +79,7 @@ pub fn next_blank(text: &[u8], at: usize) -> usize
 }
 
 // The numbers of a text with no newline at its end.
-pub fn read_pieces(text: &[u8], numbers: &mut [u32]) -> Read
+fn read_pieces(text: &[u8], numbers: &mut [u32]) -> Read
     requires { ⌜ length (now text) ≤ 2048 ⌝ }
     ensures count { λ r. ⌜ r ≡ readOf (length (now (numbers .entry))) (pieces (now (text .entry))) ⌝ }
     ensures room { λ _. ⌜ now (numbers .exit) ≡ sets (now (numbers .entry)) 0 (leading (pieces (now (text .entry)))) ⌝ }
@@ -103,7 +103,7 @@ pub fn read_pieces(text: &[u8], numbers: &mut [u32]) -> Read
 }
 
 // The length of a text without the newline at its end.
-pub fn body_length(text: &[u8]) -> usize
+fn body_length(text: &[u8]) -> usize
     ensures { λ r. ⌜ r ≡ bodyLength (now (text .entry)) ⌝ }
 {
     let n = text.len();

@@ -1,4 +1,4 @@
--- `input::read_input` meets its contract.
+-- `input::read_circuit` meets its contract.
 use Prim.Native.Nat.{ℕ, _+_, _≤_}
 use mathlib.Core.Path.{_≡_, sym, ap, _∙_, subst₂}
 use mathlib.Core.Bool.{true, false}
@@ -10,9 +10,9 @@ use borrow.Author.Needs.{needs}
 use Rattle.listing.specs.declared.input.Circuit.{Circuit}
 use Rattle.listing.specs.declared.input.Input.{Input}
 use Rattle.listing.specs.Input.{bytes, isInput, circuitIn, shapeOf, numbersOf}
-use Rattle.listing.proofs.Shapes.{Whole, whole, no-text, right, given-input, given-circuit, refused-input, input-text, refused-text, refused-store, given-text, given-store}
-use Rattle.listing.proofs.input.read_input.Statement.{statement}
-use Rattle.listing.proofs.input.read_input.Tie as tie
+use Rattle.listing.proofs.Shapes.{Whole, whole, no-text, right, given-true, given-is, refused-false, input-text, refused-text, refused-store, given-text, given-store}
+use Rattle.listing.proofs.input.read_circuit.Statement.{statement}
+use Rattle.listing.proofs.input.read_circuit.Tie as tie
 
 module _ (c : tie.After-known-told) where
   abbrev count : ℕ
@@ -42,10 +42,10 @@ module _ (c : tie.After-known-told2) where
   shaped = sym (shape-is (c .before .before .before)) ∙ c .before .circuit .given .1
 
   accepted : isInput numbers ≡ true
-  accepted = given-input numbers circuit shaped
+  accepted = given-true (isInput numbers) (circuitIn numbers) circuit shaped
 
   circuit-is : circuit ≡ circuitIn numbers
-  circuit-is = given-circuit numbers circuit shaped
+  circuit-is = given-is (isInput numbers) (circuitIn numbers) circuit shaped
 
 read-numbers-requires : tie.Need-read-numbers-requires
 read-numbers-requires c κs = search needs
@@ -91,7 +91,7 @@ returns-2 c =
     let k = h .before .before in
     let s = k .before .before .before .before .before .before .before .before .before .before in
     let t = s .args .text .now in
-    let no = input-text t false (read-whole k) (refused-input (numbersOf t) (sym (shape-is h) ∙ c .enum-told2 .given .1)) in
+    let no = input-text t false (read-whole k) (refused-false (isInput (numbersOf t)) (circuitIn (numbersOf t)) (sym (shape-is h) ∙ c .enum-told2 .given .1)) in
     (refused-text t no, (k .before .before .before .before .before .read-numbers .ensures .1, refused-store t (s .args .store .now) no))
 
 slice-reshare-prefix-copy-store : tie.Need-slice-reshare-prefix-copy-store
@@ -133,8 +133,8 @@ returns-3 c =
       ),
     )
 
-pub read-input-spec : {M : Type 1} → statement M
-read-input-spec =
+pub read-circuit-spec : {M : Type 1} → statement M
+read-circuit-spec =
     tie.close
     (tie.spec
     read-numbers-requires

@@ -1,0 +1,14 @@
+-- All rows of the bench hold, by computation.
+use mathlib.Core.Path.{refl}
+use Rattle.algebra.specs.Words.{blocks, joined}
+use Rattle.channel.specs.Layout.{before}
+use Rattle.channel.specs.WellFormed.{wellFormed, chainOk}
+use Rattle.listing.specs.Page.{digits}
+use Rattle.listing.specs.Listing.{storeBits, entryLines}
+use Rattle.listing.specs.Text.{bodyLength, pieces, value, isNumber}
+use Rattle.listing.specs.Input.{isInput, isInputText}
+use Rattle.list_text.specs.Bench.{Bench}
+
+pub bench : Bench
+unfolding blocks joined before wellFormed chainOk digits storeBits entryLines bodyLength pieces value isNumber isInput isInputText
+bench = refl
