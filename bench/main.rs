@@ -110,12 +110,17 @@ fn compare(calls: &Calls, left: &[i64], right: &[i64]) -> u32 {
     unsafe { (calls.compare)(left.as_ptr(), left.len(), right.as_ptr(), right.len(), place.as_mut_ptr(), scalars.as_mut_ptr()) }
 }
 
-fn median(times: &mut [f64]) -> f64 {
+/// The median of some times, or the least of them where other work disturbs the machine (--minimum).
+fn typical(times: &mut [f64]) -> f64 {
     times.sort_by(|a, b| a.total_cmp(b));
-    times[times.len() / 2]
+    if asked("--minimum") { times[0] } else { times[times.len() / 2] }
 }
 
-/// Nanoseconds of each, medians: samples are taken in turn, each of as many calls as last some 50 µs.
+fn asked(option: &str) -> bool {
+    std::env::args().any(|a| a == option)
+}
+
+/// Nanoseconds of each: samples are taken in turn, each of as many calls as last some 50 µs.
 fn medians(samples: usize, budget: Duration, runs: &mut [&mut dyn FnMut()]) -> Vec<f64> {
     let mut counts = Vec::new();
     for run in runs.iter_mut() {
@@ -136,11 +141,14 @@ fn medians(samples: usize, budget: Duration, runs: &mut [&mut dyn FnMut()]) -> V
             times[i].push(t.elapsed().as_nanos() as f64 / counts[i] as f64);
         }
     }
-    times.iter_mut().map(|t| median(t)).collect()
+    times.iter_mut().map(|t| typical(t)).collect()
 }
 
 /// Median nanoseconds of the Rust: at most `most` calls, and none begun after the budget is spent.
 fn rust_median(most: usize, budget: Duration, mut run: impl FnMut()) -> f64 {
+    if asked("--no-rust") {
+        return f64::NAN;
+    }
     let mut times = Vec::new();
     let start = Instant::now();
     while times.len() < most && (times.is_empty() || start.elapsed() < budget) {
@@ -148,11 +156,12 @@ fn rust_median(most: usize, budget: Duration, mut run: impl FnMut()) -> f64 {
         run();
         times.push(t.elapsed().as_nanos() as f64);
     }
-    median(&mut times)
+    typical(&mut times)
 }
 
 fn show(ns: f64) -> String {
     match ns {
+        x if x.is_nan() => "–".into(),
         x if x < 1e3 => format!("{x:.0} ns"),
         x if x < 1e5 => format!("{:.1} µs", x / 1e3),
         x if x < 1e6 => format!("{:.0} µs", x / 1e3),
@@ -200,6 +209,9 @@ fn agreed(w: &Words) -> (Vec<i64>, Vec<i64>) {
         answers.push(result);
     }
     assert!(answers[0] == answers[1], "the archive and plain C differ");
+    if asked("--no-rust") {
+        return (answers.swap_remove(0), vec![0; work_words]);
+    }
     let rust = rust::circuit_channel(&w.circuit().unwrap(), &w.store, &CEILINGS).expect("the Rust refuses");
     let size = 3 + 5 * (1usize << w.qubits).pow(4);
     let order: Vec<u64> = (0..answers[0][2] as usize).map(|j| 4 + j * size).map(|at| answers[0][at + 1] as u64 | (answers[0][at + 2] as u64) << 32).collect();
@@ -210,7 +222,7 @@ fn agreed(w: &Words) -> (Vec<i64>, Vec<i64>) {
 }
 
 fn main() {
-    let quick = std::env::args().any(|a| a == "--quick");
+    let quick = asked("--quick");
     let only = std::env::args().skip(1).find(|a| !a.starts_with("--"));
     let (samples, budget) = if quick { (9, Duration::from_millis(300)) } else { (101, Duration::from_millis(2000)) };
     let (most, rust_budget) = if quick { (3, Duration::from_millis(500)) } else { (11, Duration::from_millis(8000)) };
@@ -261,9 +273,9 @@ fn main() {
             &mut || { black_box(&mut floor2[..]).copy_from_slice(&left); black_box(&floor2); },
         ]);
         let c = w.circuit().unwrap();
-        let x = rust::circuit_channel(&c, &w.store, &CEILINGS).unwrap();
+        let x = if asked("--no-rust") { None } else { rust::circuit_channel(&c, &w.store, &CEILINGS).ok() };
         let y = x.clone();
-        let rust = rust_median(most, rust_budget, || assert!(black_box(&x).compare(black_box(&y)).is_ok()));
+        let rust = rust_median(most, rust_budget, || assert!(black_box(x.as_ref().unwrap()).compare(black_box(y.as_ref().unwrap())).is_ok()));
         let line = Line { name: format!("{name} | 4"), deep: false, rust, archive: t[0], plain: t[1], set: t[2], copy: t[3] };
         line.print();
         lines.push(line);
@@ -281,7 +293,8 @@ fn main() {
             }
         }
     }
-    println!("\nEvery word of every row agrees between the Rust, the archive and plain C. Medians{}.", if quick { ", few repeats" } else { "" });
+    let (who, how) = (if asked("--no-rust") { "the archive" } else { "the Rust, the archive" }, if asked("--minimum") { "Minima" } else { "Medians" });
+    println!("\nEvery word of every row agrees between {who} and plain C. {how}{}.", if quick { " of few repeats" } else { " of repeats" });
     if misses.is_empty() {
         println!("All bars are met: {} rows.", lines.len());
     } else {
