@@ -249,7 +249,7 @@ fn weight_edges(i: u64, rng: &mut Rng) -> Case {
         gates.extend(gate(rng, n, 0, kinds).unwrap());
     }
     let words = Words { qubits: n, bits: 0, store: vec![], gates };
-    if i % 3 == 0 { Case::Unitary { words, limits: CEILINGS, extra: (0, 0) } } else { Case::Channel { words, limits: CEILINGS, extra: (0, 0) } }
+    if i / 6 % 3 == 0 { Case::Unitary { words, limits: CEILINGS, extra: (0, 0) } } else { Case::Channel { words, limits: CEILINGS, extra: (0, 0) } }
 }
 
 // ---- refusals
@@ -517,7 +517,7 @@ pub fn sets() -> Vec<Set> {
         Set { name: "hard", about: "weights 40 to 48, 1 and 2 qubits", count: 700, quick: 30, case: hard_small },
         Set { name: "hard-3", about: "weights 40 to 48, 3 qubits", count: 24, quick: 1, case: hard_three },
         Set { name: "hard-4", about: "weights 40 to 48, 4 qubits", count: 2, quick: 0, case: hard_four },
-        Set { name: "weights", about: "weights 46 to 51", count: 150, quick: 24, case: weight_edges },
+        Set { name: "weights", about: "weights 46 to 51", count: 180, quick: 36, case: weight_edges },
         Set { name: "limits", about: "limits at their edges", count: 6000, quick: 400, case: limit_edges },
         Set { name: "faulty", about: "faulty circuits", count: 12000, quick: 800, case: faulty },
         Set { name: "short", about: "short buffers", count: 2000, quick: 200, case: short_buffers },
