@@ -176,20 +176,23 @@ struct Line {
     rust: f64,
     archive: f64,
     plain: f64,
-    set: f64,
+    floor: f64,
     copy: f64,
 }
 
 impl Line {
     fn print(&self) {
-        println!("| {} | {} | {} | {} | {:.0} | {:.2} | {} | {} | {:.1} |", self.name, show(self.rust), show(self.archive), show(self.plain),
-            self.rust / self.archive, self.archive / self.plain, show(self.set), show(self.copy), self.archive / self.set.max(1.0));
+        let times = if self.rust.is_nan() { "–".into() } else { format!("{:.0}", self.rust / self.archive) };
+        println!("| {} | {} | {} | {} | {times} | {:.2} | {} | {} | {:.1} |", self.name, show(self.rust), show(self.archive), show(self.plain),
+            self.archive / self.plain, show(self.floor), show(self.copy), self.archive / self.floor.max(1.0));
     }
     fn misses(&self) -> Vec<String> {
         let mut out = Vec::new();
         let bar = if self.deep { 1000.0 } else { 150.0 };
         if self.rust / self.archive < bar {
-            out.push(format!("{}: {:.0} times the Rust's speed, the bar is {bar}", self.name, self.rust / self.archive));
+            let floor = self.rust / self.floor;
+            let why = if floor < bar { format!("; the floor alone is at {floor:.0} times") } else { String::new() };
+            out.push(format!("{}: {:.0} times the Rust's speed, the bar is {bar}{why}", self.name, self.rust / self.archive));
         }
         if self.archive / self.plain > 1.3 {
             out.push(format!("{}: {:.2} times the plain C version's time, the bar is 1.3", self.name, self.archive / self.plain));
@@ -226,10 +229,10 @@ fn main() {
     let only = std::env::args().skip(1).find(|a| !a.starts_with("--"));
     let (samples, budget) = if quick { (9, Duration::from_millis(300)) } else { (101, Duration::from_millis(2000)) };
     let (most, rust_budget) = if quick { (3, Duration::from_millis(500)) } else { (11, Duration::from_millis(8000)) };
-    println!("| circuit | n | Rust | archive | plain C | Rust ÷ archive | archive ÷ plain C | memset | memcpy | archive ÷ memset |");
+    println!("| circuit | n | Rust | archive | plain C | Rust ÷ archive | archive ÷ plain C | floor | memcpy | archive ÷ floor |");
     println!("|---|---|---|---|---|---|---|---|---|---|");
     let mut lines = Vec::new();
-    let mut growth: Vec<(&str, Vec<(u32, f64, f64)>)> = Vec::new();
+    let mut growth: Vec<(&str, Vec<(u32, f64, f64, f64)>)> = Vec::new();
     for r in rows().iter().filter(|r| only.as_ref().is_none_or(|o| r.family.contains(o.as_str()))) {
         let w = &r.words;
         let (mut result, mut work) = agreed(w);
@@ -245,13 +248,13 @@ fn main() {
         ]);
         let c = w.circuit().unwrap();
         let rust = rust_median(most, rust_budget, || { black_box(rust::circuit_channel(&c, &w.store, &CEILINGS).is_ok()); });
-        let line = Line { name: format!("{} | {}", r.family, w.qubits), deep: r.deep, rust, archive: t[0], plain: t[1], set: t[2], copy: t[3] };
+        let line = Line { name: format!("{} | {}", r.family, w.qubits), deep: r.deep, rust, archive: t[0], plain: t[1], floor: t[2], copy: t[3] };
         line.print();
         lines.push(line);
         let units = (1u64 << (4 * w.qubits)) as f64 * (1u64 << w.splits().1) as f64;
         match growth.last_mut() {
-            Some((family, points)) if *family == r.family => points.push((w.qubits, t[0], units)),
-            _ => growth.push((r.family, vec![(w.qubits, t[0], units)])),
+            Some((family, points)) if *family == r.family => points.push((w.qubits, t[0], units, t[2])),
+            _ => growth.push((r.family, vec![(w.qubits, t[0], units, t[2])])),
         }
     }
     for measures in [false, true] {
@@ -265,31 +268,33 @@ fn main() {
         for calls in [&ARCHIVE, &PLAIN] {
             assert_eq!(compare(calls, &left, &right), 100, "{}: not the same", calls.name);
         }
-        let (mut floor, mut floor2) = (left.clone(), left.clone());
+        let mut copy = left.clone();
         let t = medians(samples, budget, &mut [
             &mut || assert_eq!(compare(&ARCHIVE, &left, &right), 100),
             &mut || assert_eq!(compare(&PLAIN, &left, &right), 100),
-            &mut || { black_box(&mut floor[..]).fill(0); black_box(&floor); },
-            &mut || { black_box(&mut floor2[..]).copy_from_slice(&left); black_box(&floor2); },
+            &mut || { black_box(black_box(&left).iter().chain(black_box(&right)).fold(0, |a, w| a ^ w)); },
+            &mut || { black_box(&mut copy[..]).copy_from_slice(&left); black_box(&copy); },
         ]);
         let c = w.circuit().unwrap();
         let x = if asked("--no-rust") { None } else { rust::circuit_channel(&c, &w.store, &CEILINGS).ok() };
         let y = x.clone();
         let rust = rust_median(most, rust_budget, || assert!(black_box(x.as_ref().unwrap()).compare(black_box(y.as_ref().unwrap())).is_ok()));
-        let line = Line { name: format!("{name} | 4"), deep: false, rust, archive: t[0], plain: t[1], set: t[2], copy: t[3] };
+        let line = Line { name: format!("{name} | 4"), deep: false, rust, archive: t[0], plain: t[1], floor: t[2], copy: t[3] };
         line.print();
         lines.push(line);
     }
-    println!("\nGrowth with n: the archive's time for each of the d^4·V entries of a channel, in ns; no worse than the work if it does not rise.\n");
+    println!("\nThe floor: writing the result's words once by memset; for compare, reading both channels' words once.");
+    println!("\nGrowth with n: the archive's time for each of the d^4·V entries of a channel, in ns. It is no worse than the work where it does not rise, or");
+    println!("rises no faster than the floor's (a result that no longer fits a cache).\n");
     println!("| circuit | n = 1 | 2 | 3 | 4 |\n|---|---|---|---|---|");
     let mut misses: Vec<String> = lines.iter().flat_map(|l| l.misses()).collect();
     for (family, points) in &growth {
         let shown: Vec<String> = (1..=4).map(|n| points.iter().find(|p| p.0 == n).map_or("–".into(), |p| format!("{:.2}", p.1 / p.2))).collect();
         println!("| {family} | {} |", shown.join(" | "));
         for p in points.windows(2) {
-            let (before, after) = (p[0].1 / p[0].2, p[1].1 / p[1].2);
-            if after > 1.1 * before {
-                misses.push(format!("{family}: from n = {} to {} the time grows {:.2} times as fast as d^4·V", p[0].0, p[1].0, after / before));
+            let (time, floor) = (p[1].1 / p[0].1 / (p[1].2 / p[0].2), p[1].3 / p[0].3 / (p[1].2 / p[0].2));
+            if time > 1.1 * floor.max(1.0) {
+                misses.push(format!("{family}: from n = {} to {} the time grows {time:.2} times as fast as d^4·V", p[0].0, p[1].0));
             }
         }
     }
