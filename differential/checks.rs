@@ -552,6 +552,14 @@ fn smaller_words(w: &Words) -> Vec<Words> {
         let rest: Vec<&[u32]> = gates.iter().enumerate().filter(|(j, _)| *j != i).map(|(_, g)| *g).collect();
         out.push(Words { gates: rest.concat(), ..w.clone() });
     }
+    // one kind after another, from the simplest, on the first qubit
+    for (i, g) in gates.iter().enumerate() {
+        for kind in (0..g[0].min(17)).filter(|k| !(8..=12).contains(k)) {
+            let mut all = w.gates.clone();
+            all.splice(5 * i..5 * i + g.len(), [kind, 0, 0, 0, 0]);
+            out.push(Words { gates: all, ..w.clone() });
+        }
+    }
     for i in 0..w.gates.len() {
         if w.gates[i] > 0 {
             for to in [0, w.gates[i] - 1] {

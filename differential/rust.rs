@@ -8,12 +8,27 @@ use num_bigint::BigInt;
 use num_traits::{ToPrimitive, Zero};
 
 /// A circuit as the calls take it. `store` has one byte a bit where the circuit is sound.
-#[derive(Clone, Debug, PartialEq)]
+#[derive(Clone, PartialEq)]
 pub struct Words {
     pub qubits: u32,
     pub bits: u32,
     pub store: Vec<u8>,
     pub gates: Vec<u32>,
+}
+
+const NAMES: [&str; 27] = ["h", "x", "z", "s", "sdg", "t", "tdg", "rz", "cnot", "cz", "ccx", "ccz", "measure", "reset", "p", "y", "sx", "rx", "ry",
+    "swap", "cy", "cp", "crx", "cry", "crz", "ch", "cswap"];
+
+impl std::fmt::Debug for Words {
+    fn fmt(&self, f: &mut std::fmt::Formatter) -> std::fmt::Result {
+        write!(f, "{} qubits, {} bits, store {:?}, gates [", self.qubits, self.bits, self.store)?;
+        for (i, g) in self.gates.chunks(5).enumerate() {
+            let name = NAMES.get(g[0] as usize).map_or(g[0].to_string(), |n| n.to_string());
+            let rest: Vec<String> = g[1..].iter().map(|w| w.to_string()).collect();
+            write!(f, "{}{name} {}", if i > 0 { "; " } else { "" }, rest.join(" "))?;
+        }
+        write!(f, "] (kind, then words a b c k)")
+    }
 }
 
 impl Words {
