@@ -253,7 +253,15 @@ fn compare_call(calls: &Calls, left: &[i64], right: &[i64]) -> Result<(u32, [u64
     if !(left.kept() && right.kept() && place.edges_kept() && scalars.edges_kept()) {
         return Err(format!("{}: compare changed other words than its reply's", calls.name));
     }
-    Ok((verdict, place.words().try_into().unwrap(), scalars.words().try_into().unwrap()))
+    let reply = (verdict, place.words().try_into().unwrap(), scalars.words().try_into().unwrap());
+    if left.words() == right.words() {
+        // one buffer on both sides
+        let verdict = unsafe { (calls.compare)(left.ptr(), left.len(), left.ptr(), left.len(), place.mut_ptr(), scalars.mut_ptr()) };
+        if verdict != reply.0 || place.words() != reply.1 || scalars.words() != reply.2 {
+            return Err(format!("{}: compare of a buffer with itself is not that of its copy", calls.name));
+        }
+    }
+    Ok(reply)
 }
 
 /// compare against the Rust's answer on both channels, or None where a side is malformed.
