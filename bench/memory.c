@@ -119,7 +119,7 @@ static void sizes(void) {
         printf("\n");
     }
     for (int splits = 0; splits <= 6; splits++) {
-        printf("| its work, %d measure%s and resets |", splits, splits == 1 ? "" : "s");
+        printf("| its work, %d measures and resets |", splits);
         for (int n = 0; n <= 5; n++) {
             if (n == 5 || (n == 0 && splits))
                 printf(" – |");
@@ -154,9 +154,10 @@ int main(void) {
             of[3] = most(of[3], used_by(blocks));
             of[4] = most(of[4], used_by(lookup));
         }
-    for (uint32_t n = 0; n <= QUBITS; n++) {
+    for (uint32_t n = 0; n <= FOREITUKA_MAX_QUBITS; n++) {
         all_kinds(n, 0);
         of[1] = most(of[1], used_by(unitary));
+        if (reply != FOREITUKA_ACCEPTED) return fprintf(stderr, "memory: unitary refused %u at %u qubits\n", reply, n), 1;
         memcpy(right, left, sizeof left);
         of[5] = most(of[5], used_by(phase));
         if (reply != FOREITUKA_EQUIVALENT) return fprintf(stderr, "memory: not equivalent: %u\n", reply), 1;

@@ -406,6 +406,20 @@ fn damaged(i: u64, rng: &mut Rng) -> Case {
         };
         sets.push((rng.one_in(2), at, harmful(rng)));
     }
+    // entries that an effect adds up, near the ranges' ends
+    if n > 0 && rng.one_in(3) {
+        let d = 1u64 << n;
+        let (r, c, part) = (rng.below(d), rng.below(d), rng.below(4));
+        sets.clear();
+        for o in 0..d {
+            let (mut value, e) = (*rng.pick(&[1i64 << 60, (1 << 60) - 1, 1 << 59, -(1 << 60), -(1 << 59), 1, -1, 0]), *rng.pick(&[0, 0, 0, 0, 1, 60]));
+            if e > 0 && value % 2 == 0 {
+                value -= value.signum() - (value == 0) as i64;
+            }
+            let at = 7 + 5 * ((o * d + r) * d * d + o * d + c);
+            sets.extend([(false, at + part, value), (false, at + 4, e)]);
+        }
+    }
     let mut store = left.store.clone();
     if bits > 0 && rng.one_in(2) {
         let at = rng.below(bits as u64) as usize;

@@ -7,23 +7,32 @@ use crate::semantics::channel::Channel;
 use crate::semantics::test_support::Scalar;
 use std::collections::BTreeMap;
 
-/// Calls compared, by name: with the Rust, and with document 01 alone (the plain C version and the rules in this file).
+/// Calls compared, by name: with the Rust, with document 01 alone (the plain C version and the rules in this file), and how often with each reply.
 #[derive(Default, Clone)]
-pub struct Counts(pub BTreeMap<&'static str, [u64; 2]>);
+pub struct Counts(pub BTreeMap<&'static str, (u64, u64, BTreeMap<String, u64>)>);
 
 impl Counts {
-    fn add(&mut self, call: &'static str, rust: bool) {
-        self.0.entry(call).or_default()[!rust as usize] += 1;
+    fn add(&mut self, call: &'static str, rust: bool, reply: impl ToString) {
+        let n = self.0.entry(call).or_default();
+        if rust {
+            n.0 += 1;
+        } else {
+            n.1 += 1;
+        }
+        *n.2.entry(format!("{:>3}", reply.to_string())).or_default() += 1;
     }
     pub fn join(&mut self, other: &Counts) {
         for (call, n) in &other.0 {
             let sum = self.0.entry(call).or_default();
-            sum[0] += n[0];
-            sum[1] += n[1];
+            sum.0 += n.0;
+            sum.1 += n.1;
+            for (reply, m) in &n.2 {
+                *sum.2.entry(reply.clone()).or_default() += m;
+            }
         }
     }
     pub fn total(&self) -> u64 {
-        self.0.values().map(|n| n[0] + n[1]).sum()
+        self.0.values().map(|n| n.0 + n.1).sum()
     }
 }
 
@@ -204,7 +213,7 @@ fn askable(w: &Words, limits: &[u64]) -> bool {
 fn channel(w: &Words, limits: &[u64; 6], extra: (i64, i64), counts: &mut Counts) -> Result<Option<(Vec<i64>, Channel)>, String> {
     let got = both(false, w, limits, extra)?;
     let ask = askable(w, limits) && w.store.iter().all(|b| *b <= 1);
-    counts.add("circuit_channel", ask);
+    counts.add("circuit_channel", ask, got.verdict);
     if !ask {
         return if got.verdict == 0 { Err("accepted, where the Rust cannot be asked".into()) } else { Ok(None) };
     }
@@ -232,7 +241,7 @@ fn store_at(words: &[i64], at: usize) -> u64 {
 fn unitary(w: &Words, limits: &[u64; 6], extra: (i64, i64), counts: &mut Counts) -> Fault {
     let got = both(true, w, limits, extra)?;
     let ask = askable(w, &limits[..4]);
-    counts.add("circuit_unitary", ask);
+    counts.add("circuit_unitary", ask, got.verdict);
     if !ask {
         return if got.verdict == 0 { Err("accepted, where the Rust cannot be asked".into()) } else { Ok(()) };
     }
@@ -268,7 +277,7 @@ fn compare_call(calls: &Calls, left: &[i64], right: &[i64]) -> Result<(u32, [u64
 fn compare(left: &[i64], right: &[i64], rust: Option<(&Channel, &Channel)>, counts: &mut Counts) -> Fault {
     let got = compare_call(&ARCHIVE, left, right)?;
     same("compare", got, compare_call(&PLAIN, left, right)?, "plain C")?;
-    counts.add("compare", rust.is_some());
+    counts.add("compare", rust.is_some(), got.0);
     match rust {
         Some((x, y)) => same("compare", got, rust::compared(x, y), "the Rust"),
         None => same("compare", got, (10, [0; 3], [0; 10]), "document 01"),
@@ -296,7 +305,7 @@ fn effects(words: &[i64], rust: Option<&Channel>, short: usize, counts: &mut Cou
     }
     same("classical_blocks", replies[0].0, replies[1].0, "plain C")?;
     same_words("effects", &replies[0].1, &replies[1].1, "plain C")?;
-    counts.add("classical_blocks", rust.is_some());
+    counts.add("classical_blocks", rust.is_some(), replies[0].0);
     let Some(c) = rust else {
         return same("classical_blocks", replies[0].0, 10, "document 01");
     };
@@ -341,7 +350,7 @@ fn lookup(words: &[i64], store: &[u8], rust: Option<&Channel>, counts: &mut Coun
     }
     same("lookup", replies[0], replies[1], "plain C")?;
     let asked = rust.filter(|c| store.len() == c.num_cbits && store.iter().all(|b| *b <= 1));
-    counts.add("lookup", asked.is_some());
+    counts.add("lookup", asked.is_some(), if replies[0] == 0 { "none" } else { "found" });
     let key: Vec<bool> = store.iter().map(|b| *b == 1).collect();
     match asked.and_then(|c| c.blocks.get(&key)) {
         None => same("lookup", replies[0], 0, if asked.is_some() { "the Rust" } else { "document 01" }),
@@ -422,7 +431,7 @@ fn phase(left: (usize, &[i64]), right: (usize, &[i64]), counts: &mut Counts) -> 
     let well = |(d, m): (usize, &[i64])| [1, 2, 4, 8, 16, 32].contains(&d) && m.len() == 5 * d * d && m.chunks_exact(5).all(well_formed);
     let fit = |(_, m): (usize, &[i64])| m.chunks_exact(5).all(narrow);
     let ask = well(left) && well(right) && (left.0 != right.0 || fit(left) && fit(right));
-    counts.add("phase test", ask);
+    counts.add("phase test", ask, replies[0]);
     if !ask {
         return same("phase test", replies[0], if well(left) && well(right) { 9 } else { 10 }, "document 01");
     }
@@ -471,7 +480,7 @@ fn scalar(op: &Operation, counts: &mut Counts) -> Fault {
     };
     let malformed = operands.iter().any(|x| !well_formed(*x));
     let wide = matches!(op, Mul(..)) && operands.iter().any(|x| !narrow(*x));
-    counts.add("scalar calls", !malformed && !wide);
+    counts.add("scalar calls", !malformed && !wide, replies[0].0);
     if malformed || wide {
         return same("scalar", &replies[0], &(if malformed { 10 } else { 9 }, vec![0; 5]), "document 01");
     }

@@ -117,11 +117,12 @@ fn main() {
             std::process::exit(1);
         }
     }
-    println!("\n| call | compared with the Rust | with document 01 and plain C alone |\n|---|---|---|");
+    println!("\n| call | compared with the Rust | with document 01 and plain C alone | replies: how often |\n|---|---|---|---|");
     for (call, n) in &counts.0 {
-        println!("| {call} | {} | {} |", n[0], n[1]);
+        let replies: Vec<String> = n.2.iter().map(|(reply, m)| format!("{}: {m}", reply.trim())).collect();
+        println!("| {call} | {} | {} | {} |", n.0, n.1, replies.join(", "));
     }
-    let rust: u64 = counts.0.values().map(|n| n[0]).sum();
-    println!("| all | {rust} | {} |", counts.total() - rust);
+    let rust: u64 = counts.0.values().map(|n| n.0).sum();
+    println!("| all | {rust} | {} | |", counts.total() - rust);
     println!("\n{} comparisons of {cases} cases in {:.0} s, 0 disagreements, seed {}", counts.total(), start.elapsed().as_secs_f64(), o.seed);
 }
