@@ -178,6 +178,8 @@ struct Line {
     plain: f64,
     floor: f64,
     copy: f64,
+    /// Writing the work words once: they have to be zero at the end.
+    zeroing: f64,
 }
 
 impl Line {
@@ -190,8 +192,9 @@ impl Line {
         let mut out = Vec::new();
         let bar = if self.deep { 1000.0 } else { 150.0 };
         if self.rust / self.archive < bar {
-            let floor = self.rust / self.floor;
-            let why = if floor < bar { format!("; the floor alone is at {floor:.0} times") } else { String::new() };
+            let floor = self.rust / (self.floor + self.zeroing);
+            let what = if self.zeroing > 0.0 { "the floor and the zeroing of the work words alone are" } else { "the floor alone is" };
+            let why = if floor < bar { format!("; {what} at {floor:.0} times") } else { String::new() };
             out.push(format!("{}: {:.0} times the Rust's speed, the bar is {bar}{why}", self.name, self.rust / self.archive));
         }
         if self.archive / self.plain > 1.3 {
@@ -239,16 +242,17 @@ fn main() {
         let used = (4 + result[2] as usize * (3 + 5 * (1usize << w.qubits).pow(4))).min(result.len());
         let source = result.clone();
         let (mut a, mut b, mut floor) = (result.clone(), work.clone(), result.clone());
-        let mut floor2 = result.clone();
+        let (mut floor2, mut zeroed) = (result.clone(), work.clone());
         let t = medians(samples, budget, &mut [
             &mut || assert_eq!(channel(&ARCHIVE, w, &mut result, &mut work), 0),
             &mut || assert_eq!(channel(&PLAIN, w, &mut a, &mut b), 0),
             &mut || { black_box(&mut floor[..used]).fill(0); black_box(&floor); },
             &mut || { black_box(&mut floor2[..used]).copy_from_slice(&source[..used]); black_box(&floor2); },
+            &mut || { black_box(&mut zeroed[..]).fill(0); black_box(&zeroed); },
         ]);
         let c = w.circuit().unwrap();
         let rust = rust_median(most, rust_budget, || { black_box(rust::circuit_channel(&c, &w.store, &CEILINGS).is_ok()); });
-        let line = Line { name: format!("{} | {}", r.family, w.qubits), deep: r.deep, rust, archive: t[0], plain: t[1], floor: t[2], copy: t[3] };
+        let line = Line { name: format!("{} | {}", r.family, w.qubits), deep: r.deep, rust, archive: t[0], plain: t[1], floor: t[2], copy: t[3], zeroing: t[4] };
         line.print();
         lines.push(line);
         let units = (1u64 << (4 * w.qubits)) as f64 * (1u64 << w.splits().1) as f64;
@@ -279,7 +283,7 @@ fn main() {
         let x = if asked("--no-rust") { None } else { rust::circuit_channel(&c, &w.store, &CEILINGS).ok() };
         let y = x.clone();
         let rust = rust_median(most, rust_budget, || assert!(black_box(x.as_ref().unwrap()).compare(black_box(y.as_ref().unwrap())).is_ok()));
-        let line = Line { name: format!("{name} | 4"), deep: false, rust, archive: t[0], plain: t[1], floor: t[2], copy: t[3] };
+        let line = Line { name: format!("{name} | 4"), deep: false, rust, archive: t[0], plain: t[1], floor: t[2], copy: t[3], zeroing: 0.0 };
         line.print();
         lines.push(line);
     }
