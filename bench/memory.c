@@ -1,6 +1,7 @@
 /*
  * What the calls take of the caller's memory, as Markdown tables: the buffers' sizes by the macros of foreituka.h, and the stack that the
- * calls use. Each call runs on a stack of its own that is painted before; what is no longer painted afterwards was used.
+ * calls use. Each call runs on a stack of its own that is painted before; what is no longer painted afterwards was used. First it holds the sizes
+ * to what the calls ask for: each is accepted, and one word less is refused.
  */
 #include "foreituka.h"
 
@@ -35,8 +36,9 @@ static const uint8_t store[64];
 static uint32_t gates[5 * 1024];
 static size_t gate_words;
 static uint32_t qubits, bits;
-static int64_t left[FOREITUKA_CHANNEL_WORDS(QUBITS, 1)], right[FOREITUKA_CHANNEL_WORDS(QUBITS, 1)];
-static int64_t work[FOREITUKA_CHANNEL_WORK_WORDS(QUBITS, 6)], effects[FOREITUKA_EFFECTS_WORDS(QUBITS, 2)];
+/* 3 qubits with 5 bits measured into make the largest channel, a little larger than 4 qubits with 1 */
+static int64_t left[FOREITUKA_CHANNEL_WORDS(3, 5)], right[FOREITUKA_CHANNEL_WORDS(3, 5)];
+static int64_t work[FOREITUKA_CHANNEL_WORK_WORDS(QUBITS, 6)], effects[FOREITUKA_EFFECTS_WORDS(QUBITS, 64)];
 static int64_t x[5] = {1, 1, 1, 1, 1}, y[5] = {3, -1, 5, 7, 2}, out[5], scalars[10];
 static uint64_t place[3], index_of;
 static uint32_t reply;
@@ -139,7 +141,40 @@ static void sizes(void) {
     printf(" – |\n");
 }
 
+/* whether the macros' sizes are accepted and one word less is refused as short, for every number of qubits, measures and bits within the limits */
+static int exact(void) {
+    for (uint32_t n = 0; n <= FOREITUKA_MAX_QUBITS; n++) {
+        size_t d2 = FOREITUKA_DIM(n) * FOREITUKA_DIM(n), words = FOREITUKA_UNITARY_WORDS(n), needed = FOREITUKA_UNITARY_WORK_WORDS(n);
+        gate_words = 0;
+        for (int less = 0; less < 4; less++) {
+            reply = foreituka_circuit_unitary(n, gates, 0, limits, left, words - (less & 1), work, needed - (less >> 1), &index_of);
+            if (reply != (less ? FOREITUKA_SHORT : FOREITUKA_ACCEPTED)) return 1;
+        }
+        for (uint32_t splits = 0; splits <= (n ? 6 : 0); splits++)
+            for (uint32_t written = splits ? 1 : 0; written <= splits; written++) {
+                size_t b = (size_t)1 << splits, v = (size_t)1 << written;
+                if (v * d2 * d2 + (3 * b + 8) * d2 > FOREITUKA_MAX_MATRIX_CELLS) continue;
+                gate_words = 0;
+                for (uint32_t i = 0; i < splits; i++) gate(FOREITUKA_GATE_MEASURE, i % n, i < written ? i : 0, 0);
+                words = FOREITUKA_CHANNEL_WORDS(n, written);
+                needed = FOREITUKA_CHANNEL_WORK_WORDS(n, splits);
+                for (int less = 0; less < 4; less++) {
+                    reply = foreituka_circuit_channel(n, written, store, written, gates, gate_words, limits, left, words - (less & 1), work,
+                                                      needed - (less >> 1), &index_of);
+                    if (reply != (less ? FOREITUKA_SHORT : FOREITUKA_ACCEPTED)) return 1;
+                    if (less) continue;
+                    size_t effect_words = FOREITUKA_EFFECTS_WORDS(n, left[2]);
+                    if (foreituka_classical_blocks(left, words, effects, effect_words) != FOREITUKA_ACCEPTED ||
+                        foreituka_classical_blocks(left, words, effects, effect_words - 1) != FOREITUKA_SHORT)
+                        return 1;
+                }
+            }
+    }
+    return 0;
+}
+
 int main(void) {
+    if (exact()) return fprintf(stderr, "memory: a size of the header is not what the calls ask for; reply %u\n", reply), 1;
     size_t own = used_by(nothing), of[7] = {0};
     for (uint32_t n = 0; n <= QUBITS; n++)
         for (int splits = 0; splits <= (n < 4 ? 4 : 2); splits++) {
