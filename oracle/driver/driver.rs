@@ -38,7 +38,7 @@ fn show(s: &Scalar) -> String {
     let (n, e) = words(s);
     format!("{} {} {} {} {}", n[0], n[1], n[2], n[3], e)
 }
-fn scalar(w: &[i64]) -> Scalar {
+pub fn scalar(w: &[i64]) -> Scalar {
     let d = BigInt::from(1) << (w[4] as u64);
     Scalar(std::array::from_fn(|i| BigRational::new(BigInt::from(w[i]), d.clone())))
 }
@@ -57,7 +57,7 @@ fn quarters(k: u32) -> Angle {
     a
 }
 /// The gate the five words name, or None where Rust's Gate cannot hold it (kind or k unknown).
-fn gate(w: &[i64]) -> Option<Gate> {
+pub fn gate(w: &[i64]) -> Option<Gate> {
     let (a, b, c, k) = (w[1] as u32, w[2] as u32, w[3] as u32, w[4] as u32);
     let any = || Angle::from_f64(0.1).unwrap();
     Some(match w[0] {

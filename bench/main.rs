@@ -1,0 +1,315 @@
+//! Times the Rust, the archive and the plain C version on the same circuits; checks first that all words agree.
+#![allow(dead_code, unused_imports, unused_variables)]
+mod angle;
+mod calls;
+mod circuit;
+mod driver;
+mod pbc;
+mod qasm;
+mod rust;
+mod semantics;
+mod symbolic_angle;
+
+use calls::{ARCHIVE, CEILINGS, Calls, PLAIN};
+use rust::Words;
+use std::hint::black_box;
+use std::time::{Duration, Instant};
+
+const H: u32 = 0;
+const X: u32 = 1;
+const T: u32 = 5;
+const CNOT: u32 = 8;
+const MEASURE: u32 = 12;
+const RESET: u32 = 13;
+
+struct Row {
+    family: &'static str,
+    deep: bool,
+    words: Words,
+}
+
+fn row(family: &'static str, deep: bool, qubits: u32, bits: u32, gates: &[[u32; 3]]) -> Row {
+    let gates = gates.iter().flat_map(|g| [g[0], g[1], g[2], 0, 0]).collect();
+    Row { family, deep, words: Words { qubits, bits, store: vec![0; bits as usize], gates } }
+}
+
+/// 48 h with a t behind each and a cnot behind every third; a measure into bit 0 after the 24th and after the last if asked for.
+fn deep(n: u32, measures: bool) -> Vec<[u32; 3]> {
+    let mut gates = Vec::new();
+    for i in 0..48 {
+        let q = i % n;
+        gates.extend([[H, q, 0], [T, q, 0]]);
+        if n > 1 && i % 3 == 2 {
+            gates.push([CNOT, q, (q + 1) % n]);
+        }
+        if measures && (i == 23 || i == 47) {
+            gates.push([MEASURE, q, 0]);
+        }
+    }
+    gates
+}
+
+fn rows() -> Vec<Row> {
+    let mut rows = Vec::new();
+    let up_to = |top: u32| 1..=top;
+    for n in up_to(4) {
+        rows.push(row("no gates", false, n, 0, &[]));
+    }
+    for n in up_to(4) {
+        let mut gates = vec![[H, 0, 0]];
+        gates.extend((1..n).map(|q| [CNOT, q - 1, q]));
+        rows.push(row("GHZ", false, n, 0, &gates));
+    }
+    for n in up_to(4) {
+        let gates: Vec<_> = (0..n).flat_map(|q| [[H, q, 0], [T, q, 0]]).collect();
+        rows.push(row("h and t on all", false, n, 0, &gates));
+    }
+    for n in up_to(4) {
+        rows.push(row("deep, weight 48", true, n, 0, &deep(n, false)));
+    }
+    for n in up_to(4) {
+        rows.push(row("deep, two measures into one bit", true, n, 1, &deep(n, true)));
+    }
+    // twelve gates in 64 branches are over the term limit at 4 qubits; six bits are over the cell limit at 3
+    for n in up_to(3) {
+        let bits = if n == 3 { 5 } else { 6 };
+        let gates: Vec<_> = (0..6).flat_map(|i| [[H, i % n, 0], [MEASURE, i % n, i % bits]]).collect();
+        rows.push(row("six h and measure", false, n, bits, &gates));
+    }
+    for n in up_to(4) {
+        let gates: Vec<_> = (0..4).map(|i| [RESET, i % n, 0]).collect();
+        rows.push(row("four resets", false, n, 0, &gates));
+    }
+    let mut gates = Vec::new();
+    for i in 0..6 {
+        gates.push([MEASURE, i % 4, 0]);
+        if i < 5 {
+            gates.push([X, i % 4, 0]);
+        }
+    }
+    rows.push(row("six measures, five x", false, 4, 1, &gates));
+    for n in up_to(4) {
+        let gates: Vec<_> = (0..1024).map(|i| [X, i % n, 0]).collect();
+        rows.push(row("1,024 x", false, n, 0, &gates));
+    }
+    rows
+}
+
+fn channel(calls: &Calls, w: &Words, result: &mut [i64], work: &mut [i64]) -> u32 {
+    let mut index = 0;
+    let verdict = unsafe {
+        (calls.circuit_channel)(w.qubits, w.bits, w.store.as_ptr(), w.store.len(), w.gates.as_ptr(), w.gates.len(), CEILINGS.as_ptr(),
+            result.as_mut_ptr(), result.len(), work.as_mut_ptr(), work.len(), &mut index)
+    };
+    black_box(&result);
+    verdict
+}
+
+fn compare(calls: &Calls, left: &[i64], right: &[i64]) -> u32 {
+    let (mut place, mut scalars) = ([0; 3], [0; 10]);
+    unsafe { (calls.compare)(left.as_ptr(), left.len(), right.as_ptr(), right.len(), place.as_mut_ptr(), scalars.as_mut_ptr()) }
+}
+
+/// The median of some times, or the least of them where other work disturbs the machine (--minimum).
+fn typical(times: &mut [f64]) -> f64 {
+    times.sort_by(|a, b| a.total_cmp(b));
+    if asked("--minimum") { times[0] } else { times[times.len() / 2] }
+}
+
+fn asked(option: &str) -> bool {
+    std::env::args().any(|a| a == option)
+}
+
+/// Nanoseconds of each: samples are taken in turn, each of as many calls as last some 50 µs.
+fn medians(samples: usize, budget: Duration, runs: &mut [&mut dyn FnMut()]) -> Vec<f64> {
+    let mut counts = Vec::new();
+    for run in runs.iter_mut() {
+        run();
+        let start = Instant::now();
+        run();
+        let once = start.elapsed().as_nanos().max(20) as usize;
+        counts.push((50_000 / once).max(1));
+    }
+    let mut times = vec![Vec::new(); runs.len()];
+    let start = Instant::now();
+    while times[0].len() < samples && (times[0].len() < 3 || start.elapsed() < budget) {
+        for (i, run) in runs.iter_mut().enumerate() {
+            let t = Instant::now();
+            for _ in 0..counts[i] {
+                run();
+            }
+            times[i].push(t.elapsed().as_nanos() as f64 / counts[i] as f64);
+        }
+    }
+    times.iter_mut().map(|t| typical(t)).collect()
+}
+
+/// Median nanoseconds of the Rust: at most `most` calls, and none begun after the budget is spent.
+fn rust_median(most: usize, budget: Duration, mut run: impl FnMut()) -> f64 {
+    if asked("--no-rust") {
+        return f64::NAN;
+    }
+    let mut times = Vec::new();
+    let start = Instant::now();
+    while times.len() < most && (times.is_empty() || start.elapsed() < budget) {
+        let t = Instant::now();
+        run();
+        times.push(t.elapsed().as_nanos() as f64);
+    }
+    typical(&mut times)
+}
+
+fn show(ns: f64) -> String {
+    match ns {
+        x if x.is_nan() => "–".into(),
+        x if x < 1e3 => format!("{x:.0} ns"),
+        x if x < 1e5 => format!("{:.1} µs", x / 1e3),
+        x if x < 1e6 => format!("{:.0} µs", x / 1e3),
+        x if x < 1e9 => format!("{:.1} ms", x / 1e6),
+        x => format!("{:.2} s", x / 1e9),
+    }
+}
+
+struct Line {
+    name: String,
+    deep: bool,
+    rust: f64,
+    archive: f64,
+    plain: f64,
+    floor: f64,
+    copy: f64,
+    /// Writing the work words once: they have to be zero at the end.
+    zeroing: f64,
+}
+
+impl Line {
+    fn print(&self) {
+        let times = if self.rust.is_nan() { "–".into() } else { format!("{:.0}", self.rust / self.archive) };
+        println!("| {} | {} | {} | {} | {times} | {:.2} | {} | {} | {:.1} |", self.name, show(self.rust), show(self.archive), show(self.plain),
+            self.archive / self.plain, show(self.floor), show(self.copy), self.archive / self.floor.max(1.0));
+    }
+    fn misses(&self) -> Vec<String> {
+        let mut out = Vec::new();
+        let bar = if self.deep { 1000.0 } else { 150.0 };
+        if self.rust / self.archive < bar {
+            let floor = self.rust / (self.floor + self.zeroing);
+            let what = if self.zeroing > 0.0 { "the floor and the zeroing of the work words alone are" } else { "the floor alone is" };
+            let why = if floor < bar { format!("; {what} at {floor:.0} times") } else { String::new() };
+            out.push(format!("{}: {:.0} times the Rust's speed, the bar is {bar}{why}", self.name, self.rust / self.archive));
+        }
+        if self.archive / self.plain > 1.3 {
+            out.push(format!("{}: {:.2} times the plain C version's time, the bar is 1.3", self.name, self.archive / self.plain));
+        }
+        out
+    }
+}
+
+/// The channel's words by the archive, after a check that plain C has the same words and the Rust the same blocks.
+fn agreed(w: &Words) -> (Vec<i64>, Vec<i64>) {
+    let (result_words, work_words) = w.channel_sizes();
+    let mut answers = Vec::new();
+    for calls in [&ARCHIVE, &PLAIN] {
+        let (mut result, mut work) = (vec![-7; result_words], vec![-7; work_words]);
+        assert_eq!(channel(calls, w, &mut result, &mut work), 0, "{}: refused", calls.name);
+        assert!(work.iter().all(|x| *x == 0), "{}: work words are not zero", calls.name);
+        answers.push(result);
+    }
+    assert!(answers[0] == answers[1], "the archive and plain C differ");
+    if asked("--no-rust") {
+        return (answers.swap_remove(0), vec![0; work_words]);
+    }
+    let rust = rust::circuit_channel(&w.circuit().unwrap(), &w.store, &CEILINGS).expect("the Rust refuses");
+    let size = 3 + 5 * (1usize << w.qubits).pow(4);
+    let order: Vec<u64> = (0..answers[0][2] as usize).map(|j| 4 + j * size).map(|at| answers[0][at + 1] as u64 | (answers[0][at + 2] as u64) << 32).collect();
+    let mut want = rust::layout(rust.quantum_dim, rust.num_cbits, &order, rust.blocks.iter()).expect("the Rust has other stores");
+    want.resize(result_words, -7);
+    assert!(answers[0] == want, "the archive and the Rust differ");
+    (answers.swap_remove(0), vec![0; work_words])
+}
+
+fn main() {
+    let quick = asked("--quick");
+    let only = std::env::args().skip(1).find(|a| !a.starts_with("--"));
+    let (samples, budget) = if quick { (9, Duration::from_millis(300)) } else { (101, Duration::from_millis(2000)) };
+    let (most, rust_budget) = if quick { (3, Duration::from_millis(500)) } else { (11, Duration::from_millis(8000)) };
+    println!("| circuit | n | Rust | archive | plain C | Rust ÷ archive | archive ÷ plain C | floor | memcpy | archive ÷ floor |");
+    println!("|---|---|---|---|---|---|---|---|---|---|");
+    let mut lines = Vec::new();
+    let mut growth: Vec<(&str, Vec<(u32, f64, f64, f64)>)> = Vec::new();
+    for r in rows().iter().filter(|r| only.as_ref().is_none_or(|o| r.family.contains(o.as_str()))) {
+        let w = &r.words;
+        let (mut result, mut work) = agreed(w);
+        let used = (4 + result[2] as usize * (3 + 5 * (1usize << w.qubits).pow(4))).min(result.len());
+        let source = result.clone();
+        let (mut a, mut b, mut floor) = (result.clone(), work.clone(), result.clone());
+        let (mut floor2, mut zeroed) = (result.clone(), work.clone());
+        let t = medians(samples, budget, &mut [
+            &mut || assert_eq!(channel(&ARCHIVE, w, &mut result, &mut work), 0),
+            &mut || assert_eq!(channel(&PLAIN, w, &mut a, &mut b), 0),
+            &mut || { black_box(&mut floor[..used]).fill(0); black_box(&floor); },
+            &mut || { black_box(&mut floor2[..used]).copy_from_slice(&source[..used]); black_box(&floor2); },
+            &mut || { black_box(&mut zeroed[..]).fill(0); black_box(&zeroed); },
+        ]);
+        let c = w.circuit().unwrap();
+        let rust = rust_median(most, rust_budget, || { black_box(rust::circuit_channel(&c, &w.store, &CEILINGS).is_ok()); });
+        let line = Line { name: format!("{} | {}", r.family, w.qubits), deep: r.deep, rust, archive: t[0], plain: t[1], floor: t[2], copy: t[3], zeroing: t[4] };
+        line.print();
+        lines.push(line);
+        let units = (1u64 << (4 * w.qubits)) as f64 * (1u64 << w.splits().1) as f64;
+        match growth.last_mut() {
+            Some((family, points)) if *family == r.family => points.push((w.qubits, t[0], units, t[2])),
+            _ => growth.push((r.family, vec![(w.qubits, t[0], units, t[2])])),
+        }
+    }
+    for measures in [false, true] {
+        let name = if measures { "compare, two equal channels of two blocks" } else { "compare, two equal channels" };
+        if only.as_ref().is_some_and(|o| !name.contains(o.as_str())) {
+            continue;
+        }
+        let w = row("compare", false, 4, measures as u32, &deep(4, measures)).words;
+        let (left, _) = agreed(&w);
+        let right = left.clone();
+        for calls in [&ARCHIVE, &PLAIN] {
+            assert_eq!(compare(calls, &left, &right), 100, "{}: not the same", calls.name);
+        }
+        let mut copy = left.clone();
+        let t = medians(samples, budget, &mut [
+            &mut || assert_eq!(compare(&ARCHIVE, &left, &right), 100),
+            &mut || assert_eq!(compare(&PLAIN, &left, &right), 100),
+            &mut || { black_box(black_box(&left).iter().chain(black_box(&right)).fold(0, |a, w| a ^ w)); },
+            &mut || { black_box(&mut copy[..]).copy_from_slice(&left); black_box(&copy); },
+        ]);
+        let c = w.circuit().unwrap();
+        let x = if asked("--no-rust") { None } else { rust::circuit_channel(&c, &w.store, &CEILINGS).ok() };
+        let y = x.clone();
+        let rust = rust_median(most, rust_budget, || assert!(black_box(x.as_ref().unwrap()).compare(black_box(y.as_ref().unwrap())).is_ok()));
+        let line = Line { name: format!("{name} | 4"), deep: false, rust, archive: t[0], plain: t[1], floor: t[2], copy: t[3], zeroing: 0.0 };
+        line.print();
+        lines.push(line);
+    }
+    println!("\nThe floor: writing the result's words once by memset; for compare, reading both channels' words once.");
+    println!("\nGrowth with n: the archive's time for each of the d^4·V entries of a channel, in ns. It is no worse than the work where it does not rise, or");
+    println!("rises no faster than the floor's (a result that no longer fits a cache).\n");
+    println!("| circuit | n = 1 | 2 | 3 | 4 |\n|---|---|---|---|---|");
+    let mut misses: Vec<String> = lines.iter().flat_map(|l| l.misses()).collect();
+    for (family, points) in &growth {
+        let shown: Vec<String> = (1..=4).map(|n| points.iter().find(|p| p.0 == n).map_or("–".into(), |p| format!("{:.2}", p.1 / p.2))).collect();
+        println!("| {family} | {} |", shown.join(" | "));
+        for p in points.windows(2) {
+            let (time, floor) = (p[1].1 / p[0].1 / (p[1].2 / p[0].2), p[1].3 / p[0].3 / (p[1].2 / p[0].2));
+            if time > 1.1 * floor.max(1.0) {
+                misses.push(format!("{family}: from n = {} to {} the time grows {time:.2} times as fast as d^4·V", p[0].0, p[1].0));
+            }
+        }
+    }
+    let (who, how) = (if asked("--no-rust") { "the archive" } else { "the Rust, the archive" }, if asked("--minimum") { "Minima" } else { "Medians" });
+    println!("\nEvery word of every row agrees between {who} and plain C. {how}{}.", if quick { " of few repeats" } else { " of repeats" });
+    if misses.is_empty() {
+        println!("All bars are met: {} rows.", lines.len());
+    } else {
+        println!("Bars that are not met:");
+        for m in misses {
+            println!("- {}", m.replace(" | ", ", n = "));
+        }
+    }
+}

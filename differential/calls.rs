@@ -1,0 +1,47 @@
+//! The calls of foreituka.h, linked into this process twice: from the archive and from the plain C version.
+
+macro_rules! calls {
+    ($($name:ident($($arg:ident: $type:ty),*) -> $reply:ty, $archive:ident, $plain:ident;)*) => {
+        unsafe extern "C" {
+            $(fn $archive($($arg: $type),*) -> $reply;
+              fn $plain($($arg: $type),*) -> $reply;)*
+        }
+        pub struct Calls {
+            pub name: &'static str,
+            $(pub $name: unsafe extern "C" fn($($arg: $type),*) -> $reply,)*
+        }
+        pub static ARCHIVE: Calls = Calls { name: "the archive", $($name: $archive,)* };
+        pub static PLAIN: Calls = Calls { name: "plain C", $($name: $plain,)* };
+    };
+}
+
+calls! {
+    circuit_channel(qubits: u32, bits: u32, store: *const u8, store_bytes: usize, gates: *const u32, gate_words: usize,
+        limits: *const u64, result: *mut i64, result_words: usize, work: *mut i64, work_words: usize, index: *mut u64) -> u32,
+        foreituka_circuit_channel, plain_circuit_channel;
+    circuit_unitary(qubits: u32, gates: *const u32, gate_words: usize, limits: *const u64, result: *mut i64, result_words: usize,
+        work: *mut i64, work_words: usize, index: *mut u64) -> u32,
+        foreituka_circuit_unitary, plain_circuit_unitary;
+    compare(left: *const i64, left_words: usize, right: *const i64, right_words: usize, place: *mut u64, scalars: *mut i64) -> u32,
+        foreituka_compare, plain_compare;
+    classical_blocks(channel: *const i64, channel_words: usize, result: *mut i64, result_words: usize) -> u32,
+        foreituka_classical_blocks, plain_classical_blocks;
+    lookup(channel: *const i64, channel_words: usize, store: *const u8, store_bytes: usize) -> usize,
+        foreituka_lookup, plain_lookup;
+    equivalent_up_to_global_phase(left_dim: usize, left: *const i64, left_words: usize, right_dim: usize, right: *const i64,
+        right_words: usize) -> u32,
+        foreituka_equivalent_up_to_global_phase, plain_equivalent_up_to_global_phase;
+    scalar_integer(n: i64, out: *mut i64) -> u32, foreituka_scalar_integer, plain_scalar_integer;
+    scalar_zero(out: *mut i64) -> u32, foreituka_scalar_zero, plain_scalar_zero;
+    scalar_i(out: *mut i64) -> u32, foreituka_scalar_i, plain_scalar_i;
+    scalar_inv_sqrt_two(out: *mut i64) -> u32, foreituka_scalar_inv_sqrt_two, plain_scalar_inv_sqrt_two;
+    scalar_omega(k: u32, out: *mut i64) -> u32, foreituka_scalar_omega, plain_scalar_omega;
+    scalar_neg(x: *const i64, out: *mut i64) -> u32, foreituka_scalar_neg, plain_scalar_neg;
+    scalar_conj(x: *const i64, out: *mut i64) -> u32, foreituka_scalar_conj, plain_scalar_conj;
+    scalar_half(x: *const i64, out: *mut i64) -> u32, foreituka_scalar_half, plain_scalar_half;
+    scalar_add(x: *const i64, y: *const i64, out: *mut i64) -> u32, foreituka_scalar_add, plain_scalar_add;
+    scalar_mul(x: *const i64, y: *const i64, out: *mut i64) -> u32, foreituka_scalar_mul, plain_scalar_mul;
+}
+
+/// max_qubits, max_matrix_cells, max_multiply_terms, max_operations, max_branches, max_classical_bits.
+pub const CEILINGS: [u64; 6] = [5, 262_144, 10_000_000, 1024, 64, 64];

@@ -1,0 +1,543 @@
+//! The cases: each set is a number of cases and a rule from a case's number and a seed to the case.
+use crate::calls::CEILINGS;
+use crate::checks::{Case, Operation, weight};
+use crate::lent::Rng;
+use crate::rust::Words;
+
+pub struct Set {
+    pub name: &'static str,
+    pub about: &'static str,
+    pub count: u64,
+    /// Of a quick run.
+    pub quick: u64,
+    pub case: fn(u64, &mut Rng) -> Case,
+}
+
+const H: u32 = 0;
+const T: u32 = 5;
+const RZ: u32 = 7;
+const CNOT: u32 = 8;
+const MEASURE: u32 = 12;
+const RESET: u32 = 13;
+const SX: u32 = 16;
+const CH: u32 = 25;
+const ONE: [u32; 11] = [0, 1, 2, 3, 4, 5, 6, 15, 16, 13, 7];
+const UNSUPPORTED: [u32; 8] = [14, 17, 18, 21, 22, 23, 24, 7];
+const PLAIN: [u32; 18] = [0, 1, 2, 3, 4, 5, 6, 7, 8, 9, 10, 11, 15, 16, 19, 20, 25, 26];
+
+pub fn qubit_words(kind: u32) -> usize {
+    match kind {
+        10 | 11 | 26 => 3,
+        8 | 9 | 19..=25 => 2,
+        _ => 1,
+    }
+}
+
+// ---- all circuits of a few gates
+
+/// Every gate on one qubit with two bits: 10 kinds, rz with k from 0 to 8, measures, unsupported kinds.
+fn one_qubit_gates() -> Vec<[u32; 5]> {
+    let mut out: Vec<[u32; 5]> = ONE[..10].iter().map(|k| [*k, 0, 0, 0, 0]).collect();
+    out.extend((0..9).map(|k| [RZ, 0, 0, 0, k]));
+    out.extend([[MEASURE, 0, 0, 0, 0], [MEASURE, 0, 1, 0, 0], [14, 0, 0, 0, 0], [17, 0, 0, 0, 0], [18, 0, 0, 0, 0]]);
+    out
+}
+
+/// Every gate on two qubits with two bits, the repeated operand included.
+fn two_qubit_gates() -> Vec<[u32; 5]> {
+    let mut out = Vec::new();
+    for q in 0..2 {
+        for mut g in one_qubit_gates() {
+            g[1] = q;
+            out.push(g);
+        }
+    }
+    for kind in [8, 9, 19, 20, 25, 21] {
+        out.extend([[kind, 0, 1, 0, 0], [kind, 1, 0, 0, 0], [kind, 1, 1, 0, 0]]);
+    }
+    out
+}
+
+fn numbered(mut i: u64, gates: &[[u32; 5]]) -> Vec<u32> {
+    // numbers 0, 1..=k, k+1..=k+k², ... are the circuits of 0, 1, 2, ... gates
+    let (k, mut length, mut many) = (gates.len() as u64, 0, 1);
+    while i >= many {
+        i -= many;
+        many *= k;
+        length += 1;
+    }
+    let mut out = Vec::new();
+    for _ in 0..length {
+        out.extend(gates[(i % k) as usize]);
+        i /= k;
+    }
+    out
+}
+
+fn up_to(length: u32, gates: usize) -> u64 {
+    (0..=length).map(|l| (gates as u64).pow(l)).sum()
+}
+
+fn all_one_qubit(i: u64, _: &mut Rng) -> Case {
+    let words = Words { qubits: 1, bits: 2, store: vec![0, 1], gates: numbered(i, &one_qubit_gates()) };
+    Case::Channel { words, limits: CEILINGS, extra: (0, 0) }
+}
+
+fn all_two_qubit(i: u64, _: &mut Rng) -> Case {
+    let words = Words { qubits: 2, bits: 2, store: vec![1, 0], gates: numbered(i, &two_qubit_gates()) };
+    Case::Channel { words, limits: CEILINGS, extra: (0, 0) }
+}
+
+fn all_one_qubit_unitaries(i: u64, _: &mut Rng) -> Case {
+    let words = Words { qubits: 1, bits: 0, store: vec![], gates: numbered(i, &one_qubit_gates()) };
+    Case::Unitary { words, limits: CEILINGS, extra: (0, 0) }
+}
+
+fn all_two_qubit_unitaries(i: u64, _: &mut Rng) -> Case {
+    let words = Words { qubits: 2, bits: 0, store: vec![], gates: numbered(i, &two_qubit_gates()) };
+    Case::Unitary { words, limits: CEILINGS, extra: (0, 0) }
+}
+
+// ---- random circuits
+
+fn gate(rng: &mut Rng, n: u32, bits: u32, kinds: &[u32]) -> Option<[u32; 5]> {
+    let fitting: Vec<u32> = kinds.iter().copied().filter(|k| qubit_words(*k) <= n as usize && (*k != MEASURE || bits > 0)).collect();
+    if fitting.is_empty() {
+        return None;
+    }
+    let kind = *rng.pick(&fitting);
+    let mut qubits: Vec<u32> = (0..n).collect();
+    let mut g = [kind, 0, 0, 0, 0];
+    for i in 0..qubit_words(kind) {
+        g[1 + i] = qubits.swap_remove(rng.below(qubits.len() as u64) as usize);
+    }
+    if kind == MEASURE {
+        g[2] = rng.below(bits as u64) as u32;
+    }
+    if kind == RZ {
+        g[4] = rng.below(8) as u32;
+    }
+    Some(g)
+}
+
+/// A sound circuit: at most so many gates, a weight of at most 48, at most `splits` measures and resets.
+fn circuit(rng: &mut Rng, n: u32, bits: u32, length: u64, splits: u32) -> Words {
+    let mut kinds = PLAIN.to_vec();
+    // measures and resets often enough to matter
+    kinds.extend([MEASURE, MEASURE, MEASURE, RESET]);
+    let (mut gates, mut left): (Vec<u32>, u32) = (Vec::new(), splits);
+    for _ in 0..rng.below(length + 1) {
+        let Some(g) = gate(rng, n, bits, &kinds) else { break };
+        let split = (g[0] == MEASURE || g[0] == RESET) as u32;
+        if split > left || weight(&gates) + weight(&g) > 48 {
+            continue;
+        }
+        left -= split;
+        gates.extend(g);
+    }
+    let store = (0..bits).map(|_| rng.below(2) as u8).collect();
+    Words { qubits: n, bits, store, gates }
+}
+
+fn some_bits(rng: &mut Rng) -> u32 {
+    *rng.pick(&[0, 1, 1, 2, 2, 3, 5, 31, 32, 33, 63, 64])
+}
+
+/// Words beyond those asked for, or one word too few.
+fn extra(rng: &mut Rng) -> (i64, i64) {
+    *rng.pick(&[(0, 0), (0, 0), (3, 0), (0, 5), (1, 1), (-1, 0), (0, -1), (-1, -1)])
+}
+
+fn random_small(_: u64, rng: &mut Rng) -> Case {
+    let n = *rng.pick(&[0, 1, 1, 1, 2]);
+    let bits = some_bits(rng);
+    let words = circuit(rng, n, bits, if n == 2 { 6 } else { 9 }, 4);
+    Case::Channel { words, limits: CEILINGS, extra: (rng.below(4) as i64, rng.below(4) as i64) }
+}
+
+fn random_three(_: u64, rng: &mut Rng) -> Case {
+    let bits = some_bits(rng);
+    let words = circuit(rng, 3, bits, 8, 3);
+    Case::Channel { words, limits: CEILINGS, extra: (0, 0) }
+}
+
+fn random_four(_: u64, rng: &mut Rng) -> Case {
+    let words = circuit(rng, 4, 1, 6, 2);
+    Case::Channel { words, limits: CEILINGS, extra: (0, 0) }
+}
+
+fn many_branches(_: u64, rng: &mut Rng) -> Case {
+    let n = 1 + rng.below(2) as u32;
+    let bits = 1 + rng.below(7) as u32;
+    let mut words = circuit(rng, n, bits, 10, 6);
+    let mut splits = words.splits().0;
+    while splits < 6 {
+        words.gates.extend(gate(rng, n, bits, &[MEASURE, MEASURE, RESET]).unwrap());
+        words.gates.extend(gate(rng, n, bits, &[H, T, SX]).unwrap());
+        splits += 1;
+    }
+    if weight(&words.gates) > 48 {
+        words.gates.truncate(100);
+    }
+    Case::Channel { words, limits: CEILINGS, extra: (0, 0) }
+}
+
+fn random_unitary(_: u64, rng: &mut Rng) -> Case {
+    let n = *rng.pick(&[0, 1, 2, 2, 3, 3, 4, 5]);
+    let mut words = circuit(rng, n, 0, if n > 3 { 4 } else { 8 }, 0);
+    if rng.one_in(8) && n > 0 {
+        words.gates.extend([*rng.pick(&[MEASURE, RESET]), rng.below(n as u64) as u32, 0, 0, 0]);
+    }
+    Case::Unitary { words, limits: CEILINGS, extra: extra(rng) }
+}
+
+// ---- hard circuits: denominators that grow with each h
+
+/// h·t and sx·t strings of this weight, with cnot, ch and ccx between them.
+fn syllables(rng: &mut Rng, n: u32, target: usize) -> Vec<u32> {
+    let mut gates: Vec<u32> = Vec::new();
+    while weight(&gates) < target {
+        let q = rng.below(n as u64) as u32;
+        if rng.one_in(3) {
+            gates.extend([3, q, 0, 0, 0]);
+        }
+        gates.extend([*rng.pick(&[H, H, SX]), q, 0, 0, 0, T, q, 0, 0, 0]);
+        if n > 1 && rng.one_in(3) {
+            let kinds: &[u32] = if weight(&gates) < target { &[CNOT, CNOT, 10, CH] } else { &[CNOT, 10] };
+            gates.extend(gate(rng, n, 0, kinds).unwrap());
+        }
+    }
+    gates
+}
+
+fn hard_of(rng: &mut Rng, n: u32, measures: u64) -> Case {
+    let target = 40 + rng.below(9) as usize;
+    let mut gates = syllables(rng, n, target);
+    for _ in 0..measures {
+        let at = rng.below(gates.len() as u64 / 5 + 1) as usize * 5;
+        let g = gate(rng, n, 1, &[MEASURE, MEASURE, RESET]).unwrap();
+        gates.splice(at..at, g);
+    }
+    let words = Words { qubits: n, bits: 1, store: vec![0], gates };
+    if rng.one_in(4) && measures == 0 {
+        Case::Unitary { words: Words { bits: 0, store: vec![], ..words }, limits: CEILINGS, extra: (0, 0) }
+    } else {
+        Case::Channel { words, limits: CEILINGS, extra: (0, 0) }
+    }
+}
+
+fn hard_small(_: u64, rng: &mut Rng) -> Case {
+    let (n, measures) = (if rng.one_in(4) { 2 } else { 1 }, rng.below(3));
+    hard_of(rng, n, measures)
+}
+
+fn hard_three(_: u64, rng: &mut Rng) -> Case {
+    let measures = rng.below(2);
+    hard_of(rng, 3, measures)
+}
+
+fn hard_four(_: u64, rng: &mut Rng) -> Case {
+    hard_of(rng, 4, 0)
+}
+
+/// Weights about 48: the Rust is asked up to 48 on short strings of h, document 01 above.
+fn weight_edges(i: u64, rng: &mut Rng) -> Case {
+    let n = 1 + (i % 2) as u32;
+    let mut gates = Vec::new();
+    for _ in 0..46 + i % 6 {
+        let kinds: &[u32] = if n > 1 { &[H, SX, CH] } else { &[H, SX] };
+        gates.extend(gate(rng, n, 0, kinds).unwrap());
+    }
+    let words = Words { qubits: n, bits: 0, store: vec![], gates };
+    if i / 6 % 3 == 0 { Case::Unitary { words, limits: CEILINGS, extra: (0, 0) } } else { Case::Channel { words, limits: CEILINGS, extra: (0, 0) } }
+}
+
+// ---- refusals
+
+/// Each limit at what the circuit needs, one below, at and above its ceiling, and 0.
+fn limit_edges(i: u64, rng: &mut Rng) -> Case {
+    let n = rng.below(3) as u32;
+    let bits = 1 + rng.below(3) as u32;
+    let words = circuit(rng, n, bits, 5, 3);
+    let (s, t) = words.splits();
+    let (b, v, d, g) = (1u64 << s, 1u64 << s.min(t), 1u64 << n, words.gates.len() as u64 / 5);
+    let unitary = rng.one_in(3);
+    let needed = if unitary {
+        [n as u64, 8 * d * d, d * d * d * g, g, b, bits as u64]
+    } else {
+        [n as u64, v * d.pow(4) + (3 * b + 8) * d * d, 2 * g * b * d.pow(3) + b * d.pow(4), g, b, bits as u64]
+    };
+    let mut limits = CEILINGS;
+    for _ in 0..1 + rng.below(2) {
+        let k = (i + rng.below(6)) as usize % 6;
+        limits[k] = match rng.below(8) {
+            0..=2 => needed[k],
+            3..=4 => needed[k].saturating_sub(1),
+            5 => CEILINGS[k] + 1,
+            6 => 0,
+            _ => *rng.pick(&[u64::MAX, 1 << 63, 1 << 32, CEILINGS[k]]),
+        };
+    }
+    if unitary { Case::Unitary { words, limits, extra: extra(rng) } } else { Case::Channel { words, limits, extra: extra(rng) } }
+}
+
+/// Gates with words out of place: other kinds, operands out of range or repeated, unused words that are not 0, odd lengths, bad stores.
+fn faulty(_: u64, rng: &mut Rng) -> Case {
+    let n = rng.below(4) as u32;
+    let bits = rng.below(3) as u32;
+    let mut words = circuit(rng, n, bits, 4, 2);
+    if rng.one_in(4) {
+        let kind = *rng.pick(&UNSUPPORTED);
+        if let Some(mut g) = gate(rng, n, bits, &[kind]) {
+            g[4] = if kind == RZ { 8 } else { 0 };
+            words.gates.extend(g);
+        }
+    }
+    for _ in 0..rng.below(4) {
+        let odd = [0, 1, 2, 3, 4, 5, 7, 8, 9, 12, 13, 26, 27, 31, 64, 255, 256, 1 << 16, (1 << 31) - 1, 1 << 31, u32::MAX - 1, u32::MAX];
+        let value = *rng.pick(&odd);
+        if words.gates.is_empty() || rng.one_in(4) {
+            words.gates.push(value);
+        } else {
+            let at = rng.below(words.gates.len() as u64) as usize;
+            words.gates[at] = value;
+        }
+    }
+    match rng.below(12) {
+        0 => words.store.push(0),
+        1 => {
+            words.store.pop();
+        }
+        2 if bits > 0 => words.store[0] = *rng.pick(&[2, 3, 128, 255]),
+        3 => words.bits = *rng.pick(&[63, 64, 65, 66, 1000, u32::MAX]),
+        4 => words.qubits = *rng.pick(&[4, 5, 6, 31, 32, 63, 64, 65, u32::MAX]),
+        5 => {
+            words.bits = *rng.pick(&[64, 65, 66]);
+            words.store = vec![1; words.bits as usize];
+        }
+        _ => (),
+    }
+    if rng.one_in(3) {
+        Case::Unitary { words, limits: CEILINGS, extra: extra(rng) }
+    } else {
+        Case::Channel { words, limits: CEILINGS, extra: extra(rng) }
+    }
+}
+
+fn short_buffers(_: u64, rng: &mut Rng) -> Case {
+    let n = rng.below(3) as u32;
+    let words = circuit(rng, n, 2, 3, 3);
+    let extra = *rng.pick(&[(-1, 0), (0, -1), (-1, -1), (-2, 7), (9, -3), (-1_000_000, 0), (0, -1_000_000)]);
+    if rng.one_in(3) { Case::Unitary { words, limits: CEILINGS, extra } } else { Case::Channel { words, limits: CEILINGS, extra } }
+}
+
+// ---- comparisons
+
+/// Whether two gates use a qubit or a bit in common.
+fn share(x: &[u32], y: &[u32]) -> bool {
+    let qubits = |g: &[u32]| g[1..1 + qubit_words(g[0])].to_vec();
+    qubits(x).iter().any(|q| qubits(y).contains(q)) || (x[0] == MEASURE && y[0] == MEASURE && x[2] == y[2])
+}
+
+fn comparison(_: u64, rng: &mut Rng) -> Case {
+    let n = *rng.pick(&[0, 1, 1, 2, 2, 2, 3]);
+    let bits = *rng.pick(&[0, 1, 2, 33]);
+    let left = circuit(rng, n, bits, if n == 3 { 4 } else { 7 }, 3);
+    let mut right = left.clone();
+    match rng.below(6) {
+        // a schedule: neighbours that share nothing change places
+        0 | 1 => {
+            let count = right.gates.len() / 5;
+            for _ in 0..3 * count {
+                let i = 5 * rng.below(count as u64) as usize;
+                if i + 10 <= right.gates.len() && !share(&right.gates[i..i + 5], &right.gates[i + 5..i + 10]) {
+                    right.gates[i..i + 10].rotate_left(5);
+                }
+            }
+        }
+        // one gate more, one changed, another store
+        2 => {
+            if let Some(g) = gate(rng, n, bits, &PLAIN) {
+                if weight(&right.gates) + weight(&g) <= 48 {
+                    right.gates.extend(g);
+                }
+            }
+        }
+        3 if !right.gates.is_empty() => {
+            let at = 5 * rng.below(right.gates.len() as u64 / 5) as usize;
+            if let Some(g) = gate(rng, n, bits, &[1, 2, 3, 4, 5, 6, 7, 15]) {
+                right.gates.splice(at..at + 5, g);
+            }
+        }
+        4 if bits > 0 => {
+            let at = rng.below(bits as u64) as usize;
+            right.store[at] ^= 1;
+        }
+        // any other circuit, now and then of other dimensions
+        _ => {
+            let (m, b) = if rng.one_in(2) { (n, bits) } else { (rng.below(3) as u32, rng.below(3) as u32) };
+            right = circuit(rng, m, b, 5, 3);
+        }
+    }
+    Case::Compare { left, right }
+}
+
+/// A word that may do harm where it is put.
+fn harmful(rng: &mut Rng) -> i64 {
+    let words = [0, 1, 2, 3, 4, 5, 8, 16, 32, 60, 61, 64, 65, 83, 87, 166, -1, -2, 1 << 28, 1 << 31, (1 << 32) - 1, 1 << 32, 1 << 59,
+        (1 << 60) - 1, 1 << 60, (1 << 60) + 1, -(1 << 60), -(1 << 60) - 1, i64::MAX, i64::MIN];
+    *rng.pick(&words)
+}
+
+fn damaged(i: u64, rng: &mut Rng) -> Case {
+    let n = *rng.pick(&[0, 0, 1, 1, 1, 2]);
+    let bits = *rng.pick(&[0, 1, 2, 2, 3, 32, 33, 64]);
+    let left = circuit(rng, n, bits, 5, 3);
+    let right = if rng.one_in(2) { left.clone() } else { circuit(rng, n, bits, 5, 3) };
+    let mut sets = Vec::new();
+    for _ in 0..rng.below(4) {
+        // headers and the first record's words more often than entries
+        let size = 3 + 5 * (1u64 << (4 * n));
+        let at = match rng.below(4) {
+            0 => rng.below(4),
+            1 => 4 + rng.below(3) + size * rng.below(3),
+            2 => 7 + 5 * rng.below(20) + rng.below(5),
+            _ => rng.next() >> 1,
+        };
+        sets.push((rng.one_in(2), at, harmful(rng)));
+    }
+    // entries that an effect adds up, near the ranges' ends
+    if n > 0 && rng.one_in(3) {
+        let d = 1u64 << n;
+        let (r, c, part) = (rng.below(d), rng.below(d), rng.below(4));
+        sets.clear();
+        for o in 0..d {
+            let (mut value, e) = (*rng.pick(&[1i64 << 60, (1 << 60) - 1, 1 << 59, -(1 << 60), -(1 << 59), 1, -1, 0]), *rng.pick(&[0, 0, 0, 0, 1, 60]));
+            if e > 0 && value % 2 == 0 {
+                value -= value.signum() - (value == 0) as i64;
+            }
+            let at = 7 + 5 * ((o * d + r) * d * d + o * d + c);
+            sets.extend([(false, at + part, value), (false, at + 4, e)]);
+        }
+    }
+    let mut store = left.store.clone();
+    if bits > 0 && rng.one_in(2) {
+        let at = rng.below(bits as u64) as usize;
+        store[at] ^= 1;
+    }
+    match rng.below(8) {
+        0 => store.push(0),
+        1 if bits > 0 => store[0] = 2,
+        _ => (),
+    }
+    let cut = if i % 5 == 0 { 1 + rng.below(3) } else { 0 };
+    Case::Damaged { left, right, sets, cut, store, short: if rng.one_in(4) { 1 + rng.below(3) } else { 0 } }
+}
+
+// ---- phases and scalars
+
+fn cell(rng: &mut Rng, bounds: &[i64], exponents: &[i64]) -> [i64; 5] {
+    let mut x = [0; 5];
+    for n in &mut x[..4] {
+        if !rng.one_in(3) {
+            let b = *rng.pick(bounds);
+            let near = b.saturating_add(*rng.pick(&[0, 0, -1, 1, -2, 3]));
+            *n = if rng.one_in(2) { near.wrapping_neg() } else { near };
+        }
+    }
+    x[4] = *rng.pick(exponents);
+    // mostly in lowest form
+    if x[4] > 0 && !rng.one_in(6) && x[..4].iter().all(|n| n & 1 == 0) {
+        x[rng.below(4) as usize] |= 1;
+    }
+    x
+}
+
+fn phases(_: u64, rng: &mut Rng) -> Case {
+    let n = *rng.pick(&[0, 1, 1, 2, 2, 3, 4, 5]);
+    let left = circuit(rng, n, 0, if n > 2 { 2 } else { 6 }, 0);
+    let mut right = left.clone();
+    if rng.one_in(3) {
+        if let Some(g) = gate(rng, n, 0, &PLAIN) {
+            right.gates.extend(g);
+        }
+    }
+    // powers of omega, other numbers of modulus 1, and numbers that are not
+    let scale = match rng.below(8) {
+        0..=3 => *rng.pick(&[[1, 0, 0, 0, 0], [0, 1, 0, 1, 1], [0, 0, 1, 0, 0], [0, -1, 0, 1, 1], [-1, 0, 0, 0, 0], [0, -1, 0, -1, 1], [0, 0, -1, 0, 0]]),
+        4 => [1, 0, 0, 2, 0],
+        5 => [0, 0, 0, 0, 0],
+        6 => [-1, 2, 2, 1, 2],
+        _ => cell(rng, &[0, 1, 2, 5, 1 << 20, (1 << 27) + 1], &[0, 1, 3]),
+    };
+    let mut sets = Vec::new();
+    for _ in 0..if rng.one_in(3) { 1 + rng.below(2) } else { 0 } {
+        let value = *rng.pick(&[0, 1, -1, 2, (1 << 28) - 1, 1 << 28, (1 << 28) + 1, -(1 << 28), 1 << 60, (1 << 60) + 1, 28, 29, 60, 61, i64::MIN]);
+        sets.push((rng.one_in(2), rng.next() >> 1, value));
+    }
+    let d = 1usize << n;
+    let dims = if rng.one_in(10) { (d, *rng.pick(&[0, 1, 2, 3, 4, 8, 16, 32, 64, usize::MAX])) } else { (d, d) };
+    if rng.one_in(12) {
+        right = circuit(rng, (n + 1) % 4, 0, 3, 0);
+        return Case::Phase { left, dims: (d, 1 << right.qubits), right, scale, sets, cut: 0 };
+    }
+    Case::Phase { left, right, scale, sets, dims, cut: if rng.one_in(15) { 1 } else { 0 } }
+}
+
+fn scalars(_: u64, rng: &mut Rng) -> Case {
+    use Operation::*;
+    let bounds = [0, 1, 2, 3, 1 << 27, 1 << 28, 1 << 29, 1 << 31, 1 << 32, 1 << 59, 1 << 60, 1 << 61, i64::MAX];
+    let narrow = [0, 1, 2, 3, 5, 1 << 14, 1 << 27, (1 << 28) - 3, 1 << 28];
+    let exponents = [0, 0, 0, 1, 2, 27, 28, 29, 30, 58, 59, 60, 60, 61, 62, -1, 1 << 32, i64::MAX, i64::MIN];
+    let sound = [0, 0, 1, 2, 3, 27, 28];
+    let wide = [0, 1, 3, 1 << 20, (1 << 59) - 2, (1 << 60) - 3, 1 << 60];
+    let any = |rng: &mut Rng| cell(rng, &bounds, &exponents);
+    let operation = match rng.below(14) {
+        0 => Integer((*rng.pick(&bounds)).saturating_add(*rng.pick(&[0, 1, -1])).wrapping_mul(*rng.pick(&[1, -1]))),
+        1 => Omega(*rng.pick(&[0, 1, 2, 3, 4, 5, 6, 7, 8, 255, 256, 257, u32::MAX - 1, u32::MAX])),
+        2 => rng.pick(&[Zero, I, InvSqrtTwo]).clone(),
+        3 => Neg(any(rng)),
+        4 => Conj(any(rng)),
+        5 => Half(any(rng)),
+        6 => Half(cell(rng, &wide, &[0, 1, 58, 59, 60])),
+        7 => Add(any(rng), any(rng)),
+        8 | 9 => Add(cell(rng, &wide, &[0, 1, 2, 30, 59, 60]), cell(rng, &wide, &[0, 1, 2, 30, 59, 60])),
+        // operands that cancel
+        10 => {
+            let x = cell(rng, &wide, &[0, 1, 2, 30, 59, 60]);
+            let mut y = x.map(|n| n.wrapping_neg());
+            y[4] = x[4];
+            y[rng.below(4) as usize] += *rng.pick(&[0, 2, 4, -2]);
+            Add(x, y)
+        }
+        11 => Mul(any(rng), any(rng)),
+        _ => Mul(cell(rng, &narrow, &sound), cell(rng, &narrow, &sound)),
+    };
+    Case::Scalar(operation)
+}
+
+pub fn sets() -> Vec<Set> {
+    let (one, two) = (one_qubit_gates().len(), two_qubit_gates().len());
+    vec![
+        Set { name: "one-qubit", about: "all circuits of up to 3 gates on one qubit", count: up_to(3, one), quick: up_to(2, one), case: all_one_qubit },
+        Set { name: "two-qubit", about: "all circuits of up to 2 gates on two qubits", count: up_to(2, two), quick: up_to(1, two), case: all_two_qubit },
+        Set { name: "one-qubit-unitaries", about: "the same, as unitaries", count: up_to(3, one), quick: up_to(2, one), case: all_one_qubit_unitaries },
+        Set { name: "two-qubit-unitaries", about: "the same, as unitaries", count: up_to(2, two), quick: up_to(1, two), case: all_two_qubit_unitaries },
+        Set { name: "random", about: "random circuits of 0 to 2 qubits", count: 20000, quick: 500, case: random_small },
+        Set { name: "random-3", about: "random circuits of 3 qubits", count: 2000, quick: 20, case: random_three },
+        Set { name: "random-4", about: "random circuits of 4 qubits", count: 300, quick: 2, case: random_four },
+        Set { name: "branches", about: "64 branches", count: 1000, quick: 20, case: many_branches },
+        Set { name: "unitaries", about: "random unitaries of 0 to 5 qubits", count: 6000, quick: 200, case: random_unitary },
+        Set { name: "hard", about: "weights 40 to 48, 1 and 2 qubits", count: 3000, quick: 30, case: hard_small },
+        Set { name: "hard-3", about: "weights 40 to 48, 3 qubits", count: 200, quick: 1, case: hard_three },
+        Set { name: "hard-4", about: "weights 40 to 48, 4 qubits", count: 12, quick: 0, case: hard_four },
+        Set { name: "weights", about: "weights 46 to 51", count: 180, quick: 36, case: weight_edges },
+        Set { name: "limits", about: "limits at their edges", count: 8000, quick: 400, case: limit_edges },
+        Set { name: "faulty", about: "faulty circuits", count: 20000, quick: 800, case: faulty },
+        Set { name: "short", about: "short buffers", count: 3000, quick: 200, case: short_buffers },
+        Set { name: "compare", about: "pairs of circuits, both orders", count: 12000, quick: 300, case: comparison },
+        Set { name: "damaged", about: "channels with words damaged", count: 20000, quick: 600, case: damaged },
+        Set { name: "phases", about: "phase tests, both orders", count: 8000, quick: 300, case: phases },
+        Set { name: "scalars", about: "scalar calls at the ranges' ends", count: 100000, quick: 3000, case: scalars },
+    ]
+}

@@ -1,0 +1,712 @@
+//! One comparison: a call's input, the archive's reply, the plain C version's, and the Rust's where it can be asked.
+use crate::calls::{ARCHIVE, CEILINGS, Calls, PLAIN};
+use crate::lent::{Lent, Rng};
+use crate::rust::{self, Words};
+use crate::semantics::Matrix;
+use crate::semantics::channel::Channel;
+use crate::semantics::test_support::Scalar;
+use std::collections::BTreeMap;
+
+/// Calls compared, by name: with the Rust, with document 01 alone (the plain C version and the rules in this file), and how often with each reply.
+#[derive(Default, Clone)]
+pub struct Counts(pub BTreeMap<&'static str, (u64, u64, BTreeMap<String, u64>)>);
+
+impl Counts {
+    fn add(&mut self, call: &'static str, rust: bool, reply: impl ToString) {
+        let n = self.0.entry(call).or_default();
+        if rust {
+            n.0 += 1;
+        } else {
+            n.1 += 1;
+        }
+        *n.2.entry(format!("{:>3}", reply.to_string())).or_default() += 1;
+    }
+    pub fn join(&mut self, other: &Counts) {
+        for (call, n) in &other.0 {
+            let sum = self.0.entry(call).or_default();
+            sum.0 += n.0;
+            sum.1 += n.1;
+            for (reply, m) in &n.2 {
+                *sum.2.entry(reply.clone()).or_default() += m;
+            }
+        }
+    }
+    pub fn total(&self) -> u64 {
+        self.0.values().map(|n| n.0 + n.1).sum()
+    }
+}
+
+#[derive(Clone, Debug, PartialEq)]
+pub enum Operation {
+    Integer(i64),
+    Zero,
+    I,
+    InvSqrtTwo,
+    Omega(u32),
+    Neg([i64; 5]),
+    Conj([i64; 5]),
+    Half([i64; 5]),
+    Add([i64; 5], [i64; 5]),
+    Mul([i64; 5], [i64; 5]),
+}
+
+/// An input. `more` and `less` are words lent beyond what is asked for, or fewer, as pairs for result and work.
+#[derive(Clone, Debug, PartialEq)]
+pub enum Case {
+    /// circuit_channel, then classical_blocks, lookup and compare with itself on what it left.
+    Channel { words: Words, limits: [u64; 6], extra: (i64, i64) },
+    Unitary { words: Words, limits: [u64; 6], extra: (i64, i64) },
+    /// The channels of two circuits, compared in both orders.
+    Compare { left: Words, right: Words },
+    /// compare (both orders), classical_blocks and lookup on words of any kind: those of two circuits' channels with words set to values.
+    Damaged { left: Words, right: Words, sets: Vec<(bool, u64, i64)>, cut: u64, store: Vec<u8>, short: u64 },
+    /// The phase test on the unitaries of two circuits, the right one times a scalar, with words set to values.
+    Phase { left: Words, right: Words, scale: [i64; 5], sets: Vec<(bool, u64, i64)>, dims: (usize, usize), cut: u64 },
+    Scalar(Operation),
+}
+
+type Fault = Result<(), String>;
+
+fn same<T: PartialEq + std::fmt::Debug>(what: &str, got: T, want: T, source: &str) -> Fault {
+    if got == want { Ok(()) } else { Err(format!("{what}: the archive {got:?}, {source} {want:?}")) }
+}
+
+/// The first place where words differ.
+fn same_words(what: &str, got: &[i64], want: &[i64], source: &str) -> Fault {
+    if got == want {
+        return Ok(());
+    }
+    match got.iter().zip(want).position(|(x, y)| x != y) {
+        Some(i) => Err(format!("{what}, word {i}: the archive {}, {source} {}", got[i], want[i])),
+        None => Err(format!("{what}: the archive has {} words, {source} {}", got.len(), want.len())),
+    }
+}
+
+// ---- document 01's rules, as far as they say whether the Rust can be asked
+
+const WIDEST: i64 = 1 << 60;
+const NARROW: i64 = 1 << 28;
+
+fn well_formed(x: &[i64]) -> bool {
+    x[..4].iter().all(|n| (-WIDEST..=WIDEST).contains(n)) && (0..=60).contains(&x[4]) && (x[4] == 0 || x[..4].iter().any(|n| n & 1 == 1))
+}
+fn narrow(x: &[i64]) -> bool {
+    x[..4].iter().all(|n| (-NARROW..=NARROW).contains(n)) && x[4] <= 28
+}
+/// The words of an exact number, where it is in range.
+fn fitting(s: &Scalar) -> Option<[i64; 5]> {
+    rust::cell(s).filter(|w| well_formed(w))
+}
+fn qubit_words(kind: u32) -> usize {
+    match kind {
+        10 | 11 | 26 => 3,
+        8 | 9 | 19..=25 => 2,
+        _ => 1,
+    }
+}
+/// Question 4 for every gate, with question 2: the Rust's gates are always so.
+fn gates_well_formed(gates: &[u32]) -> bool {
+    let well = |g: &[u32]| {
+        let used = qubit_words(g[0]) + (g[0] == 12) as usize;
+        g[0] <= 26 && g[4] <= if g[0] == 7 { 8 } else { 0 } && g[1 + used..4].iter().all(|w| *w == 0)
+    };
+    gates.len() % 5 == 0 && gates.chunks_exact(5).all(well)
+}
+pub fn weight(gates: &[u32]) -> usize {
+    gates.chunks(5).filter(|g| matches!(g[0], 0 | 16 | 25)).count()
+}
+
+// ---- the calls, with buffers lent and looked after
+
+#[derive(PartialEq, Debug)]
+struct Reply {
+    verdict: u32,
+    index: u64,
+    result: Vec<i64>,
+    work: Vec<i64>,
+}
+
+/// The words lent to circuit_channel or circuit_unitary: as many as are asked for, and `extra`.
+fn lengths(need: (usize, usize), extra: (i64, i64)) -> (usize, usize) {
+    let of = |n: usize, e: i64| (n as i64 + e).max(0) as usize;
+    (of(need.0, extra.0), of(need.1, extra.1))
+}
+
+/// Sizes are only meaningful for circuits within the limits; others get a few words.
+fn need(w: &Words, unitary: bool) -> (usize, usize) {
+    if w.qubits > if unitary { 5 } else { 4 } || w.splits().0 > 6 {
+        (64, 64)
+    } else if unitary {
+        w.unitary_sizes()
+    } else {
+        w.channel_sizes()
+    }
+}
+
+fn circuit_call(calls: &Calls, unitary: bool, w: &Words, limits: &[u64; 6], extra: (i64, i64)) -> Result<Reply, String> {
+    let need = need(w, unitary);
+    let (result_words, work_words) = lengths(need, extra);
+    let mut rng = Rng(w.gates.iter().fold(w.qubits as u64, |h, g| h.wrapping_mul(31).wrapping_add(*g as u64)));
+    let store = Lent::holding(&mut rng, &w.store);
+    let gates = Lent::holding(&mut rng, &w.gates);
+    let lent_limits = Lent::holding(&mut rng, limits);
+    let mut result = Lent::<i64>::noise(&mut rng, result_words);
+    let mut work = Lent::<i64>::noise(&mut rng, work_words);
+    let mut index = Lent::<u64>::noise(&mut rng, 1);
+    let verdict = unsafe {
+        if unitary {
+            (calls.circuit_unitary)(w.qubits, gates.ptr(), gates.len(), lent_limits.ptr(), result.mut_ptr(), result.len(), work.mut_ptr(), work.len(),
+                index.mut_ptr())
+        } else {
+            (calls.circuit_channel)(w.qubits, w.bits, store.ptr(), store.len(), gates.ptr(), gates.len(), lent_limits.ptr(), result.mut_ptr(),
+                result.len(), work.mut_ptr(), work.len(), index.mut_ptr())
+        }
+    };
+    if !(store.kept() && gates.kept() && lent_limits.kept()) {
+        return Err(format!("{}: an input has changed", calls.name));
+    }
+    if !(result.edges_kept() && work.edges_kept() && index.edges_kept()) {
+        return Err(format!("{}: words outside a buffer have changed", calls.name));
+    }
+    if verdict != 0 && !(result.kept() && work.kept()) {
+        return Err(format!("{}: refused with {verdict}, and a buffer has changed", calls.name));
+    }
+    if verdict == 0 {
+        if work.words()[..need.1].iter().any(|w| *w != 0) || work.words()[need.1..] != work.words_before()[need.1..] {
+            return Err(format!("{}: work words are not as they should be", calls.name));
+        }
+        let used = if unitary { need.0 } else { 4 + result.words()[2].clamp(0, 64) as usize * (3 + 5 * (1usize << (4 * w.qubits))) };
+        if used > result.len() || result.words()[used..] != result.words_before()[used..] {
+            return Err(format!("{}: words behind the result have changed", calls.name));
+        }
+        return Ok(Reply { verdict, index: index.words()[0], result: result.words()[..used].to_vec(), work: Vec::new() });
+    }
+    Ok(Reply { verdict, index: index.words()[0], result: Vec::new(), work: Vec::new() })
+}
+
+/// The archive's reply, after a comparison with the plain C version's.
+fn both(unitary: bool, w: &Words, limits: &[u64; 6], extra: (i64, i64)) -> Result<Reply, String> {
+    let got = circuit_call(&ARCHIVE, unitary, w, limits, extra)?;
+    let want = circuit_call(&PLAIN, unitary, w, limits, extra)?;
+    same("verdict and index", (got.verdict, got.index), (want.verdict, want.index), "plain C")?;
+    same_words("result", &got.result, &want.result, "plain C")?;
+    Ok(got)
+}
+
+/// The verdict due where the Rust accepts: the questions that it does not ask.
+fn added(w: &Words, limits_need: (usize, usize), extra: (i64, i64)) -> u32 {
+    let lent = lengths(limits_need, extra);
+    if weight(&w.gates) > 48 {
+        7
+    } else if lent.0 < limits_need.0 || lent.1 < limits_need.1 {
+        8
+    } else {
+        0
+    }
+}
+
+fn askable(w: &Words, limits: &[u64]) -> bool {
+    gates_well_formed(&w.gates) && limits.iter().zip(&CEILINGS).all(|(l, c)| l <= c) && weight(&w.gates) <= 48
+}
+
+/// The archive's channel and the Rust's, equal; None where it is refused.
+fn channel(w: &Words, limits: &[u64; 6], extra: (i64, i64), counts: &mut Counts) -> Result<Option<(Vec<i64>, Channel)>, String> {
+    let got = both(false, w, limits, extra)?;
+    let ask = askable(w, limits) && w.store.iter().all(|b| *b <= 1);
+    counts.add("circuit_channel", ask, got.verdict);
+    if !ask {
+        return if got.verdict == 0 { Err("accepted, where the Rust cannot be asked".into()) } else { Ok(None) };
+    }
+    match rust::circuit_channel(&w.circuit().unwrap(), &w.store, limits) {
+        Err(e) => same("verdict and index", (got.verdict, got.index), rust::refusal(e), "the Rust").map(|_| None),
+        Ok(c) => {
+            same("verdict and index", (got.verdict, got.index), (added(w, need(w, false), extra), 0), "document 01")?;
+            if got.verdict != 0 {
+                return Ok(None);
+            }
+            let size = 3 + 5 * (1usize << (4 * w.qubits));
+            let order: Vec<u64> = (0..got.result[2] as usize).map(|j| store_at(&got.result, 4 + j * size)).collect();
+            let want = rust::layout(c.quantum_dim, c.num_cbits, &order, c.blocks.iter())
+                .ok_or_else(|| format!("stores: the archive {order:?}, the Rust {:?}", c.blocks.keys().collect::<Vec<_>>()))?;
+            same_words("channel", &got.result, &want, "the Rust")?;
+            Ok(Some((got.result, c)))
+        }
+    }
+}
+
+fn store_at(words: &[i64], at: usize) -> u64 {
+    words[at + 1] as u64 | (words[at + 2] as u64) << 32
+}
+
+fn unitary(w: &Words, limits: &[u64; 6], extra: (i64, i64), counts: &mut Counts) -> Fault {
+    let got = both(true, w, limits, extra)?;
+    let ask = askable(w, &limits[..4]);
+    counts.add("circuit_unitary", ask, got.verdict);
+    if !ask {
+        return if got.verdict == 0 { Err("accepted, where the Rust cannot be asked".into()) } else { Ok(()) };
+    }
+    match rust::circuit_unitary(&w.circuit().unwrap(), limits) {
+        Err(e) => same("verdict and index", (got.verdict, got.index), rust::refusal(e), "the Rust"),
+        Ok(m) => {
+            same("verdict and index", (got.verdict, got.index), (added(w, need(w, true), extra), 0), "document 01")?;
+            if got.verdict != 0 { Ok(()) } else { same_words("unitary", &got.result, &rust::cells(&m).unwrap(), "the Rust") }
+        }
+    }
+}
+
+fn compare_call(calls: &Calls, left: &[i64], right: &[i64]) -> Result<(u32, [u64; 3], [i64; 10]), String> {
+    let mut rng = Rng(left.len() as u64);
+    let (left, right) = (Lent::holding(&mut rng, left), Lent::holding(&mut rng, right));
+    let (mut place, mut scalars) = (Lent::<u64>::noise(&mut rng, 3), Lent::<i64>::noise(&mut rng, 10));
+    let verdict = unsafe { (calls.compare)(left.ptr(), left.len(), right.ptr(), right.len(), place.mut_ptr(), scalars.mut_ptr()) };
+    if !(left.kept() && right.kept() && place.edges_kept() && scalars.edges_kept()) {
+        return Err(format!("{}: compare changed other words than its reply's", calls.name));
+    }
+    let reply = (verdict, place.words().try_into().unwrap(), scalars.words().try_into().unwrap());
+    if left.words() == right.words() {
+        // one buffer on both sides
+        let verdict = unsafe { (calls.compare)(left.ptr(), left.len(), left.ptr(), left.len(), place.mut_ptr(), scalars.mut_ptr()) };
+        if verdict != reply.0 || place.words() != reply.1 || scalars.words() != reply.2 {
+            return Err(format!("{}: compare of a buffer with itself is not that of its copy", calls.name));
+        }
+    }
+    Ok(reply)
+}
+
+/// compare against the Rust's answer on both channels, or None where a side is malformed.
+fn compare(left: &[i64], right: &[i64], rust: Option<(&Channel, &Channel)>, counts: &mut Counts) -> Fault {
+    let got = compare_call(&ARCHIVE, left, right)?;
+    same("compare", got, compare_call(&PLAIN, left, right)?, "plain C")?;
+    counts.add("compare", rust.is_some(), got.0);
+    match rust {
+        Some((x, y)) => same("compare", got, rust::compared(x, y), "the Rust"),
+        None => same("compare", got, (10, [0; 3], [0; 10]), "document 01"),
+    }
+}
+
+/// classical_blocks with `short` words too few, or enough.
+fn effects(words: &[i64], rust: Option<&Channel>, short: usize, counts: &mut Counts) -> Fault {
+    let count = words.get(2).map_or(0, |c| (*c).clamp(0, 64) as usize);
+    let d = words.first().map_or(1, |d| (*d).clamp(0, 16) as usize);
+    let need = 4 + count * (3 + 5 * d * d);
+    let mut replies = Vec::new();
+    for calls in [&ARCHIVE, &PLAIN] {
+        let mut rng = Rng(words.len() as u64);
+        let channel = Lent::holding(&mut rng, words);
+        let mut result = Lent::<i64>::noise(&mut rng, (need + 3).saturating_sub(if short > 0 { short + 3 } else { 0 }));
+        let verdict = unsafe { (calls.classical_blocks)(channel.ptr(), channel.len(), result.mut_ptr(), result.len()) };
+        if !(channel.kept() && result.edges_kept()) || (verdict != 0 && !result.kept()) {
+            return Err(format!("{}: classical_blocks changed other words than its result's", calls.name));
+        }
+        if verdict == 0 && (result.len() < need || result.words()[need..] != result.words_before()[need..]) {
+            return Err(format!("{}: words behind the effects have changed", calls.name));
+        }
+        replies.push((verdict, if verdict == 0 { result.words()[..need].to_vec() } else { Vec::new() }));
+    }
+    same("classical_blocks", replies[0].0, replies[1].0, "plain C")?;
+    same_words("effects", &replies[0].1, &replies[1].1, "plain C")?;
+    counts.add("classical_blocks", rust.is_some(), replies[0].0);
+    let Some(c) = rust else {
+        return same("classical_blocks", replies[0].0, 10, "document 01");
+    };
+    if short > 0 {
+        return same("classical_blocks", replies[0].0, 8, "document 01");
+    }
+    if !sums_fit(c) {
+        return same("classical_blocks", replies[0].0, 9, "document 01");
+    }
+    same("classical_blocks", replies[0].0, 0, "the Rust")?;
+    let size = 3 + 5 * d.pow(4);
+    let order: Vec<u64> = (0..count).map(|j| store_at(words, 4 + j * size)).collect();
+    let blocks = c.classical_blocks();
+    let want = rust::layout(d, c.num_cbits, &order, blocks.iter()).ok_or("the Rust has other effects")?;
+    same_words("effects", &replies[0].1, &want, "the Rust")
+}
+
+/// Whether every partial sum of the Rust's effects is in range.
+fn sums_fit(c: &Channel) -> bool {
+    let d = c.quantum_dim;
+    c.blocks.values().all(|b| {
+        (0..d * d).all(|k| {
+            let mut sum = Scalar::zero();
+            (0..d).all(|o| {
+                sum = sum.add(b.get(o * d + k / d, o * d + k % d));
+                fitting(&sum).is_some()
+            })
+        })
+    })
+}
+
+fn lookup(words: &[i64], store: &[u8], rust: Option<&Channel>, counts: &mut Counts) -> Fault {
+    let mut replies = Vec::new();
+    for calls in [&ARCHIVE, &PLAIN] {
+        let mut rng = Rng(words.len() as u64);
+        let (channel, lent) = (Lent::holding(&mut rng, words), Lent::holding(&mut rng, store));
+        let at = unsafe { (calls.lookup)(channel.ptr(), channel.len(), lent.ptr(), lent.len()) };
+        if !(channel.kept() && lent.kept()) {
+            return Err(format!("{}: lookup changed a word", calls.name));
+        }
+        replies.push(at);
+    }
+    same("lookup", replies[0], replies[1], "plain C")?;
+    let asked = rust.filter(|c| store.len() == c.num_cbits && store.iter().all(|b| *b <= 1));
+    counts.add("lookup", asked.is_some(), if replies[0] == 0 { "none" } else { "found" });
+    let key: Vec<bool> = store.iter().map(|b| *b == 1).collect();
+    match asked.and_then(|c| c.blocks.get(&key)) {
+        None => same("lookup", replies[0], 0, if asked.is_some() { "the Rust" } else { "document 01" }),
+        Some(block) => {
+            let at = replies[0];
+            let want = rust::cells(block).ok_or("a block out of range")?;
+            if at < 7 || words.len() < at + want.len() || store_at(words, at - 3) != rust::number(&key) {
+                return Err(format!("lookup: {at} is not the record of the store"));
+            }
+            same_words("lookup", &words[at..at + want.len()], &want, "the Rust")
+        }
+    }
+}
+
+/// The Rust's channel of some words; None where document 01 calls them malformed.
+fn read(words: &[i64]) -> Option<Channel> {
+    let [dim, bits, count, first] = *words.first_chunk::<4>()?;
+    if ![1, 2, 4, 8, 16].contains(&dim) || !(0..=64).contains(&bits) || count < 0 {
+        return None;
+    }
+    let (d, bits) = (dim as usize, bits as usize);
+    let size = 3 + 5 * d.pow(4);
+    if count as u64 > ((words.len() - 4) / size) as u64 {
+        return None;
+    }
+    let (mut at, mut blocks, mut last) = (first, BTreeMap::new(), None);
+    for _ in 0..count {
+        let record = usize::try_from(at).ok().filter(|a| *a >= 4 && (a - 4) % size == 0 && (a - 4) / size < count as usize)?;
+        let (low, high) = (u32::try_from(words[record + 1]).ok()?, u32::try_from(words[record + 2]).ok()?);
+        let number = low as u64 | (high as u64) << 32;
+        if bits < 64 && number >> bits != 0 {
+            return None;
+        }
+        let store: Vec<bool> = (0..bits).map(|j| number >> j & 1 == 1).collect();
+        if last.as_ref().is_some_and(|l| *l >= store) {
+            return None;
+        }
+        let mut m = Matrix::zero(d * d);
+        for (k, x) in words[record + 3..record + size].chunks_exact(5).enumerate() {
+            if !well_formed(x) {
+                return None;
+            }
+            if x[..4].iter().any(|n| *n != 0) {
+                m.entries[k] = rust::scalar(x);
+            }
+        }
+        last = Some(store.clone());
+        blocks.insert(store, m);
+        at = words[record];
+    }
+    if at != 0 { None } else { Some(Channel { quantum_dim: d, num_cbits: bits, blocks }) }
+}
+
+fn plain_channel(w: &Words) -> Vec<i64> {
+    circuit_call(&ARCHIVE, false, w, &CEILINGS, (0, 0)).map(|r| r.result).unwrap_or_default()
+}
+
+fn set_words(words: &mut [i64], sets: &[(bool, u64, i64)], side: bool) {
+    for (_, at, value) in sets.iter().filter(|s| s.0 == side) {
+        if !words.is_empty() {
+            let at = (*at % words.len() as u64) as usize;
+            words[at] = *value;
+        }
+    }
+}
+
+fn phase(left: (usize, &[i64]), right: (usize, &[i64]), counts: &mut Counts) -> Fault {
+    let mut replies = Vec::new();
+    for calls in [&ARCHIVE, &PLAIN] {
+        let mut rng = Rng(left.0 as u64);
+        let (x, y) = (Lent::holding(&mut rng, left.1), Lent::holding(&mut rng, right.1));
+        replies.push(unsafe { (calls.equivalent_up_to_global_phase)(left.0, x.ptr(), x.len(), right.0, y.ptr(), y.len()) });
+        if !(x.kept() && y.kept()) {
+            return Err(format!("{}: the phase test changed a word", calls.name));
+        }
+    }
+    same("phase test", replies[0], replies[1], "plain C")?;
+    let well = |(d, m): (usize, &[i64])| [1, 2, 4, 8, 16, 32].contains(&d) && m.len() == 5 * d * d && m.chunks_exact(5).all(well_formed);
+    let fit = |(_, m): (usize, &[i64])| m.chunks_exact(5).all(narrow);
+    let ask = well(left) && well(right) && (left.0 != right.0 || fit(left) && fit(right));
+    counts.add("phase test", ask, replies[0]);
+    if !ask {
+        return same("phase test", replies[0], if well(left) && well(right) { 9 } else { 10 }, "document 01");
+    }
+    let matrix = |(dim, m): (usize, &[i64])| Matrix { dim, entries: m.chunks_exact(5).map(rust::scalar).collect() };
+    let equivalent = matrix(left).equivalent_up_to_global_phase(&matrix(right));
+    same("phase test", replies[0], if equivalent { 103 } else { 104 }, "the Rust")
+}
+
+fn scalar(op: &Operation, counts: &mut Counts) -> Fault {
+    use Operation::*;
+    let mut replies = Vec::new();
+    for calls in [&ARCHIVE, &PLAIN] {
+        let mut rng = Rng(7);
+        let zero = [0; 5];
+        let (x, y) = match op {
+            Neg(x) | Conj(x) | Half(x) => (x, &zero),
+            Add(x, y) | Mul(x, y) => (x, y),
+            _ => (&zero, &zero),
+        };
+        let (x, y, mut out) = (Lent::holding(&mut rng, x), Lent::holding(&mut rng, y), Lent::<i64>::noise(&mut rng, 5));
+        let o = out.mut_ptr();
+        let verdict = unsafe {
+            match op {
+                Integer(n) => (calls.scalar_integer)(*n, o),
+                Zero => (calls.scalar_zero)(o),
+                I => (calls.scalar_i)(o),
+                InvSqrtTwo => (calls.scalar_inv_sqrt_two)(o),
+                Omega(k) => (calls.scalar_omega)(*k, o),
+                Neg(_) => (calls.scalar_neg)(x.ptr(), o),
+                Conj(_) => (calls.scalar_conj)(x.ptr(), o),
+                Half(_) => (calls.scalar_half)(x.ptr(), o),
+                Add(..) => (calls.scalar_add)(x.ptr(), y.ptr(), o),
+                Mul(..) => (calls.scalar_mul)(x.ptr(), y.ptr(), o),
+            }
+        };
+        if !(x.kept() && y.kept() && out.edges_kept()) {
+            return Err(format!("{}: a scalar call changed other words than its result's", calls.name));
+        }
+        replies.push((verdict, out.words().to_vec()));
+    }
+    same("scalar", &replies[0], &replies[1], "plain C")?;
+    let operands: Vec<&[i64; 5]> = match op {
+        Neg(x) | Conj(x) | Half(x) => vec![x],
+        Add(x, y) | Mul(x, y) => vec![x, y],
+        _ => vec![],
+    };
+    let malformed = operands.iter().any(|x| !well_formed(*x));
+    let wide = matches!(op, Mul(..)) && operands.iter().any(|x| !narrow(*x));
+    counts.add("scalar calls", !malformed && !wide, replies[0].0);
+    if malformed || wide {
+        return same("scalar", &replies[0], &(if malformed { 10 } else { 9 }, vec![0; 5]), "document 01");
+    }
+    let exact = match op {
+        Integer(n) => Scalar::integer(*n),
+        Zero => Scalar::zero(),
+        I => Scalar::i(),
+        InvSqrtTwo => Scalar::inv_sqrt_two(),
+        Omega(k) => Scalar::omega((*k % 256) as u8),
+        Neg(x) => rust::scalar(x).neg(),
+        Conj(x) => rust::scalar(x).conj(),
+        Half(x) => rust::scalar(x).half(),
+        Add(x, y) => rust::scalar(x).add(&rust::scalar(y)),
+        Mul(x, y) => rust::scalar(x).mul(&rust::scalar(y)),
+    };
+    let want = fitting(&exact).map_or((9, vec![0; 5]), |w| (0, w.to_vec()));
+    same("scalar", &replies[0], &want, "the Rust")
+}
+
+/// All comparisons of a case; an error says what disagrees.
+pub fn check(case: &Case, counts: &mut Counts) -> Fault {
+    match case {
+        Case::Channel { words, limits, extra } => {
+            let Some((got, c)) = channel(words, limits, *extra, counts)? else { return Ok(()) };
+            effects(&got, Some(&c), 0, counts)?;
+            effects(&got, Some(&c), 1, counts)?;
+            compare(&got, &got, Some((&c, &c)), counts)?;
+            let start: Vec<u8> = words.store.clone();
+            lookup(&got, &start, Some(&c), counts)?;
+            if let Some(store) = c.blocks.keys().last() {
+                let store: Vec<u8> = store.iter().map(|b| *b as u8).collect();
+                lookup(&got, &store, Some(&c), counts)?;
+            }
+            Ok(())
+        }
+        Case::Unitary { words, limits, extra } => unitary(words, limits, *extra, counts),
+        Case::Compare { left, right } => {
+            let (x, y) = (channel(left, &CEILINGS, (0, 0), counts)?, channel(right, &CEILINGS, (0, 0), counts)?);
+            let (Some((x, a)), Some((y, b))) = (x, y) else { return Ok(()) };
+            compare(&x, &y, Some((&a, &b)), counts)?;
+            compare(&y, &x, Some((&b, &a)), counts)
+        }
+        Case::Damaged { left, right, sets, cut, store, short } => {
+            let (mut x, mut y) = (plain_channel(left), plain_channel(right));
+            set_words(&mut x, sets, false);
+            set_words(&mut y, sets, true);
+            x.truncate(x.len().saturating_sub(*cut as usize));
+            let (a, b) = (read(&x), read(&y));
+            let pair = a.as_ref().zip(b.as_ref());
+            compare(&x, &y, pair, counts)?;
+            compare(&y, &x, pair.map(|(a, b)| (b, a)), counts)?;
+            effects(&x, a.as_ref(), *short as usize, counts)?;
+            lookup(&x, store, a.as_ref(), counts)
+        }
+        Case::Phase { left, right, scale, sets, dims, cut } => {
+            let of = |w: &Words| circuit_call(&ARCHIVE, true, w, &CEILINGS, (0, 0)).map(|r| r.result).unwrap_or_default();
+            let (mut x, mut y) = (of(left), of(right));
+            for cell in y.chunks_exact_mut(5) {
+                if let Some(w) = fitting(&rust::scalar(cell).mul(&rust::scalar(scale))) {
+                    cell.copy_from_slice(&w);
+                }
+            }
+            set_words(&mut x, sets, false);
+            set_words(&mut y, sets, true);
+            x.truncate(x.len().saturating_sub(*cut as usize));
+            phase((dims.0, &x), (dims.1, &y), counts)?;
+            phase((dims.1, &y), (dims.0, &x), counts)
+        }
+        Case::Scalar(op) => scalar(op, counts),
+    }
+}
+
+// ---- smaller inputs
+
+/// Circuits with a gate or a bit less, or with simpler gates.
+fn smaller_words(w: &Words) -> Vec<Words> {
+    let mut out = Vec::new();
+    let gates: Vec<&[u32]> = w.gates.chunks(5).collect();
+    let half = gates.len() / 2;
+    if half > 1 {
+        for part in [&gates[..half], &gates[half..]] {
+            out.push(Words { gates: part.concat(), ..w.clone() });
+        }
+    }
+    for i in 0..gates.len() {
+        let rest: Vec<&[u32]> = gates.iter().enumerate().filter(|(j, _)| *j != i).map(|(_, g)| *g).collect();
+        out.push(Words { gates: rest.concat(), ..w.clone() });
+    }
+    // one kind after another, from the simplest, on the first qubit
+    for (i, g) in gates.iter().enumerate() {
+        for kind in (0..g[0].min(17)).filter(|k| !(8..=12).contains(k)) {
+            let mut all = w.gates.clone();
+            all.splice(5 * i..5 * i + g.len(), [kind, 0, 0, 0, 0]);
+            out.push(Words { gates: all, ..w.clone() });
+        }
+    }
+    for i in 0..w.gates.len() {
+        if w.gates[i] > 0 {
+            for to in [0, w.gates[i] - 1] {
+                let mut gates = w.gates.clone();
+                gates[i] = to;
+                out.push(Words { gates, ..w.clone() });
+            }
+        }
+    }
+    if w.qubits > 0 {
+        out.push(Words { qubits: w.qubits - 1, ..w.clone() });
+    }
+    if w.bits > 0 && !w.store.is_empty() {
+        out.push(Words { bits: w.bits - 1, store: w.store[..w.store.len() - 1].to_vec(), ..w.clone() });
+    }
+    for i in 0..w.store.len() {
+        if w.store[i] > 0 {
+            let mut store = w.store.clone();
+            store[i] = 0;
+            out.push(Words { store, ..w.clone() });
+        }
+    }
+    out
+}
+
+fn smaller_cell(x: &[i64; 5]) -> Vec<[i64; 5]> {
+    let mut out = Vec::new();
+    for i in 0..5 {
+        for to in [0, x[i] / 2, x[i] - x[i].signum()] {
+            if to != x[i] {
+                let mut y = *x;
+                y[i] = to;
+                out.push(y);
+            }
+        }
+    }
+    out
+}
+
+fn smaller(case: &Case) -> Vec<Case> {
+    use Operation::*;
+    match case {
+        Case::Channel { words, limits, extra } => {
+            let mut out: Vec<Case> = smaller_words(words).into_iter().map(|words| Case::Channel { words, limits: *limits, extra: *extra }).collect();
+            if *limits != CEILINGS {
+                out.push(Case::Channel { words: words.clone(), limits: CEILINGS, extra: *extra });
+            }
+            if *extra != (0, 0) {
+                out.push(Case::Channel { words: words.clone(), limits: *limits, extra: (0, 0) });
+            }
+            out
+        }
+        Case::Unitary { words, limits, extra } => {
+            let mut out: Vec<Case> = smaller_words(words).into_iter().map(|words| Case::Unitary { words, limits: *limits, extra: *extra }).collect();
+            if *limits != CEILINGS {
+                out.push(Case::Unitary { words: words.clone(), limits: CEILINGS, extra: *extra });
+            }
+            if *extra != (0, 0) {
+                out.push(Case::Unitary { words: words.clone(), limits: *limits, extra: (0, 0) });
+            }
+            out
+        }
+        Case::Compare { left, right } => {
+            let lefts = smaller_words(left).into_iter().map(|left| Case::Compare { left, right: right.clone() });
+            let rights = smaller_words(right).into_iter().map(|right| Case::Compare { left: left.clone(), right });
+            lefts.chain(rights).collect()
+        }
+        Case::Damaged { left, right, sets, cut, store, short } => {
+            let with = |left: &Words, right: &Words, sets: Vec<(bool, u64, i64)>, cut: u64| Case::Damaged {
+                left: left.clone(), right: right.clone(), sets, cut, store: store.clone(), short: *short,
+            };
+            let mut out: Vec<Case> = smaller_words(left).iter().map(|l| with(l, right, sets.clone(), *cut)).collect();
+            out.extend(smaller_words(right).iter().map(|r| with(left, r, sets.clone(), *cut)));
+            for i in 0..sets.len() {
+                let mut fewer = sets.clone();
+                fewer.remove(i);
+                out.push(with(left, right, fewer, *cut));
+            }
+            if *cut > 0 {
+                out.push(with(left, right, sets.clone(), 0));
+            }
+            out
+        }
+        Case::Phase { left, right, scale, sets, dims, cut } => {
+            let with = |left: &Words, right: &Words, scale: [i64; 5], sets: Vec<(bool, u64, i64)>| Case::Phase {
+                left: left.clone(), right: right.clone(), scale, sets, dims: *dims, cut: *cut,
+            };
+            let mut out: Vec<Case> = smaller_words(left).iter().map(|l| with(l, right, *scale, sets.clone())).collect();
+            out.extend(smaller_words(right).iter().map(|r| with(left, r, *scale, sets.clone())));
+            for i in 0..sets.len() {
+                let mut fewer = sets.clone();
+                fewer.remove(i);
+                out.push(with(left, right, *scale, fewer));
+            }
+            if *scale != [1, 0, 0, 0, 0] {
+                out.push(with(left, right, [1, 0, 0, 0, 0], sets.clone()));
+            }
+            out
+        }
+        Case::Scalar(op) => {
+            let ops: Vec<Operation> = match op {
+                Integer(n) => [0, n / 2, n - n.signum()].into_iter().filter(|m| m != n).map(Integer).collect(),
+                Omega(k) => [k % 8, k / 2].into_iter().filter(|j| j != k).map(Omega).collect(),
+                Neg(x) => smaller_cell(x).into_iter().map(Neg).collect(),
+                Conj(x) => smaller_cell(x).into_iter().map(Conj).collect(),
+                Half(x) => smaller_cell(x).into_iter().map(Half).collect(),
+                Add(x, y) => smaller_cell(x).into_iter().map(|x| Add(x, *y)).chain(smaller_cell(y).into_iter().map(|y| Add(*x, y))).collect(),
+                Mul(x, y) => smaller_cell(x).into_iter().map(|x| Mul(x, *y)).chain(smaller_cell(y).into_iter().map(|y| Mul(*x, y))).collect(),
+                _ => vec![],
+            };
+            ops.into_iter().map(Case::Scalar).collect()
+        }
+    }
+}
+
+/// A failing case made as small as single steps make it, with what disagrees there.
+pub fn shrink(mut case: Case, mut fault: String) -> (Case, String) {
+    let mut steps = 0;
+    'again: loop {
+        for next in smaller(&case) {
+            steps += 1;
+            if steps > 20_000 {
+                break 'again;
+            }
+            if let Err(f) = check(&next, &mut Counts::default()) {
+                (case, fault) = (next, f);
+                continue 'again;
+            }
+        }
+        break;
+    }
+    (case, fault)
+}

@@ -1,0 +1,111 @@
+/*
+ * A judge in a control rack: static buffers, no heap. A compiler pass has rewritten the circuit that a lab sent; before the rack runs the
+ * new one, it asks whether both do the same, and prints the first difference if not.
+ */
+#include "foreituka.h"
+
+#include <inttypes.h>
+#include <stdio.h>
+
+enum { QUBITS = 2, BITS = 2, SPLITS = 2 };
+
+typedef struct {
+    const char *name;
+    const uint32_t *gates;
+    size_t words;
+} circuit;
+
+#define CIRCUIT(name, gates) {name, gates, sizeof gates / sizeof gates[0]}
+
+static const uint32_t sent[] = {
+    FOREITUKA_GATE_H,       0, 0, 0, 0,
+    FOREITUKA_GATE_T,       0, 0, 0, 0,
+    FOREITUKA_GATE_H,       0, 0, 0, 0,
+    FOREITUKA_GATE_X,       1, 0, 0, 0,
+    FOREITUKA_GATE_CNOT,    0, 1, 0, 0,
+    FOREITUKA_GATE_MEASURE, 0, 0, 0, 0,
+    FOREITUKA_GATE_MEASURE, 1, 1, 0, 0,
+};
+/* x on qubit 1 shares nothing with the three gates before it, and two measures of different qubits share nothing */
+static const uint32_t scheduled[] = {
+    FOREITUKA_GATE_X,       1, 0, 0, 0,
+    FOREITUKA_GATE_H,       0, 0, 0, 0,
+    FOREITUKA_GATE_T,       0, 0, 0, 0,
+    FOREITUKA_GATE_H,       0, 0, 0, 0,
+    FOREITUKA_GATE_CNOT,    0, 1, 0, 0,
+    FOREITUKA_GATE_MEASURE, 1, 1, 0, 0,
+    FOREITUKA_GATE_MEASURE, 0, 0, 0, 0,
+};
+/* t turned round */
+static const uint32_t mistaken[] = {
+    FOREITUKA_GATE_H,       0, 0, 0, 0,
+    FOREITUKA_GATE_TDG,     0, 0, 0, 0,
+    FOREITUKA_GATE_H,       0, 0, 0, 0,
+    FOREITUKA_GATE_X,       1, 0, 0, 0,
+    FOREITUKA_GATE_CNOT,    0, 1, 0, 0,
+    FOREITUKA_GATE_MEASURE, 0, 0, 0, 0,
+    FOREITUKA_GATE_MEASURE, 1, 1, 0, 0,
+};
+/* qubit 2 does not exist */
+static const uint32_t misplaced[] = {
+    FOREITUKA_GATE_H,       0, 0, 0, 0,
+    FOREITUKA_GATE_CNOT,    0, 2, 0, 0,
+};
+
+static const circuit original = CIRCUIT("sent", sent);
+static const circuit rewritten[] = {CIRCUIT("scheduled", scheduled), CIRCUIT("mistaken", mistaken), CIRCUIT("misplaced", misplaced)};
+static const uint8_t store[BITS] = {0, 0};
+static const uint64_t limits[6] = FOREITUKA_DEFAULT_LIMITS;
+
+static int64_t left[FOREITUKA_CHANNEL_WORDS(QUBITS, BITS)];
+static int64_t right[FOREITUKA_CHANNEL_WORDS(QUBITS, BITS)];
+static int64_t work[FOREITUKA_CHANNEL_WORK_WORDS(QUBITS, SPLITS)];
+
+static uint32_t judge(const circuit *c, int64_t *result, uint64_t *index) {
+    return foreituka_circuit_channel(QUBITS, BITS, store, sizeof store, c->gates, c->words, limits, result, sizeof left / sizeof left[0], work,
+                                     sizeof work / sizeof work[0], index);
+}
+
+static void print_scalar(const int64_t *x) {
+    printf("(%" PRId64 " + %" PRId64 "√2 + %" PRId64 "i + %" PRId64 "i√2) / 2^%" PRId64, x[0], x[1], x[2], x[3], x[4]);
+}
+
+static uint32_t check(const circuit *c) {
+    uint64_t index, place[3];
+    int64_t scalars[10];
+    uint32_t verdict = judge(c, right, &index);
+    printf("%s: ", c->name);
+    if (verdict != FOREITUKA_ACCEPTED) {
+        printf("refused %" PRIu32 " at gate %" PRIu64 "\n", verdict, index);
+        return verdict;
+    }
+    verdict = foreituka_compare(left, sizeof left / sizeof left[0], right, sizeof right / sizeof right[0], place, scalars);
+    switch (verdict) {
+    case FOREITUKA_SAME:
+        printf("same\n");
+        break;
+    case FOREITUKA_ENTRY:
+        printf("differs at store ");
+        for (int j = 0; j < BITS; j++) putchar((int)('0' + (place[0] >> j & 1)));
+        printf(", row %" PRIu64 ", column %" PRIu64 ": ", place[1], place[2]);
+        print_scalar(scalars);
+        printf(" against ");
+        print_scalar(scalars + 5);
+        printf("\n");
+        break;
+    default:
+        printf("not compared: %" PRIu32 "\n", verdict);
+    }
+    return verdict;
+}
+
+int main(void) {
+    static char line[256];
+    static const uint32_t expected[] = {FOREITUKA_SAME, FOREITUKA_ENTRY, FOREITUKA_OPERAND};
+    uint64_t index;
+    int wrong = 0;
+    setvbuf(stdout, line, _IOLBF, sizeof line); /* else stdio would take a buffer from the heap */
+    if (judge(&original, left, &index) != FOREITUKA_ACCEPTED) return 1;
+    for (size_t i = 0; i < sizeof rewritten / sizeof rewritten[0]; i++) wrong |= check(&rewritten[i]) != expected[i];
+    return wrong;
+}

@@ -1,0 +1,152 @@
+/*
+ * Foreituka: a proved judge of quantum circuits. Link with libjudge_c.a (x86-64; `rt staticlib judge_c` writes it).
+ *
+ * All memory is the caller's: no call allocates, keeps a pointer, prints or fails other than by a number. docs/FORMATS.md has every
+ * word of every layout, docs/CONTRACTS.md what each call promises.
+ *
+ * What the caller owes, since C cannot say it in a type: each pointer is aligned and reaches as many elements as the length behind it says,
+ * or as the array in its declaration has; a pointer with length 0 may be NULL; what a call writes (pointers without const) overlaps nothing
+ * else that it is given; nobody else writes to any of it during the call. Nothing is owed beyond that: contents that make no sense are refused.
+ *
+ * Words are int64_t. A scalar is five of them, n0 n1 n2 n3 e: the number (n0 + n1·√2 + n2·i + n3·i·√2) / 2^e in lowest form (e is 0 or some
+ * numerator is odd), numerators from −2^60 to 2^60, e from 0 to 60. It is narrow if they lie within 2^28 either way and e is at most 28.
+ * In the sizes below n is the number of qubits and d = 2^n.
+ */
+#ifndef FOREITUKA_HEADER
+#define FOREITUKA_HEADER
+
+#include <stddef.h>
+#include <stdint.h>
+
+#ifdef __cplusplus
+extern "C" {
+#endif
+
+/* ---- Replies ----
+ * A refusal changes no word of a result or of work words. FOREITUKA_ACCEPTED is the only reply that is 0, and compare and the phase test never
+ * give it, so a test for 0 cannot be read as "same". */
+enum {
+    FOREITUKA_ACCEPTED = 0,         /* the result is written */
+    FOREITUKA_LIMIT = 1,            /* a limit is exceeded */
+    FOREITUKA_UNSUPPORTED = 2,      /* an unsupported gate; its index is given */
+    FOREITUKA_OPERAND = 3,          /* a qubit out of range or repeated, a bit out of range; the gate's index is given */
+    FOREITUKA_STORE = 4,            /* the initial store has another length than the bit count, or a byte above 1 */
+    FOREITUKA_GATES = 5,            /* a malformed gate; its index is given. Or a length that is no multiple of 5; index 0 */
+    FOREITUKA_CEILING = 6,          /* a limit is above its ceiling */
+    FOREITUKA_WEIGHT = 7,           /* h, ch and sx number more than 48 */
+    FOREITUKA_SHORT = 8,            /* too few words for the result or the work */
+    FOREITUKA_LARGE = 9,            /* a number too large: a result out of range, an operand that is not narrow */
+    FOREITUKA_MALFORMED = 10,       /* a scalar, matrix or channel that is none */
+    FOREITUKA_SAME = 100,           /* compare: no entry differs */
+    FOREITUKA_DIMENSIONS = 101,     /* compare: dimensions or bit counts differ */
+    FOREITUKA_ENTRY = 102,          /* compare: an entry differs; place and scalars say which */
+    FOREITUKA_EQUIVALENT = 103,     /* phase test: equal up to a global phase */
+    FOREITUKA_DIFFERENT = 104       /* phase test: not */
+};
+
+/* ---- Gates: five uint32_t words each: kind, a, b, c, k; words that a kind does not use are 0 ---- */
+enum {
+    FOREITUKA_GATE_H = 0,        /* qubit a; weighs 1 */
+    FOREITUKA_GATE_X = 1,        /* qubit a */
+    FOREITUKA_GATE_Z = 2,        /* qubit a */
+    FOREITUKA_GATE_S = 3,        /* qubit a */
+    FOREITUKA_GATE_SDG = 4,      /* qubit a */
+    FOREITUKA_GATE_T = 5,        /* qubit a */
+    FOREITUKA_GATE_TDG = 6,      /* qubit a */
+    FOREITUKA_GATE_RZ = 7,       /* qubit a, k from 0 to 7: diagonal (1, omega(k)); k = 8 stands for every other angle, unsupported */
+    FOREITUKA_GATE_CNOT = 8,     /* control a, target b */
+    FOREITUKA_GATE_CZ = 9,       /* control a, target b */
+    FOREITUKA_GATE_CCX = 10,     /* controls a and b, target c */
+    FOREITUKA_GATE_CCZ = 11,     /* controls a and b, target c */
+    FOREITUKA_GATE_MEASURE = 12, /* qubit a into classical bit b */
+    FOREITUKA_GATE_RESET = 13,   /* qubit a */
+    FOREITUKA_GATE_P = 14,       /* unsupported, as are rx, ry, cp, crx, cry, crz */
+    FOREITUKA_GATE_Y = 15,       /* qubit a */
+    FOREITUKA_GATE_SX = 16,      /* qubit a; weighs 1 */
+    FOREITUKA_GATE_RX = 17,
+    FOREITUKA_GATE_RY = 18,
+    FOREITUKA_GATE_SWAP = 19,    /* qubits a and b */
+    FOREITUKA_GATE_CY = 20,      /* control a, target b */
+    FOREITUKA_GATE_CP = 21,
+    FOREITUKA_GATE_CRX = 22,
+    FOREITUKA_GATE_CRY = 23,
+    FOREITUKA_GATE_CRZ = 24,
+    FOREITUKA_GATE_CH = 25,      /* control a, target b; weighs 1 */
+    FOREITUKA_GATE_CSWAP = 26    /* control a, qubits b and c */
+};
+
+/* ---- Limits: six uint64_t. These are the defaults and the ceilings alike ---- */
+enum {
+    FOREITUKA_MAX_QUBITS = 5,
+    FOREITUKA_MAX_MATRIX_CELLS = 262144,
+    FOREITUKA_MAX_MULTIPLY_TERMS = 10000000,
+    FOREITUKA_MAX_OPERATIONS = 1024,
+    FOREITUKA_MAX_BRANCHES = 64,
+    FOREITUKA_MAX_CLASSICAL_BITS = 64,
+    FOREITUKA_MAX_WEIGHT = 48
+};
+#define FOREITUKA_DEFAULT_LIMITS                                                                                              \
+    { FOREITUKA_MAX_QUBITS, FOREITUKA_MAX_MATRIX_CELLS, FOREITUKA_MAX_MULTIPLY_TERMS, FOREITUKA_MAX_OPERATIONS,               \
+      FOREITUKA_MAX_BRANCHES, FOREITUKA_MAX_CLASSICAL_BITS }
+
+/* ---- Buffer sizes in words, for static buffers. splits: measures and resets. written: distinct bits measured into (never above splits).
+ * blocks: a channel's block count, at most 2^written ---- */
+#define FOREITUKA_DIM(n) ((size_t)1 << (n))
+#define FOREITUKA_MATRIX_WORDS(n) (5 * FOREITUKA_DIM(n) * FOREITUKA_DIM(n))
+#define FOREITUKA_RECORD_WORDS(n) (3 + FOREITUKA_MATRIX_WORDS(n) * FOREITUKA_DIM(n) * FOREITUKA_DIM(n))
+#define FOREITUKA_CHANNEL_WORDS(n, written) (4 + ((size_t)1 << (written)) * FOREITUKA_RECORD_WORDS(n))
+#define FOREITUKA_CHANNEL_WORK_WORDS(n, splits) ((((size_t)2 << (splits)) + 2) * (FOREITUKA_MATRIX_WORDS(n) + 2))
+#define FOREITUKA_UNITARY_WORDS(n) FOREITUKA_MATRIX_WORDS(n)
+#define FOREITUKA_UNITARY_WORK_WORDS(n) (4 * (FOREITUKA_MATRIX_WORDS(n) + 2))
+#define FOREITUKA_EFFECTS_WORDS(n, blocks) (4 + (size_t)(blocks) * (3 + FOREITUKA_MATRIX_WORDS(n)))
+
+/* The channel of a circuit of `qubits` qubits and `bits` classical bits that start as `store` (a byte for each, 0 or 1), or the first of
+ * document 01's questions that fails. result: FOREITUKA_CHANNEL_WORDS words or more; words behind the last block's record are kept. work:
+ * FOREITUKA_CHANNEL_WORK_WORDS or more; accepted, so many are zero, the rest is kept. index: the gate's where the reply names one, else 0.
+ * Replies: 0 to 8. */
+uint32_t foreituka_circuit_channel(uint32_t qubits, uint32_t bits, const uint8_t *store, size_t store_bytes, const uint32_t *gates,
+                                   size_t gate_words, const uint64_t limits[6], int64_t *result, size_t result_words, int64_t *work,
+                                   size_t work_words, uint64_t *index);
+
+/* The unitary matrix of a circuit without measures and resets: d² scalars, row by row, no header. result: FOREITUKA_UNITARY_WORDS words or
+ * more. work: FOREITUKA_UNITARY_WORK_WORDS or more, treated as above. Replies: 0, 1, 2, 3, 5, 6, 7, 8; limits are asked before gates here. */
+uint32_t foreituka_circuit_unitary(uint32_t qubits, const uint32_t *gates, size_t gate_words, const uint64_t limits[6], int64_t *result,
+                                   size_t result_words, int64_t *work, size_t work_words, uint64_t *index);
+
+/* Whether two channels, as circuit_channel leaves them, are the same map; a missing block is zero. FOREITUKA_ENTRY comes with the first
+ * unequal entry, by rising stores, then rows, then columns: place is its store (bit j weighs 2^j), row and column, scalars the left one's five
+ * words and the right one's. They are zero otherwise. left and right may be one buffer. Replies: 10, 100, 101, 102. */
+uint32_t foreituka_compare(const int64_t *left, size_t left_words, const int64_t *right, size_t right_words, uint64_t place[3],
+                           int64_t scalars[10]);
+
+/* Each store's effect, transposed: entry (r, c) sums block entry (o·d + r, o·d + c) over o. result: FOREITUKA_EFFECTS_WORDS words or more, in
+ * the layout of a channel with d² scalars in a record. Replies: 0, 8, 9, 10. */
+uint32_t foreituka_classical_blocks(const int64_t *channel, size_t channel_words, int64_t *result, size_t result_words);
+
+/* The index in `channel` of the first word of a store's block (d^4 scalars from there on). 0: a malformed channel, a store of the wrong length
+ * or with a byte above 1, or no such block. */
+size_t foreituka_lookup(const int64_t *channel, size_t channel_words, const uint8_t *store, size_t store_bytes);
+
+/* Whether two matrices (5·dim² words, row by row; dim 1, 2, 4, 8, 16 or 32) are equal up to a factor of modulus 1. Replies: 9 (an entry is not
+ * narrow), 10, 103, 104. */
+uint32_t foreituka_equivalent_up_to_global_phase(size_t left_dim, const int64_t *left, size_t left_words, size_t right_dim,
+                                                 const int64_t *right, size_t right_words);
+
+/* Scalars, exact. out is zero where the reply is not 0. integer: 0 or 9. zero, i, inv_sqrt_two (√2/2), omega (((1 + i)/√2)^(k mod 8)): 0. neg and
+ * conj: 0 or 10. half and add: 0, 9 or 10. mul, of narrow scalars: 0, 9 or 10. */
+uint32_t foreituka_scalar_integer(int64_t n, int64_t out[5]);
+uint32_t foreituka_scalar_zero(int64_t out[5]);
+uint32_t foreituka_scalar_i(int64_t out[5]);
+uint32_t foreituka_scalar_inv_sqrt_two(int64_t out[5]);
+uint32_t foreituka_scalar_omega(uint32_t k, int64_t out[5]);
+uint32_t foreituka_scalar_neg(const int64_t x[5], int64_t out[5]);
+uint32_t foreituka_scalar_conj(const int64_t x[5], int64_t out[5]);
+uint32_t foreituka_scalar_half(const int64_t x[5], int64_t out[5]);
+uint32_t foreituka_scalar_add(const int64_t x[5], const int64_t y[5], int64_t out[5]);
+uint32_t foreituka_scalar_mul(const int64_t x[5], const int64_t y[5], int64_t out[5]);
+
+#ifdef __cplusplus
+}
+#endif
+
+#endif
