@@ -1,4 +1,5 @@
-// The comparison of two channels: their chains are walked in step, and the blocks of each store compared entry by entry.
+// The comparison of two channels: their chains are walked in step, and the blocks of each store compared entry by entry. A word is read at most
+// twice: once to judge it, and once to compare it.
 use super::layout::CELL;
 use super::layout::RECORD_HEAD;
 use super::layout::comes_before;

@@ -60,6 +60,10 @@ pub fn well_formed_at(s: &[i64], at: usize) -> bool
     requires { ⌜ at + 5 ≤ length (now s) ⌝ }
     ensures { λ r. ⌜ r ≡ wellFormedAt (now (s .entry)) at ⌝ }
 {
+    let a = s[at];
+    let b = s[at + 1];
+    let c = s[at + 2];
+    let d = s[at + 3];
     let e = s[at + 4];
     if e < 0 {
         return false;
@@ -67,6 +71,8 @@ pub fn well_formed_at(s: &[i64], at: usize) -> bool
     if (MAX_EXPONENT as i64) < e {
         return false;
     }
-    let v = read_cell(s, at);
+    let n = [a, b, c, d];
+    let f = e as u32;
+    let v = Scalar { n, e: f };
     v.is_well_formed()
 }
