@@ -165,7 +165,3 @@ dim-range (pos a) e = first (either _ _ e)
 
 pub square-small : (d : ℕ) → d ≤ 16 → d * d ≤ 256
 square-small d h = mul-le-mul h h
-
--- `x == y` of two words that are read
-pub eq-read : (x y : ℤ) → mag x < 2 ^ 63 → mag y < 2 ^ 63 → eqb (ofZ w64 x) (ofZ w64 y) ≡ eqℤ x y
-eq-read x y h k = eq-words x y (record { sfits = h }) (record { sfits = k })

@@ -11,10 +11,10 @@ use scalar::cells::read_cell;
 ghost use mathlib.Core.Path.{_≡_};
 ghost use mathlib.Core.Bool.{true};
 ghost use Prim.Native.Nat.{ℕ, _*_, _<_, _≤_};
-ghost use Rattle.scalar.specs.Calls.{value, scalarOf};
+ghost use Rattle.scalar.specs.Calls.{scalarOf};
 ghost use Rattle.channel.specs.Layout.{readBack};
 ghost use Rattle.channel.specs.WellFormed.{Onward};
-ghost use Rattle.channel.specs.Compare.{equal, isSame, plain, scan, first, merge, compareOf};
+ghost use Rattle.channel.specs.Compare.{isSame, plain, scan, first, merge, compareOf};
 ghost use Rattle.channel.specs.Walk.{sideAt, bothAt, turnOf, cursorAt, advance, On, Held, Matched};
 
 // Bit j of a store weighs 2^j.
@@ -76,16 +76,6 @@ pub fn is_same(d: Difference) -> bool
     }
 }
 
-pub fn same_scalar(s: Scalar, t: Scalar) -> bool
-    ensures { λ r. ⌜ r ≡ equal (value s) (value t) ⌝ }
-{
-    let x = s.n;
-    let y = t.n;
-    let e = s.e;
-    let f = t.e;
-    (x[0] == y[0]) & (x[1] == y[1]) & (x[2] == y[2]) & (x[3] == y[3]) & (e == f)
-}
-
 // Entry k of the record at `at`, or zero where the side has no block.
 pub fn entry_or_zero(has: bool, s: &[i64], at: usize, k: usize) -> Scalar
     requires { ⌜ Held has (now s) at k ⌝ }
@@ -121,7 +111,7 @@ pub fn compare_block(
         while col < w {
             let x = entry_or_zero(on_left, left, i, k);
             let y = entry_or_zero(on_right, right, j, k);
-            if !same_scalar(x, y) {
+            if !x.equals(y) {
                 let place = Place { store, row, col };
                 found = Difference {
                     found: Found::Entry(place),

@@ -9,6 +9,9 @@ ghost use lib.Seq.{sets};
 ghost use Rattle.scalar.specs.Calls.{value, scalarOf};
 ghost use Rattle.scalar.specs.Cells.{cellAt, cellWords, exponentAt, wellFormedAt, zeroAt};
 
+// The words of a cell.
+pub const CELL: usize = 5;
+
 // The scalar in the five words from `at` on.
 pub fn read_cell(s: &[i64], at: usize) -> Scalar
     requires { ⌜ (at + 5 ≤ length (now s)) × (exponentAt (now s) at ≡ true) ⌝ }
