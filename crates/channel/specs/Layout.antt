@@ -18,13 +18,20 @@ headerSize = 4
 abbrev pub recordHead : ℕ
 recordHead = 3
 
+-- an entry is a cell
+abbrev pub entrySize : ℕ
+entrySize = cellSize
+
 -- a block of a channel of dimension d has d² rows and columns
 abbrev pub side : ℕ → ℕ
 side d = d * d
 
--- the words of a record whose matrix has w rows and columns
+-- the words of the entries of a block of w rows and columns, and of its record
+abbrev pub blockSize : ℕ → ℕ
+blockSize w = w * w * entrySize
+
 abbrev pub recordSize : ℕ → ℕ
-recordSize w = recordHead + w * w * cellSize
+recordSize w = recordHead + blockSize w
 
 -- the index of record j
 abbrev pub recordAt : ℕ → ℕ → ℕ
@@ -32,7 +39,7 @@ recordAt w j = headerSize + j * recordSize w
 
 -- the place of entry k, row · w + column, of the record at `at`
 abbrev pub entryPlace : ℕ → ℕ → ℕ
-entryPlace at k = at + recordHead + k * cellSize
+entryPlace at k = at + recordHead + k * entrySize
 
 abbrev pub entryAt : List ℤ → ℕ → ℕ → Exact
 entryAt l at k = cellAt l (entryPlace at k)

@@ -1,13 +1,11 @@
 // The comparison of two channels: their chains are walked in step, and the blocks of each store compared entry by entry. A word is read at most
 // twice: once to judge it, and once to compare it.
-use super::layout::CELL;
-use super::layout::RECORD_HEAD;
 use super::layout::comes_before;
 use super::layout::follow;
+use super::layout::read_entry;
 use super::layout::read_store;
 use super::well_formed::judge;
 use scalar::Scalar;
-use scalar::cells::read_cell;
 ghost use mathlib.Core.Path.{_≡_};
 ghost use mathlib.Core.Bool.{true};
 ghost use Prim.Native.Nat.{ℕ, _*_, _<_, _≤_};
@@ -82,7 +80,7 @@ pub fn entry_or_zero(has: bool, s: &[i64], at: usize, k: usize) -> Scalar
     ensures { λ r. ⌜ r ≡ scalarOf (sideAt has (now (s .entry)) at k) ⌝ }
 {
     if has {
-        read_cell(s, at + RECORD_HEAD + k * CELL)
+        read_entry(s, at, k)
     } else {
         Scalar { n: [0; 4], e: 0 }
     }

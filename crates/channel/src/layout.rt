@@ -1,4 +1,7 @@
 // The words of a channel: sizes, starts of records, stores and their order, and the chain.
+use scalar::Scalar;
+use scalar::cells::CELL;
+use scalar::cells::read_cell;
 ghost use mathlib.Core.Path.{_≡_};
 ghost use mathlib.Core.Bool.{true};
 ghost use Prim.Native.Nat.{_+_, _<_, _≤_, _^_, _-_};
@@ -6,21 +9,48 @@ ghost use lib.Dec.{ltb};
 ghost use lib.ListN.{length};
 ghost use lib.IntN.{pos, natAbs};
 ghost use Rattle.algebra.specs.Words.{upTo};
-ghost use Rattle.channel.specs.Layout.{recordSize, storeFrom, before, storeAt, word};
+ghost use Rattle.scalar.specs.Calls.{scalarOf};
+ghost use Rattle.scalar.specs.Cells.{exponentAt};
+ghost use Rattle.channel.specs.Layout.{entrySize, blockSize, recordSize, entryPlace, entryAt, storeFrom, before, storeAt, word};
 ghost use Rattle.channel.specs.WellFormed.{isStart};
 
 pub const HEADER: usize = 4;
 
 pub const RECORD_HEAD: usize = 3;
 
-pub const CELL: usize = 5;
+// An entry is a cell.
+pub const ENTRY: usize = CELL;
 
-// The words of a record whose matrix has w rows and columns.
+// The words of the entries of a block of w rows and columns.
+pub fn block_size(w: usize) -> usize
+    requires { ⌜ w ≤ 256 ⌝ }
+    ensures { λ r. ⌜ r ≡ blockSize w ⌝ }
+{
+    w * w * ENTRY
+}
+
+// The words of the record of a block of w rows and columns.
 pub fn record_size(w: usize) -> usize
     requires { ⌜ w ≤ 256 ⌝ }
     ensures { λ r. ⌜ r ≡ recordSize w ⌝ }
 {
-    RECORD_HEAD + w * w * CELL
+    RECORD_HEAD + block_size(w)
+}
+
+// The place of entry k, row · w + column, of the record at `at`.
+pub fn entry_place(at: usize, k: usize) -> usize
+    requires { ⌜ entryPlace at k < 2 ^ 64 ⌝ }
+    ensures { λ r. ⌜ r ≡ entryPlace at k ⌝ }
+{
+    at + RECORD_HEAD + k * ENTRY
+}
+
+// Entry k of the record at `at`.
+pub fn read_entry(s: &[i64], at: usize, k: usize) -> Scalar
+    requires { ⌜ (entryPlace at k + entrySize ≤ length (now s)) × (exponentAt (now s) (entryPlace at k) ≡ true) ⌝ }
+    ensures { λ r. ⌜ r ≡ scalarOf (entryAt (now (s .entry)) at k) ⌝ }
+{
+    read_cell(s, entry_place(at, k))
 }
 
 // Whether a word is a number from 0 to n.

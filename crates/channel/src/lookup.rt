@@ -1,6 +1,6 @@
 // The block of a store, as a part of the channel's words.
-use super::layout::CELL;
 use super::layout::RECORD_HEAD;
+use super::layout::block_size;
 use super::layout::follow;
 use super::layout::read_store;
 use super::well_formed::judge;
@@ -91,7 +91,7 @@ pub fn locate(s: &[i64], store: &[u8]) -> Span
     let w = h.dim * h.dim;
     Span {
         start: at + RECORD_HEAD,
-        size: w * w * CELL,
+        size: block_size(w),
     }
 }
 

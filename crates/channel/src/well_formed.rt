@@ -1,9 +1,8 @@
 // Whether words are a well-formed channel. Each word is read once.
 use super::Shape;
-use super::layout::CELL;
 use super::layout::HEADER;
-use super::layout::RECORD_HEAD;
 use super::layout::comes_before;
+use super::layout::entry_place;
 use super::layout::fits_bits;
 use super::layout::is_start;
 use super::layout::join;
@@ -70,7 +69,7 @@ pub fn entries_ok(s: &[i64], at: usize, n: usize) -> bool
 {
     let mut k = 0;
     while k < n {
-        if !well_formed_at(s, at + RECORD_HEAD + k * CELL) {
+        if !well_formed_at(s, entry_place(at, k)) {
             return false;
         }
         k += 1;

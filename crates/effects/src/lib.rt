@@ -1,13 +1,13 @@
 // The effects of a channel's blocks. The sums are tried before the first word is written, so that a refusal leaves the result as it was.
-use channel::layout::CELL;
+use channel::layout::ENTRY;
 use channel::layout::HEADER;
 use channel::layout::RECORD_HEAD;
+use channel::layout::read_entry;
 use channel::layout::record_size;
 use channel::well_formed::judge;
 use scalar::Answer;
 use scalar::Scalar;
 use scalar::Verdict;
-use scalar::cells::read_cell;
 use scalar::cells::write_cell;
 use scalar::refused;
 ghost use mathlib.Core.Path.{_≡_};
@@ -19,7 +19,7 @@ ghost use lib.Seq.{sets};
 ghost use Rattle.scalar.specs.Calls.{accepted, refusedWith};
 ghost use Rattle.scalar.specs.declared.Verdict.the-variants.{TooLarge};
 ghost use Rattle.scalar.specs.Cells.{fill};
-ghost use Rattle.channel.specs.Layout.{headerSize, recordSize, word};
+ghost use Rattle.channel.specs.Layout.{headerSize, blockSize, recordSize, word};
 ghost use Rattle.effects.specs.Effects.{termPlace, term, effectAt, partialsFit, recordFits, sumsFit, relink, effectHeader, effectRecord, withRecords, outcomeOf, resultOf};
 ghost use Rattle.effects.specs.Readable.{isAccepted, Dim, Readable, Records, Linked};
 
@@ -61,7 +61,7 @@ pub fn sum_entry(s: &[i64], at: usize, d: usize, i: usize) -> Answer
     let mut o = 0;
     while o < d {
         let k = term_place(d, i, o);
-        let x = read_cell(s, at + RECORD_HEAD + k * CELL);
+        let x = read_entry(s, at, k);
         let a = acc.add(x);
         let v = a.verdict;
         if !is_accepted(v) {
@@ -126,14 +126,14 @@ pub fn relinked(d: usize, z: i64) -> i64
 
 // Write the d² entries of the effect of the block at `at` from `out` on.
 pub fn write_entries(s: &[i64], at: usize, d: usize, result: &mut [i64], out: usize)
-    requires { ⌜ Readable (now s) at d × ((recordFits (now s) at d ≡ true) × (out + d * d * 5 ≤ length (now result))) ⌝ }
+    requires { ⌜ Readable (now s) at d × ((recordFits (now s) at d ≡ true) × (out + blockSize d ≤ length (now result))) ⌝ }
     ensures { λ _. ⌜ now (result .exit) ≡ fill (now (result .entry)) out (d * d) (effectAt (now (s .entry)) at d) ⌝ }
 {
     let n = d * d;
     let mut i = 0;
     while i < n {
         let a = sum_entry(s, at, d, i);
-        write_cell(result, out + i * CELL, a.value);
+        write_cell(result, out + i * ENTRY, a.value);
         i += 1;
     }
 }

@@ -4,8 +4,7 @@ use super::page::put_all;
 use super::page::put_decimal;
 use super::page::put_natural;
 use super::page::put_spaced;
-use channel::layout::CELL;
-use channel::layout::RECORD_HEAD;
+use channel::layout::entry_place;
 use channel::layout::follow;
 use channel::layout::read_store;
 use channel::well_formed::judge;
@@ -89,7 +88,7 @@ pub fn put_entries(out: &mut [u8], at: usize, s: &[i64], place: usize, w: usize)
     let mut p = at;
     let mut k = 0;
     while k < n {
-        p = put_entry(out, p, s, place + RECORD_HEAD + k * CELL, k / w, k % w);
+        p = put_entry(out, p, s, entry_place(place, k), k / w, k % w);
         k += 1;
     }
     p
