@@ -38,20 +38,20 @@ pub struct Difference {
 }
 
 // The sides that have a block of the next store.
-pub struct Turn {
+struct Turn {
     pub left: bool,
     pub right: bool,
     pub store: u64,
 }
 
 // A place on a chain: the index of the next record, how many are left, and the record's store (0 at the end).
-pub struct Cursor {
+struct Cursor {
     pub at: usize,
     pub left: usize,
     pub store: u64,
 }
 
-pub fn without_entry(f: Found) -> Difference
+fn without_entry(f: Found) -> Difference
     ensures { λ r. ⌜ r ≡ plain f ⌝ }
 {
     let z = Scalar { n: [0; 4], e: 0 };
@@ -62,7 +62,7 @@ pub fn without_entry(f: Found) -> Difference
     }
 }
 
-pub fn is_same(d: Difference) -> bool
+fn is_same(d: Difference) -> bool
     ensures { λ r. ⌜ r ≡ isSame (d .found) ⌝ }
 {
     let f = d.found;
@@ -75,7 +75,7 @@ pub fn is_same(d: Difference) -> bool
 }
 
 // Entry k of the record at `at`, or zero where the side has no block.
-pub fn entry_or_zero(has: bool, s: &[i64], at: usize, k: usize) -> Scalar
+fn entry_or_zero(has: bool, s: &[i64], at: usize, k: usize) -> Scalar
     requires { ⌜ Held has (now s) at k ⌝ }
     ensures { λ r. ⌜ r ≡ scalarOf (sideAt has (now (s .entry)) at k) ⌝ }
 {
@@ -87,7 +87,7 @@ pub fn entry_or_zero(has: bool, s: &[i64], at: usize, k: usize) -> Scalar
 }
 
 // The first unequal entry of the blocks of one store, rows then columns.
-pub fn compare_block(
+fn compare_block(
     t: Turn,
     left: &[i64],
     i: usize,
@@ -127,7 +127,7 @@ pub fn compare_block(
 }
 
 // The next of n records, at index `at`.
-pub fn enter(s: &[i64], n: usize, at: usize) -> Cursor
+fn enter(s: &[i64], n: usize, at: usize) -> Cursor
     requires { ⌜ Onward (now s) n at ⌝ }
     ensures { λ r. ⌜ r ≡ cursorAt (now (s .entry)) n at ⌝ }
 {
@@ -143,7 +143,7 @@ pub fn enter(s: &[i64], n: usize, at: usize) -> Cursor
 }
 
 // The record after the cursor's, if its side took part.
-pub fn advanced(b: bool, s: &[i64], c: Cursor) -> Cursor
+fn advanced(b: bool, s: &[i64], c: Cursor) -> Cursor
     requires { ⌜ On (now s) c × (b ≡ true → 0 < c .left) ⌝ }
     ensures { λ r. ⌜ r ≡ advance b (now (s .entry)) c ⌝ }
 {
@@ -157,7 +157,7 @@ pub fn advanced(b: bool, s: &[i64], c: Cursor) -> Cursor
 }
 
 // The sides that have the least of two cursors' stores.
-pub fn choose(a: Cursor, b: Cursor) -> Turn
+fn choose(a: Cursor, b: Cursor) -> Turn
     ensures { λ r. ⌜ r ≡ turnOf a b ⌝ }
 {
     let x = a.store;
@@ -200,7 +200,7 @@ pub fn choose(a: Cursor, b: Cursor) -> Turn
 }
 
 // The first unequal entry along two chains, walked in step.
-pub fn compare_chains(left: &[i64], right: &[i64], m: usize, n: usize, w: usize) -> Difference
+fn compare_chains(left: &[i64], right: &[i64], m: usize, n: usize, w: usize) -> Difference
     requires { ⌜ Matched (now left) (now right) m n w ⌝ }
     ensures { λ r. ⌜ r ≡ first w (merge (readBack (now (left .entry))) (readBack (now (right .entry)))) ⌝ }
 {

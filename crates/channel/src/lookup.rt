@@ -13,19 +13,19 @@ ghost use Rattle.channel.specs.WellFormed.{wellFormed};
 ghost use Rattle.channel.specs.Lookup.{storeRight, find, lookupOf, partOf, spanOf, noSpan};
 
 // A part of a slice.
-pub struct Span {
+struct Span {
     pub start: usize,
     pub size: usize,
 }
 
-pub fn none() -> Span
+fn none() -> Span
     ensures { λ r. ⌜ r ≡ noSpan ⌝ }
 {
     Span { start: 0, size: 0 }
 }
 
 // Whether a store has m bytes, each 0 or 1.
-pub fn right_store(m: u32, bytes: &[u8]) -> bool
+fn right_store(m: u32, bytes: &[u8]) -> bool
     ensures { λ r. ⌜ r ≡ storeRight m (now (bytes .entry)) ⌝ }
 {
     if bytes.len() != m as usize {
@@ -42,7 +42,7 @@ pub fn right_store(m: u32, bytes: &[u8]) -> bool
 }
 
 // The store of a list of bits, bit 0 first.
-pub fn store_number(m: u32, bytes: &[u8]) -> u64
+fn store_number(m: u32, bytes: &[u8]) -> u64
     requires { ⌜ (m ≤ 64) × (storeRight m (now bytes) ≡ true) ⌝ }
     ensures { λ r. ⌜ r ≡ storeOf (now (bytes .entry)) ⌝ }
 {
@@ -56,7 +56,7 @@ pub fn store_number(m: u32, bytes: &[u8]) -> u64
 }
 
 // The index of the record of a store in a well-formed channel of `count` blocks, or 0.
-pub fn find_store(s: &[i64], store: u64, count: usize) -> usize
+fn find_store(s: &[i64], store: u64, count: usize) -> usize
     requires { ⌜ (wellFormed (now s) ≡ true) × (count ≡ countAt (now s)) ⌝ }
     ensures { λ r. ⌜ r ≡ find (now (s .entry)) store count (natAbs (word (now (s .entry)) 3)) ⌝ }
 {
@@ -73,7 +73,7 @@ pub fn find_store(s: &[i64], store: u64, count: usize) -> usize
 }
 
 // Where the entries of a store's block lie.
-pub fn locate(s: &[i64], store: &[u8]) -> Span
+fn locate(s: &[i64], store: &[u8]) -> Span
     ensures { λ r. ⌜ r ≡ spanOf (now (s .entry)) (lookupOf (now (s .entry)) (now (store .entry))) ⌝ }
 {
     let h = judge(s);

@@ -31,7 +31,7 @@ pub enum Outcome {
     Malformed,
 }
 
-pub fn is_accepted(v: Verdict) -> bool
+fn is_accepted(v: Verdict) -> bool
     ensures { λ r. ⌜ r ≡ isAccepted v ⌝ }
 {
     match v {
@@ -42,7 +42,7 @@ pub fn is_accepted(v: Verdict) -> bool
 }
 
 // The place in a block of its entry (o·d + r, o·d + c), for i = r·d + c.
-pub fn term_place(d: usize, i: usize, o: usize) -> usize
+fn term_place(d: usize, i: usize, o: usize) -> usize
     requires { ⌜ Dim d × ((i < d * d) × (o < d)) ⌝ }
     ensures { λ r. ⌜ r ≡ termPlace d i o ⌝ }
 {
@@ -53,7 +53,7 @@ pub fn term_place(d: usize, i: usize, o: usize) -> usize
 }
 
 // Entry i of the effect of the block at `at`, or 9 where a partial sum leaves the range.
-pub fn sum_entry(s: &[i64], at: usize, d: usize, i: usize) -> Answer
+fn sum_entry(s: &[i64], at: usize, d: usize, i: usize) -> Answer
     requires { ⌜ Readable (now s) at d × (i < d * d) ⌝ }
     ensures { λ r. ⌜ r ≡ cond (partialsFit d (term (now (s .entry)) at d i)) (accepted (effectAt (now (s .entry)) at d i)) (refusedWith TooLarge) ⌝ }
 {
@@ -77,7 +77,7 @@ pub fn sum_entry(s: &[i64], at: usize, d: usize, i: usize) -> Answer
 }
 
 // Whether every partial sum of the block at `at` fits.
-pub fn record_fits(s: &[i64], at: usize, d: usize) -> bool
+fn record_fits(s: &[i64], at: usize, d: usize) -> bool
     requires { ⌜ Readable (now s) at d ⌝ }
     ensures { λ r. ⌜ r ≡ recordFits (now (s .entry)) at d ⌝ }
 {
@@ -95,7 +95,7 @@ pub fn record_fits(s: &[i64], at: usize, d: usize) -> bool
 }
 
 // Whether every partial sum of n blocks fits.
-pub fn sums_fit(s: &[i64], d: usize, n: usize) -> bool
+fn sums_fit(s: &[i64], d: usize, n: usize) -> bool
     requires { ⌜ Records (now s) d n ⌝ }
     ensures { λ r. ⌜ r ≡ sumsFit (now (s .entry)) d n ⌝ }
 {
@@ -111,7 +111,7 @@ pub fn sums_fit(s: &[i64], d: usize, n: usize) -> bool
 }
 
 // The index among the effects' records that matches an index of the channel's chain.
-pub fn relinked(d: usize, z: i64) -> i64
+fn relinked(d: usize, z: i64) -> i64
     requires { ⌜ Linked d z ⌝ }
     ensures { λ r. ⌜ r ≡ relink d z ⌝ }
 {
@@ -125,7 +125,7 @@ pub fn relinked(d: usize, z: i64) -> i64
 }
 
 // Write the d² entries of the effect of the block at `at` from `out` on.
-pub fn write_entries(s: &[i64], at: usize, d: usize, result: &mut [i64], out: usize)
+fn write_entries(s: &[i64], at: usize, d: usize, result: &mut [i64], out: usize)
     requires { ⌜ Readable (now s) at d × ((recordFits (now s) at d ≡ true) × (out + blockSize d ≤ length (now result))) ⌝ }
     ensures { λ _. ⌜ now (result .exit) ≡ fill (now (result .entry)) out (d * d) (effectAt (now (s .entry)) at d) ⌝ }
 {
@@ -139,7 +139,7 @@ pub fn write_entries(s: &[i64], at: usize, d: usize, result: &mut [i64], out: us
 }
 
 // Write three words from `at` on.
-pub fn put_three(result: &mut [i64], at: usize, a: i64, b: i64, c: i64)
+fn put_three(result: &mut [i64], at: usize, a: i64, b: i64, c: i64)
     requires { ⌜ at + 3 ≤ length (now result) ⌝ }
     ensures { λ _. ⌜ now (result .exit) ≡ sets (now (result .entry)) at (a ∷ b ∷ c ∷ []) ⌝ }
 {
@@ -149,7 +149,7 @@ pub fn put_three(result: &mut [i64], at: usize, a: i64, b: i64, c: i64)
 }
 
 // Write the effect's record of the block at `at` from `out` on.
-pub fn write_record(s: &[i64], at: usize, d: usize, result: &mut [i64], out: usize)
+fn write_record(s: &[i64], at: usize, d: usize, result: &mut [i64], out: usize)
     requires { ⌜ Readable (now s) at d × ((recordFits (now s) at d ≡ true) × (out + recordSize d ≤ length (now result))) ⌝ }
     ensures { λ _. ⌜ now (result .exit) ≡ sets (now (result .entry)) out (effectRecord (now (s .entry)) d at) ⌝ }
 {
@@ -161,7 +161,7 @@ pub fn write_record(s: &[i64], at: usize, d: usize, result: &mut [i64], out: usi
 }
 
 // Write the effects' records of n blocks, in the channel's own order.
-pub fn write_records(s: &[i64], d: usize, n: usize, result: &mut [i64])
+fn write_records(s: &[i64], d: usize, n: usize, result: &mut [i64])
     requires { ⌜ Records (now s) d n × ((sumsFit (now s) d n ≡ true) × (headerSize + n * recordSize d ≤ length (now result))) ⌝ }
     ensures { λ _. ⌜ now (result .exit) ≡ withRecords (now (s .entry)) d n (now (result .entry)) ⌝ }
 {
@@ -175,7 +175,7 @@ pub fn write_records(s: &[i64], d: usize, n: usize, result: &mut [i64])
 }
 
 // Write the effects' header.
-pub fn write_header(s: &[i64], d: usize, result: &mut [i64])
+fn write_header(s: &[i64], d: usize, result: &mut [i64])
     requires { ⌜ Linked d (word (now s) 3) × ((4 ≤ length (now s)) × (4 ≤ length (now result))) ⌝ }
     ensures { λ _. ⌜ now (result .exit) ≡ sets (now (result .entry)) 0 (effectHeader (now (s .entry)) d) ⌝ }
 {
