@@ -87,14 +87,7 @@ fn entry_or_zero(has: bool, s: &[i64], at: usize, k: usize) -> Scalar
 }
 
 // The first unequal entry of the blocks of one store, rows then columns.
-fn compare_block(
-    t: Turn,
-    left: &[i64],
-    i: usize,
-    right: &[i64],
-    j: usize,
-    w: usize,
-) -> Difference
+fn compare_block(t: Turn, left: &[i64], i: usize, right: &[i64], j: usize, w: usize) -> Difference
     requires { ⌜ (w ≤ 256) × ((k : ℕ) → k < w * w → Held (t .left) (now left) i k × Held (t .right) (now right) j k) ⌝ }
     ensures { λ r. ⌜ r ≡ scan (bothAt t (now (left .entry)) i (now (right .entry)) j) w (w * w) 0 ⌝ }
 {

@@ -11,7 +11,7 @@ ghost use lib.IntN.{pos, natAbs};
 ghost use Rattle.algebra.specs.Words.{upTo};
 ghost use Rattle.scalar.specs.Calls.{scalarOf};
 ghost use Rattle.scalar.specs.Cells.{exponentAt};
-ghost use Rattle.channel.specs.Layout.{entrySize, blockSize, recordSize, entryPlace, entryAt, storeFrom, before, storeAt, word};
+ghost use Rattle.channel.specs.Layout.{recordHead, entrySize, blockSize, recordSize, entryPlace, entryAt, storeFrom, before, storeAt, word};
 ghost use Rattle.channel.specs.WellFormed.{isStart};
 
 pub const HEADER: usize = 4;
@@ -94,7 +94,7 @@ pub fn join(low: i64, high: i64) -> u64
 
 // The store of the record at `at`.
 pub fn read_store(s: &[i64], at: usize) -> u64
-    requires { ⌜ (at + 3 ≤ length (now s)) × ((upTo (2 ^ 32 - 1) (word (now s) (at + 1)) ≡ true) × (upTo (2 ^ 32 - 1) (word (now s) (at + 2)) ≡ true)) ⌝ }
+    requires { ⌜ (at + recordHead ≤ length (now s)) × ((upTo (2 ^ 32 - 1) (word (now s) (at + 1)) ≡ true) × (upTo (2 ^ 32 - 1) (word (now s) (at + 2)) ≡ true)) ⌝ }
     ensures { λ r. ⌜ r ≡ storeAt (now (s .entry)) at ⌝ }
 {
     let low = s[at + 1];

@@ -13,7 +13,7 @@ ghost use mathlib.Core.Path.{_≡_};
 ghost use mathlib.Core.Bool.{true, false};
 ghost use Prim.Native.Nat.{_+_, _≤_};
 ghost use lib.ListN.{length};
-ghost use Rattle.channel.specs.Layout.{recordSize, entryPlace, storeFrom, storeAt, word};
+ghost use Rattle.channel.specs.Layout.{recordHead, recordSize, entryPlace, storeFrom, storeAt, word};
 ghost use Rattle.channel.specs.WellFormed.{judged, isDim, wordsOk, storeOk, entriesOk, recordOk, chainOk, Room, wellFormed, headerOf, shapeOf, noShape};
 
 // What is found of a record: its store, or `ok` false and 0.
@@ -54,7 +54,7 @@ fn judge_words(low: i64, high: i64, m: u32) -> Judged
 
 // The store of the record at `at`.
 fn judge_store(s: &[i64], at: usize, m: u32) -> Judged
-    requires { ⌜ (at + 3 ≤ length (now s)) × (m ≤ 64) ⌝ }
+    requires { ⌜ (at + recordHead ≤ length (now s)) × (m ≤ 64) ⌝ }
     ensures { λ r. ⌜ r ≡ judged (storeOk (now (s .entry)) at m) (storeAt (now (s .entry)) at) ⌝ }
 {
     let low = s[at + 1];

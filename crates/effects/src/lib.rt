@@ -176,7 +176,7 @@ fn write_records(s: &[i64], d: usize, n: usize, result: &mut [i64])
 
 // Write the effects' header.
 fn write_header(s: &[i64], d: usize, result: &mut [i64])
-    requires { ⌜ Linked d (word (now s) 3) × ((4 ≤ length (now s)) × (4 ≤ length (now result))) ⌝ }
+    requires { ⌜ Linked d (word (now s) 3) × ((headerSize ≤ length (now s)) × (headerSize ≤ length (now result))) ⌝ }
     ensures { λ _. ⌜ now (result .exit) ≡ sets (now (result .entry)) 0 (effectHeader (now (s .entry)) d) ⌝ }
 {
     let dim = s[0];

@@ -14,7 +14,7 @@ ghost use mathlib.Core.Bool.{true};
 ghost use Prim.Native.Nat.{_+_, _*_, _≤_};
 ghost use lib.ListN.{length};
 ghost use Rattle.algebra.specs.Lists.{concatMap};
-ghost use Rattle.scalar.specs.Cells.{cellAt, cellWords, exponentAt, wellFormedAt};
+ghost use Rattle.scalar.specs.Cells.{cellSize, cellAt, cellWords, exponentAt, wellFormedAt};
 ghost use Rattle.channel.specs.Layout.{recordSize, side, entryAt, dimAt, bitsAt, countAt, readBack};
 ghost use Rattle.channel.specs.WellFormed.{storeOk, entriesOk, wellFormed};
 ghost use Rattle.listing.specs.Page.{page, write, Written};
@@ -48,7 +48,7 @@ pub fn put_store(out: &mut [u8], at: usize, store: u64, m: u32) -> usize
 
 // The five numbers of a cell, each after a space.
 pub fn put_cell(out: &mut [u8], at: usize, s: &[i64], place: usize) -> usize
-    requires { ⌜ (place + 5 ≤ length (now s)) × (exponentAt (now s) place ≡ true) ⌝ }
+    requires { ⌜ (place + cellSize ≤ length (now s)) × (exponentAt (now s) place ≡ true) ⌝ }
     ensures { λ r. ⌜ Written (page (now (out .entry)) at) (concatMap spaced (cellWords (cellAt (now (s .entry)) place))) (page (now (out .exit)) r) ⌝ }
 {
     let a = put_spaced(out, at, s[place]);
@@ -67,7 +67,7 @@ pub fn put_entry(
     row: usize,
     column: usize,
 ) -> usize
-    requires { ⌜ (place + 5 ≤ length (now s)) × (wellFormedAt (now s) place ≡ true) ⌝ }
+    requires { ⌜ (place + cellSize ≤ length (now s)) × (wellFormedAt (now s) place ≡ true) ⌝ }
     ensures { λ r. ⌜ Written (page (now (out .entry)) at) (entryLine row column (cellAt (now (s .entry)) place)) (page (now (out .exit)) r) ⌝ }
 {
     if zero_at(s, place) {
