@@ -5,8 +5,9 @@ use Prim.Native.Nat.{ℕ, zero, suc, _+_, _*_, _-_, _/_, _%_, _^_}
 use lib.Dec.{eqb, ltb}
 use lib.ListN.{getD}
 use lib.IntN.{ℤ, pos, natAbs}
+use Rattle.algebra.specs.Sum.{sum}
 use Rattle.algebra.specs.Words.{joined}
-use Rattle.scalar.specs.Exact.{Exact}
+use Rattle.scalar.specs.Exact.{Exact, exact}
 use Rattle.scalar.specs.Cells.{cellSize, cellAt, cells}
 
 -- ---- sizes and places
@@ -63,11 +64,6 @@ precedes (x ∷ xs) (y ∷ ys) = cond (eqb x y) (precedes xs ys) (ltb x y)
 unfoldable pub before : ℕ → ℕ → Bool
 before x y = precedes (bits 64 x) (bits 64 y)
 
--- the store of a list of bits, bit 0 first
-abbrev pub storeOf : List ℕ → ℕ
-storeOf [] = 0
-storeOf (b ∷ bs) = b + 2 * storeOf bs
-
 -- the store in two words
 abbrev pub storeFrom : ℤ → ℤ → ℕ
 storeFrom low high = natAbs low + natAbs high * 2 ^ 32
@@ -80,6 +76,13 @@ pub record Block : Type 0 where
   pub store : ℕ
   -- entry k, row · w + column
   pub entry : ℕ → Exact
+
+-- entry (r, c) of the effect of a block of dimension d: block entry (o·d + r, o·d + c), summed over o from 0 up
+abbrev pub effectPlace : ℕ → ℕ → ℕ → ℕ → ℕ
+effectPlace d r c o = (o * d + r) * side d + (o * d + c)
+
+abbrev pub effectOf : ℕ → (ℕ → Exact) → ℕ → ℕ → Exact
+effectOf d x r c = sum exact d (λ (o : ℕ). x (effectPlace d r c o))
 
 abbrev pub recordWords : ℕ → ℕ → Block → List ℤ
 recordWords w next b = pos next ∷ pos (b .store % 2 ^ 32) ∷ pos (b .store / 2 ^ 32) ∷ cells (w * w) (b .entry)

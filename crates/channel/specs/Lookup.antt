@@ -6,8 +6,9 @@ use lib.Dec.{eqb, leb}
 use lib.ListN.{length, getD, take, drop}
 use lib.IntN.{ℤ, natAbs}
 use Rattle.algebra.specs.Lists.{allBelow}
+use Rattle.algebra.specs.Words.{fromBits}
 use Rattle.channel.specs.declared.lookup.Span.{Span}
-use Rattle.channel.specs.Layout.{recordHead, blockSize, side, word, storeOf, storeAt, dimAt, bitsAt, countAt}
+use Rattle.channel.specs.Layout.{recordHead, blockSize, side, word, storeAt, dimAt, bitsAt, countAt}
 use Rattle.channel.specs.WellFormed.{wellFormed}
 
 -- one byte a bit, each 0 or 1
@@ -32,7 +33,7 @@ placed (suc a) = found (suc a)
 
 abbrev pub lookupOf : List ℤ → List ℕ → Lookup
 lookupOf l bytes =
-    cond (wellFormed l) (cond (storeRight (bitsAt l) bytes) (placed (find l (storeOf bytes) (countAt l) (natAbs (word l 3)))) wrongStore) malformed
+    cond (wellFormed l) (cond (storeRight (bitsAt l) bytes) (placed (find l (fromBits bytes) (countAt l) (natAbs (word l 3)))) wrongStore) malformed
 
 -- the words of a block's entries
 abbrev pub blockWords : List ℤ → ℕ

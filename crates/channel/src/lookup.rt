@@ -8,7 +8,8 @@ ghost use mathlib.Core.Path.{_≡_};
 ghost use mathlib.Core.Bool.{true};
 ghost use Prim.Native.Nat.{_≤_};
 ghost use lib.IntN.{natAbs};
-ghost use Rattle.channel.specs.Layout.{storeOf, word, countAt};
+ghost use Rattle.algebra.specs.Words.{fromBits};
+ghost use Rattle.channel.specs.Layout.{word, countAt};
 ghost use Rattle.channel.specs.WellFormed.{wellFormed};
 ghost use Rattle.channel.specs.Lookup.{storeRight, find, lookupOf, partOf, spanOf, noSpan};
 
@@ -44,7 +45,7 @@ fn right_store(m: u32, bytes: &[u8]) -> bool
 // The store of a list of bits, bit 0 first.
 fn store_number(m: u32, bytes: &[u8]) -> u64
     requires { ⌜ (m ≤ 64) × (storeRight m (now bytes) ≡ true) ⌝ }
-    ensures { λ r. ⌜ r ≡ storeOf (now (bytes .entry)) ⌝ }
+    ensures { λ r. ⌜ r ≡ fromBits (now (bytes .entry)) ⌝ }
 {
     let mut x = 0;
     let mut i = bytes.len();
