@@ -2,24 +2,24 @@
 use mathlib.Core.Path.{_≡_, refl, sym, ap, ap₂, _∙_}
 use mathlib.Core.Bool.{Bool, true, false, cond, not, _&&_, _||_, true≢false}
 use mathlib.Core.List.{List, [], _∷_, _++_, map}
-use Prim.Native.Nat.{ℕ, zero, suc, _^_, _<_}
+use Prim.Native.Nat.{ℕ, zero, suc, _<_}
 use native.Mathlib.Omega.{arith}
 use lib.Dec.{eqb, leb}
 use lib.ListN.{length, length-take}
 use borrow.Author.Tests.{eqb-true, leb-true}
-use Rattle.algebra.specs.Sum.{listSum, δ}
+use Rattle.algebra.specs.Sum.{listSum}
 use Rattle.algebra.specs.Lists.{allBelow, every}
 use Rattle.algebra.proofs.Tests.{and-split, all-at}
-use Rattle.algebra.proofs.Adjoint.{Star, dot}
+use Rattle.algebra.proofs.Adjoint.{Star}
 use Rattle.scalar.specs.Exact.{exact, conj, equal}
 use Rattle.scalar.proofs.Equal.{equal-true}
 use Rattle.scalar.proofs.Exact.{exacts, conj-plus, conj-by, conj-𝟘, one-by, mul-lowest}
 use Rattle.gate.specs.Gate.{Gate, gate, rz, arity, qubits, unused, supported, valid}
 use Rattle.gate.specs.Operators.{Operator, operators, one, none, sameBits}
-use Rattle.gate.specs.Embed.{embed}
+use Rattle.gate.specs.Embedding.{adjoint, basis, product, Complete}
 use Rattle.gate.proofs.Gate.{valid-split, valid-fits, valid-distinct}
 use Rattle.gate.proofs.Bits.{Word}
-use Rattle.gate.proofs.Isometry.{cube, small-dot, Isometry, embed-isometry}
+use Rattle.gate.proofs.Isometry.{Isometry, embed-isometry}
 
 abbrev pub conjugation : Star exacts
 conjugation = record {
@@ -31,7 +31,7 @@ conjugation = record {
   one-one = refl;
 }
 
--- ---- a test on the whole cube, at a word
+-- ---- a test on all basis states, at one
 every-append : {A : Type 0} (p : A → Bool) (xs ys : List A) → every p (xs ++ ys) ≡ true → (every p xs ≡ true) × (every p ys ≡ true)
 every-append p [] ys e = (refl, e)
 every-append p (x ∷ xs) ys e =
@@ -43,15 +43,15 @@ every-map : {A B : Type 0} (p : B → Bool) (f : A → B) (xs : List A) → ever
 every-map p f [] = refl
 every-map p f (x ∷ xs) = ap (λ (b : Bool). p (f x) && b) (every-map p f xs)
 
-cube-at : (m : ℕ) (p : List ℕ → Bool) → every p (cube m) ≡ true → (y : List ℕ) → Word m y → p y ≡ true
-cube-at zero p e [] w = and-split (p []) true e .0
-cube-at zero p e (y ∷ ys) w = absurd (omega (arith, w .0))
-cube-at (suc m) p e [] w = absurd (omega (arith, w .0))
-cube-at (suc m) p e (y ∷ ys) w =
-    let h = every-append p (map (λ (x : List ℕ). 0 ∷ x) (cube m)) (map (λ (x : List ℕ). 1 ∷ x) (cube m)) e in
+basis-at : (m : ℕ) (p : List ℕ → Bool) → every p (basis m) ≡ true → (y : List ℕ) → Word m y → p y ≡ true
+basis-at zero p e [] w = and-split (p []) true e .0
+basis-at zero p e (y ∷ ys) w = absurd (omega (arith, w .0))
+basis-at (suc m) p e [] w = absurd (omega (arith, w .0))
+basis-at (suc m) p e (y ∷ ys) w =
+    let h = every-append p (map (λ (x : List ℕ). 0 ∷ x) (basis m)) (map (λ (x : List ℕ). 1 ∷ x) (basis m)) e in
     go y (w .1 .0)
-    (cube-at m (λ (x : List ℕ). p (0 ∷ x)) (sym (every-map p (λ (x : List ℕ). 0 ∷ x) (cube m)) ∙ h .0) ys (omega (arith, w .0), w .1 .1))
-    (cube-at m (λ (x : List ℕ). p (1 ∷ x)) (sym (every-map p (λ (x : List ℕ). 1 ∷ x) (cube m)) ∙ h .1) ys (omega (arith, w .0), w .1 .1))
+    (basis-at m (λ (x : List ℕ). p (0 ∷ x)) (sym (every-map p (λ (x : List ℕ). 0 ∷ x) (basis m)) ∙ h .0) ys (omega (arith, w .0), w .1 .1))
+    (basis-at m (λ (x : List ℕ). p (1 ∷ x)) (sym (every-map p (λ (x : List ℕ). 1 ∷ x) (basis m)) ∙ h .1) ys (omega (arith, w .0), w .1 .1))
   where
     go : (b : ℕ) → b < 2 → p (0 ∷ ys) ≡ true → p (1 ∷ ys) ≡ true → p (b ∷ ys) ≡ true
     go zero l f g = f
@@ -61,13 +61,13 @@ cube-at (suc m) p e (y ∷ ys) w =
 -- ---- the small matrices: entry (y, z) of Σ M†M is 1 if y is z, else 0, for all y and z
 module _ (m : ℕ) (os : List Operator) where
   abbrev entryIs : List ℕ → List ℕ → Bool
-  entryIs y z = equal (listSum exact (λ (o : Operator). small-dot exacts conjugation m (o .small) y z) os) (cond (sameBits y z) one none)
+  entryIs y z = equal (listSum exact (λ (o : Operator). product exact m (adjoint conj (o .small)) (o .small) y z) os) (cond (sameBits y z) one none)
 
   abbrev complete : Bool
-  complete = every (λ (y : List ℕ). every (entryIs y) (cube m)) (cube m)
+  complete = every (λ (y : List ℕ). every (entryIs y) (basis m)) (basis m)
 
   isometry : complete ≡ true → Isometry exacts conjugation m (λ (o : Operator). o .small) os
-  isometry e y z v w = equal-true _ _ (cube-at m (entryIs y) (cube-at m (λ (y : List ℕ). every (entryIs y) (cube m)) e y v) z w)
+  isometry e y z v w = equal-true _ _ (basis-at m (entryIs y) (basis-at m (λ (y : List ℕ). every (entryIs y) (basis m)) e y v) z w)
 
 -- ---- a test of all kinds, and of all k of rz
 abbrev pub plain : ℕ → ℕ → Gate
@@ -115,7 +115,5 @@ module _ (n m : ℕ) (g : Gate) (ok : valid n m g ≡ true) where
       so true b e f = e
       so false b e f = absurd (true≢false (sym f))
 
-  -- the M†M of the gate's matrices on all n qubits add up to the identity
-  pub gate-complete : (k l : ℕ) → k < 2 ^ n → l < 2 ^ n
-      → listSum exact (λ (o : Operator). dot exacts conjugation (2 ^ n) (embed exact n (qubits g) (o .small)) k l) (operators g) ≡ δ exact k l
-  gate-complete = embed-isometry exacts conjugation n (qubits g) (valid-fits n m g ok) (valid-distinct n m g ok) (λ (o : Operator). o .small) (operators g) gate-isometry
+pub gate-complete : Complete
+gate-complete n m g ok = embed-isometry exacts conjugation n (qubits g) (valid-fits n m g ok) (valid-distinct n m g ok) (λ (o : Operator). o .small) (operators g) (gate-isometry n m g ok)

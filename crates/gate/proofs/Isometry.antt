@@ -1,17 +1,18 @@
--- Operators on a list of qubits: where the M†M of their small matrices add up to 1, so do those of the embedded matrices.
+-- Placing small matrices on qubits respects products, adjoints and the identity; so where the M†M of small matrices add up to 1, those of
+-- the embedded matrices do.
 use mathlib.Core.Path.{_≡_, refl, sym, ap, ap₂, _∙_}
 use mathlib.Core.Logic.{_≢_}
 use mathlib.Core.Bool.{Bool, true, false, cond, not, _&&_, _||_, true≢false}
-use mathlib.Core.List.{List, [], _∷_, _++_, map}
+use mathlib.Core.List.{List, [], _∷_, map}
 use Prim.Native.Nat.{ℕ, zero, suc, _-_, _^_, _<_}
 use native.Mathlib.Omega.{arith}
 use lib.Dec.{eqb}
 use lib.ListN.{length}
 use borrow.Author.Tests.{eqb-true, eqb-false, eq-eqb, not-true}
 use Rattle.algebra.specs.Ops.{Ops}
-use Rattle.algebra.specs.Sum.{sum, listSum, δ}
+use Rattle.algebra.specs.Sum.{sum, listSum, times, δ}
 use Rattle.algebra.specs.Lists.{All, allBelow}
-use Rattle.algebra.proofs.Tests.{and-split, or-no}
+use Rattle.algebra.proofs.Tests.{and-split, or-no, eqb-same}
 use Rattle.algebra.proofs.Lists.{all-imp, all-append, all-map}
 use Rattle.algebra.proofs.Semi.{Semi, add-zero, zero-mul}
 use Rattle.algebra.proofs.Sum.{sum-same, sum-one, listSum-same, listSum-all, listSum-zero, listSum-append, listSum-map, sum-listSum}
@@ -19,21 +20,17 @@ use Rattle.algebra.proofs.Adjoint.{Star, δ-same, δ-apart, dot}
 use Rattle.gate.specs.Gate.{elem, distinct}
 use Rattle.gate.specs.Operators.{sameBits}
 use Rattle.gate.specs.Embed.{bit, bitsOf, agree, embed}
+use Rattle.gate.specs.Embedding.{adjoint, basis, product}
 use Rattle.gate.proofs.Gate.{elem-in}
 use Rattle.gate.proofs.Bits.{Word, same-refl, same-true, low, make, make-below, low-make, binary}
 use Rattle.gate.proofs.Embed.{agree-at, agree-by}
 
--- all lists of m bits
-abbrev pub cube : ℕ → List (List ℕ)
-cube zero = [] ∷ []
-cube (suc m) = map (λ (x : List ℕ). 0 ∷ x) (cube m) ++ map (λ (x : List ℕ). 1 ∷ x) (cube m)
-
-cube-words : (m : ℕ) → All (Word m) (cube m)
-cube-words zero = ((refl, tt), tt)
-cube-words (suc m) = all-append (Word (suc m)) (map (λ (x : List ℕ). 0 ∷ x) (cube m)) (map (λ (x : List ℕ). 1 ∷ x) (cube m)) (front 0 (omega arith) (cube-words m)) (front 1 (omega arith) (cube-words m))
+basis-words : (m : ℕ) → All (Word m) (basis m)
+basis-words zero = ((refl, tt), tt)
+basis-words (suc m) = all-append (Word (suc m)) (map (λ (x : List ℕ). 0 ∷ x) (basis m)) (map (λ (x : List ℕ). 1 ∷ x) (basis m)) (front 0 (omega arith) (basis-words m)) (front 1 (omega arith) (basis-words m))
   where
-    front : (b : ℕ) → b < 2 → All (Word m) (cube m) → All (Word (suc m)) (map (λ (x : List ℕ). b ∷ x) (cube m))
-    front b l = all-map (Word m) (Word (suc m)) (λ (x : List ℕ). b ∷ x) (λ x w. (ap suc (w .0), (l, w .1))) (cube m)
+    front : (b : ℕ) → b < 2 → All (Word m) (basis m) → All (Word (suc m)) (map (λ (x : List ℕ). b ∷ x) (basis m))
+    front b l = all-map (Word m) (Word (suc m)) (λ (x : List ℕ). b ∷ x) (λ x w. (ap suc (w .0), (l, w .1))) (basis m)
 
 below-same : (n : ℕ) (p q : ℕ → Bool) → ((k : ℕ) → k < n → p k ≡ q k) → allBelow n p ≡ allBelow n q
 below-same zero p q h = refl
@@ -50,6 +47,9 @@ module _ (n : ℕ) where
       go : (q : ℕ) → q < n → (b : Bool) → elem q qs ≡ b → b || eqb (bit n q r) (bit n q c) ≡ b || eqb (bit n q k) (bit n q c)
       go q l true e = refl
       go q l false e = ap (λ (x : ℕ). eqb x (bit n q c)) (h q l e)
+
+  agree-turn : (qs : List ℕ) (r c : ℕ) → agree n qs r c ≡ agree n qs c r
+  agree-turn qs r c = below-same n _ _ (λ q l. ap (λ (b : Bool). elem q qs || b) (eqb-same (bit n q r) (bit n q c) (bit n q c) (bit n q r) (λ e. sym e) (λ e. sym e)))
 
   tells : (qs : List ℕ) (r c : ℕ) → r < 2 ^ n → c < 2 ^ n → bitsOf n qs r ≡ bitsOf n qs c → agree n qs r c ≡ true → r ≡ c
   tells qs r c l m e f = binary n .tells r c l m (λ q j. go q j (elem q qs) refl)
@@ -132,21 +132,21 @@ module _ (𝓡 : Semi) where
   open Semi 𝓡 using (R, ops, zero-add, mul-zero)
   open Ops (𝓡 .ops) using (𝟘, 𝟙, _⊕_, _⊗_)
 
-  -- each word stands once in the cube
-  once : (m : ℕ) (y : List ℕ) → Word m y → (a b : R) → listSum ops (λ (x : List ℕ). cond (sameBits x y) a 𝟘 ⊗ b) (cube m) ≡ a ⊗ b
+  -- each word is one basis state
+  once : (m : ℕ) (y : List ℕ) → Word m y → (a b : R) → listSum ops (λ (x : List ℕ). cond (sameBits x y) a 𝟘 ⊗ b) (basis m) ≡ a ⊗ b
   once zero [] w a b = add-zero 𝓡 a b
   once zero (y ∷ ys) w a b = absurd (omega (arith, w .0))
   once (suc m) [] w a b = absurd (omega (arith, w .0))
   once (suc m) (y ∷ ys) w a b =
-      listSum-append 𝓡 _ (map (λ (x : List ℕ). 0 ∷ x) (cube m)) (map (λ (x : List ℕ). 1 ∷ x) (cube m))
-      ∙ ap₂ _⊕_ (listSum-map 𝓡 _ (λ (x : List ℕ). 0 ∷ x) (cube m)) (listSum-map 𝓡 _ (λ (x : List ℕ). 1 ∷ x) (cube m))
+      listSum-append 𝓡 _ (map (λ (x : List ℕ). 0 ∷ x) (basis m)) (map (λ (x : List ℕ). 1 ∷ x) (basis m))
+      ∙ ap₂ _⊕_ (listSum-map 𝓡 _ (λ (x : List ℕ). 0 ∷ x) (basis m)) (listSum-map 𝓡 _ (λ (x : List ℕ). 1 ∷ x) (basis m))
       ∙ go (eqb 0 y) (eqb 1 y) refl refl (once m ys (omega (arith, w .0), w .1 .1) a b)
     where
       half : Bool → R
-      half c = listSum ops (λ (x : List ℕ). cond (c && sameBits x ys) a 𝟘 ⊗ b) (cube m)
+      half c = listSum ops (λ (x : List ℕ). cond (c && sameBits x ys) a 𝟘 ⊗ b) (basis m)
 
       none : half false ≡ 𝟘
-      none = listSum-zero 𝓡 _ (cube m) (λ x. zero-mul 𝓡 b)
+      none = listSum-zero 𝓡 _ (basis m) (λ x. zero-mul 𝓡 b)
 
       go : (c e : Bool) → eqb 0 y ≡ c → eqb 1 y ≡ e → half true ≡ a ⊗ b → half c ⊕ half e ≡ a ⊗ b
       go true true f g r = absurd (omega (arith, eqb-true 0 y f, eqb-true 1 y g))
@@ -154,75 +154,86 @@ module _ (𝓡 : Semi) where
       go false true f g r = ap₂ _⊕_ none r ∙ zero-add a b
       go false false f g r = absurd (omega (arith, w .1 .0, eqb-false 0 y f, eqb-false 1 y g))
 
+  module _ (n : ℕ) (qs : List ℕ) where
+    pub embed-identity : (r c : ℕ) → r < 2 ^ n → c < 2 ^ n → embed ops n qs (λ (x y : List ℕ). cond (sameBits x y) 𝟙 𝟘) r c ≡ δ ops r c
+    embed-identity r c l m = go (agree n qs r c) refl (sameBits (bitsOf n qs r) (bitsOf n qs c)) refl
+      where
+        go : (a : Bool) → agree n qs r c ≡ a → (b : Bool) → sameBits (bitsOf n qs r) (bitsOf n qs c) ≡ b → cond a (cond b 𝟙 𝟘) 𝟘 ≡ δ ops r c
+        go true e true f = sym (ap (δ ops r) (sym (tells n qs r c l m (same-true (bitsOf n qs r) (bitsOf n qs c) f) e)) ∙ δ-same ops r)
+        go true e false f = sym (δ-apart ops r c (λ g. true≢false (sym (ap (λ (k : ℕ). sameBits (bitsOf n qs r) (bitsOf n qs k)) (sym g) ∙ same-refl (bitsOf n qs r)) ∙ f)))
+        go false e b f = sym (δ-apart ops r c (λ g. true≢false (sym (ap (agree n qs r) (sym g) ∙ agree-by n qs r r (λ q v w. refl)) ∙ e)))
+
+    module _ (fit : All (λ (q : ℕ). q < n) qs) (apart : distinct qs ≡ true) (u v : List ℕ → List ℕ → R) (r c : ℕ) where
+      abbrev row : ℕ → R
+      row = embed ops n qs u r
+
+      abbrev column : ℕ → R
+      column k = embed ops n qs v k c
+
+      -- of all k with the bits x on the qubits, one counts: the one that is r elsewhere
+      one-word : (x : List ℕ) → Word (length qs) x
+          → sum ops (2 ^ n) (λ (k : ℕ). cond (sameBits x (bitsOf n qs k)) (row k) 𝟘 ⊗ column k) ≡ u (bitsOf n qs r) x ⊗ cond (agree n qs r c) (v x (bitsOf n qs c)) 𝟘
+      one-word x w =
+          sum-one 𝓡 (2 ^ n) i (λ (k : ℕ). cond (sameBits x (bitsOf n qs k)) (row k) 𝟘) column (spread-below n qs x r (w .1)) (λ k j e. other k j e (sameBits x (bitsOf n qs k)) refl (agree n qs r k) refl)
+          ∙ ap (λ (b : Bool). cond b (row i) 𝟘 ⊗ column i) (ap (sameBits x) on ∙ same-refl x)
+          ∙ ap₂ (λ (a b : Bool). cond a (u (bitsOf n qs r) (bitsOf n qs i)) 𝟘 ⊗ cond b (v (bitsOf n qs i) (bitsOf n qs c)) 𝟘)
+          (agree-by n qs r i (λ q j e. sym (off q j e))) (agree-of n qs i r c off)
+          ∙ ap (λ (y : List ℕ). u (bitsOf n qs r) y ⊗ cond (agree n qs r c) (v y (bitsOf n qs c)) 𝟘) on
+        where
+          i : ℕ
+          i = spread n qs x r
+
+          on : bitsOf n qs i ≡ x
+          on = spread-on n qs x r (w .1) fit (w .0) apart
+
+          off : (q : ℕ) → q < n → elem q qs ≡ false → bit n q i ≡ bit n q r
+          off q j e = spread-off n qs x r (w .1) q j e
+
+          other : (k : ℕ) → k < 2 ^ n → k ≢ i → (b : Bool) → sameBits x (bitsOf n qs k) ≡ b → (a : Bool) → agree n qs r k ≡ a
+              → cond b (cond a (u (bitsOf n qs r) (bitsOf n qs k)) 𝟘) 𝟘 ⊗ column k ≡ 𝟘
+          other k j e false f a g = zero-mul 𝓡 (column k)
+          other k j e true f false g = zero-mul 𝓡 (column k)
+          other k j e true f true g =
+              absurd (e (tells n qs k i j (spread-below n qs x r (w .1)) (sym (same-true x (bitsOf n qs k) f) ∙ sym on)
+              (agree-by n qs k i (λ q v h. sym (agree-at n qs r k g q v h) ∙ sym (off q v h)))))
+
+      pub embed-product : embed ops n qs (product ops (length qs) u v) r c ≡ times ops (2 ^ n) (embed ops n qs u) (embed ops n qs v) r c
+      embed-product = sym (
+          sum-same 𝓡 (2 ^ n) _ _ (λ k j. sym (once (length qs) (bitsOf n qs k) (bits-word n qs k) (row k) (column k)))
+          ∙ sum-listSum 𝓡 (2 ^ n) (λ (k : ℕ) (x : List ℕ). cond (sameBits x (bitsOf n qs k)) (row k) 𝟘 ⊗ column k) (basis (length qs))
+          ∙ listSum-all 𝓡 _ (λ (x : List ℕ). u (bitsOf n qs r) x ⊗ cond (agree n qs r c) (v x (bitsOf n qs c)) 𝟘) (basis (length qs)) (all-imp (Word (length qs)) _ (basis (length qs)) one-word (basis-words (length qs)))
+          ∙ go (agree n qs r c))
+        where
+          go : (b : Bool) → listSum ops (λ (x : List ℕ). u (bitsOf n qs r) x ⊗ cond b (v x (bitsOf n qs c)) 𝟘) (basis (length qs)) ≡ cond b (product ops (length qs) u v (bitsOf n qs r) (bitsOf n qs c)) 𝟘
+          go true = refl
+          go false = listSum-zero 𝓡 _ (basis (length qs)) (λ x. mul-zero (u (bitsOf n qs r) x))
+
   module _ (𝓢 : Star 𝓡) where
-    -- entry (y, z) of M†M, for a small matrix on m qubits
-    abbrev pub small-dot : ℕ → (List ℕ → List ℕ → R) → List ℕ → List ℕ → R
-    small-dot m u y z = listSum ops (λ (x : List ℕ). 𝓢 .conj (u x y) ⊗ u x z) (cube m)
+    open Star 𝓢 using (conj, conj-zero)
+
+    pub embed-adjoint : (n : ℕ) (qs : List ℕ) (u : List ℕ → List ℕ → R) (r c : ℕ) → embed ops n qs (adjoint conj u) r c ≡ conj (embed ops n qs u c r)
+    embed-adjoint n qs u r c = ap (λ (b : Bool). cond b (conj (u (bitsOf n qs c) (bitsOf n qs r))) 𝟘) (agree-turn n qs r c) ∙ go (agree n qs c r)
+      where
+        go : (b : Bool) → cond b (conj (u (bitsOf n qs c) (bitsOf n qs r))) 𝟘 ≡ conj (cond b (u (bitsOf n qs c) (bitsOf n qs r)) 𝟘)
+        go true = refl
+        go false = sym conj-zero
 
     -- small matrices, one for each of os, whose M†M add up to 1
     abbrev pub Isometry : {O : Type 0} → ℕ → (O → List ℕ → List ℕ → R) → List O → Type 0
-    Isometry {O} m u os = (y z : List ℕ) → Word m y → Word m z → listSum ops (λ (o : O). small-dot m (u o) y z) os ≡ cond (sameBits y z) 𝟙 𝟘
+    Isometry {O} m u os = (y z : List ℕ) → Word m y → Word m z → listSum ops (λ (o : O). product ops m (adjoint conj (u o)) (u o) y z) os ≡ cond (sameBits y z) 𝟙 𝟘
 
-  module _ (𝓢 : Star 𝓡) (n : ℕ) where
-    open Star 𝓢 using (conj, conj-zero)
-
-    module _ (qs : List ℕ) (fit : All (λ (q : ℕ). q < n) qs) (apart : distinct qs ≡ true) (u : List ℕ → List ℕ → R) (k l : ℕ) where
-      abbrev first : ℕ → R
-      first r = conj (embed ops n qs u r k)
-
-      abbrev second : ℕ → R
-      second r = embed ops n qs u r l
-
-      one-word : (x : List ℕ) → Word (length qs) x
-          → sum ops (2 ^ n) (λ (r : ℕ). cond (sameBits x (bitsOf n qs r)) (first r) 𝟘 ⊗ second r) ≡ conj (u x (bitsOf n qs k)) ⊗ cond (agree n qs k l) (u x (bitsOf n qs l)) 𝟘
-      one-word x w =
-          sum-one 𝓡 (2 ^ n) i (λ (r : ℕ). cond (sameBits x (bitsOf n qs r)) (first r) 𝟘) second (spread-below n qs x k (w .1)) (λ r j e. other r j e (sameBits x (bitsOf n qs r)) refl (agree n qs r k) refl)
-          ∙ ap (λ (b : Bool). cond b (first i) 𝟘 ⊗ second i) (ap (sameBits x) on ∙ same-refl x)
-          ∙ ap₂ (λ (b c : Bool). conj (cond b (u (bitsOf n qs i) (bitsOf n qs k)) 𝟘) ⊗ cond c (u (bitsOf n qs i) (bitsOf n qs l)) 𝟘)
-          (agree-by n qs i k off) (agree-of n qs i k l off)
-          ∙ ap (λ (y : List ℕ). conj (u y (bitsOf n qs k)) ⊗ cond (agree n qs k l) (u y (bitsOf n qs l)) 𝟘) on
-        where
-          i : ℕ
-          i = spread n qs x k
-
-          on : bitsOf n qs i ≡ x
-          on = spread-on n qs x k (w .1) fit (w .0) apart
-
-          off : (q : ℕ) → q < n → elem q qs ≡ false → bit n q i ≡ bit n q k
-          off q j e = spread-off n qs x k (w .1) q j e
-
-          other : (r : ℕ) → r < 2 ^ n → r ≢ i → (b : Bool) → sameBits x (bitsOf n qs r) ≡ b → (c : Bool) → agree n qs r k ≡ c
-              → cond b (conj (cond c (u (bitsOf n qs r) (bitsOf n qs k)) 𝟘)) 𝟘 ⊗ second r ≡ 𝟘
-          other r j e false f c g = zero-mul 𝓡 (second r)
-          other r j e true f false g = ap (λ (y : R). y ⊗ second r) conj-zero ∙ zero-mul 𝓡 (second r)
-          other r j e true f true g =
-              absurd (e (tells n qs r i j (spread-below n qs x k (w .1)) (sym (same-true x (bitsOf n qs r) f) ∙ sym on)
-              (agree-by n qs r i (λ q v h. agree-at n qs r k g q v h ∙ sym (off q v h)))))
-
-      embed-dot : dot 𝓡 𝓢 (2 ^ n) (embed ops n qs u) k l ≡ cond (agree n qs k l) (small-dot 𝓢 (length qs) u (bitsOf n qs k) (bitsOf n qs l)) 𝟘
-      embed-dot =
-          sum-same 𝓡 (2 ^ n) _ _ (λ r j. sym (once (length qs) (bitsOf n qs r) (bits-word n qs r) (first r) (second r)))
-          ∙ sum-listSum 𝓡 (2 ^ n) (λ (r : ℕ) (x : List ℕ). cond (sameBits x (bitsOf n qs r)) (first r) 𝟘 ⊗ second r) (cube (length qs))
-          ∙ listSum-all 𝓡 _ (λ (x : List ℕ). conj (u x (bitsOf n qs k)) ⊗ cond (agree n qs k l) (u x (bitsOf n qs l)) 𝟘) (cube (length qs)) (all-imp (Word (length qs)) _ (cube (length qs)) one-word (cube-words (length qs)))
-          ∙ go (agree n qs k l)
-        where
-          go : (b : Bool) → listSum ops (λ (x : List ℕ). conj (u x (bitsOf n qs k)) ⊗ cond b (u x (bitsOf n qs l)) 𝟘) (cube (length qs)) ≡ cond b (small-dot 𝓢 (length qs) u (bitsOf n qs k) (bitsOf n qs l)) 𝟘
-          go true = refl
-          go false = listSum-zero 𝓡 _ (cube (length qs)) (λ x. mul-zero (conj (u x (bitsOf n qs k))))
-
-    pub embed-isometry : {O : Type 0} (qs : List ℕ) → All (λ (q : ℕ). q < n) qs → distinct qs ≡ true → (u : O → List ℕ → List ℕ → R) (os : List O) → Isometry 𝓢 (length qs) u os
+    pub embed-isometry : {O : Type 0} (n : ℕ) (qs : List ℕ) → All (λ (q : ℕ). q < n) qs → distinct qs ≡ true → (u : O → List ℕ → List ℕ → R) (os : List O) → Isometry (length qs) u os
         → (k l : ℕ) → k < 2 ^ n → l < 2 ^ n → listSum ops (λ (o : O). dot 𝓡 𝓢 (2 ^ n) (embed ops n qs (u o)) k l) os ≡ δ ops k l
-    embed-isometry {O} qs fit apart u os h k l j m =
-        listSum-same 𝓡 _ _ os (λ o. embed-dot qs fit apart (u o) k l) ∙ go (agree n qs k l) refl (sameBits (bitsOf n qs k) (bitsOf n qs l)) refl
+    embed-isometry {O} n qs fit apart u os h k l j m =
+        listSum-same 𝓡 _ _ os (λ o. sum-same 𝓡 (2 ^ n) _ _ (λ r i. ap (λ (x : R). x ⊗ embed ops n qs (u o) r l) (sym (embed-adjoint n qs (u o) k r)))
+        ∙ sym (embed-product n qs fit apart (adjoint conj (u o)) (u o) k l))
+        ∙ go (agree n qs k l)
+        ∙ ap (λ (x : R). cond (agree n qs k l) x 𝟘) (h (bitsOf n qs k) (bitsOf n qs l) (bits-word n qs k) (bits-word n qs l))
+        ∙ embed-identity n qs k l j m
       where
-        all : R
-        all = listSum ops (λ (o : O). small-dot 𝓢 (length qs) (u o) (bitsOf n qs k) (bitsOf n qs l)) os
+        entry : O → R
+        entry o = product ops (length qs) (adjoint conj (u o)) (u o) (bitsOf n qs k) (bitsOf n qs l)
 
-        is : all ≡ cond (sameBits (bitsOf n qs k) (bitsOf n qs l)) 𝟙 𝟘
-        is = h (bitsOf n qs k) (bitsOf n qs l) (bits-word n qs k) (bits-word n qs l)
-
-        go : (a : Bool) → agree n qs k l ≡ a → (b : Bool) → sameBits (bitsOf n qs k) (bitsOf n qs l) ≡ b
-            → listSum ops (λ (o : O). cond a (small-dot 𝓢 (length qs) (u o) (bitsOf n qs k) (bitsOf n qs l)) 𝟘) os ≡ δ ops k l
-        go false e b f = listSum-zero 𝓡 _ os (λ o. refl) ∙ sym (δ-apart ops k l (λ g. true≢false (sym (ap (agree n qs k) (sym g) ∙ agree-by n qs k k (λ q v w. refl)) ∙ e)))
-        go true e true f = is ∙ ap (λ (c : Bool). cond c 𝟙 𝟘) f ∙ sym (ap (δ ops k) (sym (tells n qs k l j m (same-true (bitsOf n qs k) (bitsOf n qs l) f) e)) ∙ δ-same ops k)
-        go true e false f = is ∙ ap (λ (c : Bool). cond c 𝟙 𝟘) f ∙ sym (δ-apart ops k l (λ g. true≢false (sym (ap (λ (p : ℕ). sameBits (bitsOf n qs k) (bitsOf n qs p)) (sym g) ∙ same-refl (bitsOf n qs k)) ∙ f)))
+        go : (a : Bool) → listSum ops (λ (o : O). cond a (entry o) 𝟘) os ≡ cond a (listSum ops entry os) 𝟘
+        go true = refl
+        go false = listSum-zero 𝓡 _ os (λ o. refl)

@@ -5,6 +5,7 @@ pub mod Local
 pub mod Embed
 pub mod Isometry
 pub mod Complete
+pub mod Embedding
 pub mod Listed
 pub mod Masked
 pub mod Columns

@@ -3,3 +3,4 @@ pub mod Operators
 pub mod Embed
 pub mod Verdict
 pub mod Entries
+pub mod Embedding

@@ -1,5 +1,4 @@
 // Replays recorded answers of circuit_unitary. A case: limits, n, gate words, two buffer lengths, verdict, index, source, checksums of both buffers.
-use unitary::circuit_unitary;
 use circuit::limits::Limits;
 use replay::tally::Outcome;
 use replay::tally::Tally;
@@ -9,16 +8,31 @@ use replay::words::mark;
 use replay::words::read_u32s;
 use replay_circuit::compared;
 use replay_circuit::read_matrix_limits;
+use unitary::circuit_unitary;
 
 // A call on marked buffers.
-fn called(text: &[u8], at: usize, limits: Limits, n: u32, words: &[u32], result: &mut [i64], work: &mut [i64]) -> Outcome {
+fn called(
+    text: &[u8],
+    at: usize,
+    limits: Limits,
+    n: u32,
+    words: &[u32],
+    result: &mut [i64],
+    work: &mut [i64],
+) -> Outcome {
     mark(result);
     mark(work);
     let v = circuit_unitary(n, words, limits, result, work);
     compared(text, at, v, result, work)
 }
 
-fn case(text: &[u8], at: usize, words: &mut [u32], result: &mut [i64], work: &mut [i64]) -> Outcome {
+fn case(
+    text: &[u8],
+    at: usize,
+    words: &mut [u32],
+    result: &mut [i64],
+    work: &mut [i64],
+) -> Outcome {
     let bounds = read_matrix_limits(text, at);
     let n = read(text, bounds.next);
     let part = read_u32s(text, n.next, words);
@@ -28,7 +42,15 @@ fn case(text: &[u8], at: usize, words: &mut [u32], result: &mut [i64], work: &mu
     let r = fitting(after.size, result.len());
     let w = fitting(spent.size, work.len());
     let limits = bounds.limits;
-    called(text, spent.next, limits, (n.size % 4294967296) as u32, &words[..count], &mut result[..r], &mut work[..w])
+    called(
+        text,
+        spent.next,
+        limits,
+        (n.size % 4294967296) as u32,
+        &words[..count],
+        &mut result[..r],
+        &mut work[..w],
+    )
 }
 
 // As many cases as the first number says.

@@ -3,19 +3,18 @@ use mathlib.Core.Path.{_≡_, refl, sym, ap, _∙_, subst}
 use mathlib.Core.Logic.{_≢_}
 use mathlib.Core.Bool.{Bool, true, false, cond, _&&_, true≢false}
 use mathlib.Core.List.{List, [], _∷_, _++_, append-assoc}
-use Prim.Native.Nat.{ℕ, suc, _+_, _-_, _*_, _/_, _%_, _^_, _≤_, _<_}
-use native.Mathlib.Nat.{mul-comm}
+use Prim.Native.Nat.{ℕ, suc, _+_, _-_, _*_, _/_, _%_, _^_, _≤_}
 use native.Mathlib.Omega.{arith}
 use lib.Dec.{leb, eqb}
 use lib.ListN.{length, getD}
 use lib.Pow.{pow-mono}
 use lib.IntN.{ℤ, pos}
-use borrow.Author.Tests.{leb-true, eq-eqb}
+use borrow.Author.Tests.{leb-true}
 use Rattle.algebra.specs.Lists.{every, total}
 use Rattle.algebra.specs.Words.{fillWords}
 use Rattle.algebra.proofs.Tests.{and-split}
-use Rattle.algebra.proofs.Blocks.{Same, written-over}
-use Rattle.scalar.specs.Exact.{Exact, exact}
+use Rattle.algebra.proofs.Blocks.{written-over}
+use Rattle.scalar.specs.Exact.{exact}
 use Rattle.scalar.specs.Cells.{fill, cells}
 use Rattle.gate.specs.declared.judge.GateVerdict.{GateVerdict}
 use Rattle.gate.specs.declared.judge.GateVerdict.the-variants.{Fine, Malformed, Operand, Unsupported}
@@ -23,21 +22,21 @@ use Rattle.gate.specs.declared.judge.Asking.the-variants.{Unitary}
 use Rattle.gate.specs.Gate.{Gate, gatesOf, formed, placed, supported, splits, weight, valid}
 use Rattle.gate.specs.Verdict.{firstFault, onQubits, faultOf}
 use Rattle.gate.proofs.Questions.{placed-other}
-use Rattle.kraus.specs.Branch.{Branch, branches}
+use Rattle.kraus.specs.Branch.{branches}
 use Rattle.circuit.specs.declared.limits.Limits.{Limits}
 use Rattle.circuit.specs.declared.verdict.Verdict.{Verdict}
-use Rattle.circuit.specs.declared.verdict.Verdict.the-variants.{Accepted as Yes, OverLimit, UnsupportedAt, OperandAt, MalformedAt, OverCeiling, TooHeavy, ShortBuffer}
+use Rattle.circuit.specs.declared.verdict.Verdict.the-variants.{Accepted as Yes, OverLimit, MalformedAt, OverCeiling, TooHeavy, ShortBuffer}
 use Rattle.circuit.specs.Limits.{matrixCeilings}
 use Rattle.circuit.specs.Sizes.{unitaryResult, unitaryWork}
 use Rattle.circuit.specs.Questions.{accepted, ask, after, atGate, gatesVerdict, unitaryWithin, matrixVerdict, unitaryVerdict}
 use Rattle.circuit.proofs.Numbers.{matrix-low}
 use Rattle.circuit.proofs.Products.{square-is}
 use Rattle.branches.specs.Store.{storeWords}
-use Rattle.branches.specs.Bank.{branchSize, branchWords, bankWords}
-use Rattle.branches.specs.Run.{workSize, operatorsAt, Runs, Ran}
+use Rattle.branches.specs.Bank.{bankWords}
+use Rattle.branches.specs.Run.{Runs, Ran}
 use Rattle.unitary.specs.Unitary.{circuitUnitary, verdictOf, resultAfter, workAfter}
 use Rattle.unitary.specs.Accepted.{Accepted}
-use Rattle.unitary.proofs.Branch.{branch, one-branch, all-valid, none-split}
+use Rattle.unitary.proofs.Branch.{one-branch, all-valid, none-split}
 use Rattle.unitary.proofs.Words.{copied}
 
 -- ---- acceptance

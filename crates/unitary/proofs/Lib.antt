@@ -1,3 +1,4 @@
 pub mod Words
 pub mod Branch
 pub mod Accepting
+pub mod IsUnitary

@@ -5,7 +5,7 @@ use mathlib.Core.List.{List}
 use Prim.Native.Nat.{ℕ, _^_, _≤_}
 use lib.Dec.{eqb}
 use Rattle.algebra.specs.Lists.{every, total}
-use Rattle.gate.specs.Gate.{Gate, gatesOf, splits, weight, valid}
+use Rattle.gate.specs.Gate.{Gate, splits, weight, valid}
 use Rattle.circuit.specs.Sizes.{unitaryResult, unitaryWork}
 
 -- n qubits, the gates gs, and the lengths of the buffers

@@ -1,2 +1,3 @@
 pub mod Unitary
 pub mod Accepted
+pub mod IsUnitary

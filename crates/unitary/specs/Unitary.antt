@@ -1,5 +1,5 @@
 -- The unitary of a circuit: the product of its gates' matrices, the first gate rightmost. And a call of circuit_unitary.
-use mathlib.Core.Bool.{Bool, cond}
+use mathlib.Core.Bool.{cond}
 use mathlib.Core.List.{List, foldl}
 use Prim.Native.Nat.{ℕ, _*_, _^_}
 use lib.ListN.{length, getD}
