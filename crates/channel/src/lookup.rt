@@ -14,7 +14,7 @@ ghost use Rattle.channel.specs.WellFormed.{wellFormed};
 ghost use Rattle.channel.specs.Lookup.{storeRight, find, lookupOf, partOf, spanOf, noSpan};
 
 // A part of a slice.
-struct Span {
+pub struct Span {
     pub start: usize,
     pub size: usize,
 }
@@ -74,7 +74,7 @@ fn find_store(s: &[i64], store: u64, count: usize) -> usize
 }
 
 // Where the entries of a store's block lie.
-fn locate(s: &[i64], store: &[u8]) -> Span
+pub fn locate(s: &[i64], store: &[u8]) -> Span
     ensures { λ r. ⌜ r ≡ spanOf (now (s .entry)) (lookupOf (now (s .entry)) (now (store .entry))) ⌝ }
 {
     let h = judge(s);
