@@ -92,14 +92,22 @@ pub fn join(low: i64, high: i64) -> u64
     low as u64 + high as u64 * 4294967296
 }
 
+// The store in the two words from `at` on.
+pub fn store_from(s: &[i64], at: usize) -> u64
+    requires { ⌜ (at + 2 ≤ length (now s)) × ((upTo (2 ^ 32 - 1) (word (now s) at) ≡ true) × (upTo (2 ^ 32 - 1) (word (now s) (at + 1)) ≡ true)) ⌝ }
+    ensures { λ r. ⌜ r ≡ storeFrom (word (now (s .entry)) at) (word (now (s .entry)) (at + 1)) ⌝ }
+{
+    let low = s[at];
+    let high = s[at + 1];
+    join(low, high)
+}
+
 // The store of the record at `at`.
 pub fn read_store(s: &[i64], at: usize) -> u64
     requires { ⌜ (at + recordHead ≤ length (now s)) × ((upTo (2 ^ 32 - 1) (word (now s) (at + 1)) ≡ true) × (upTo (2 ^ 32 - 1) (word (now s) (at + 2)) ≡ true)) ⌝ }
     ensures { λ r. ⌜ r ≡ storeAt (now (s .entry)) at ⌝ }
 {
-    let low = s[at + 1];
-    let high = s[at + 2];
-    join(low, high)
+    store_from(s, at + 1)
 }
 
 // Whether a store has no bit beyond its first m.

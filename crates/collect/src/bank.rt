@@ -1,4 +1,4 @@
-use channel::layout::join;
+use channel::layout::store_from;
 use matrix::words::is_zero;
 use scalar::cells::CELL;
 ghost use mathlib.Core.Path.{_≡_};
@@ -12,9 +12,7 @@ pub fn branch_store(work: &[i64], at: usize, d: usize, j: usize) -> u64
 {
     let n = d * d * CELL;
     let s = at + j * (n + 2) + n;
-    let low = work[s];
-    let high = work[s + 1];
-    join(low, high)
+    store_from(work, s)
 }
 
 // Whether some entry of branch j is not zero.
