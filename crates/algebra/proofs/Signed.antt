@@ -295,6 +295,10 @@ pub up-to : (n : ℕ) (z : ℤ) → ltZ z (pos 0) ≡ false → ltZ (pos n) z �
 up-to n (pos a) e f = le-leb a n (ltb-false n a f)
 up-to n (negsuc a) e f = absurd (subst T e tt)
 
+pub word-is : (n : ℕ) (z : ℤ) → upTo n z ≡ true → (z ≡ pos (natAbs z)) × (natAbs z ≤ n)
+word-is n (pos m) e = (refl, leb-true m n e)
+word-is n (negsuc m) e = absurd (no e)
+
 -- ---- casts: a word from 0 to n, read as an unsigned number
 pub cast-ok : {w : Width} (n : ℕ) (z : ℤ) → upTo n z ≡ true → Fits w n → T (nonNeg z) × Fits w (natAbs z)
 cast-ok n (pos m) e f = (tt, record { fits = lt-of-le-of-lt (leb-true m n e) (f .fits) })

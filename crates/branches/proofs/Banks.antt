@@ -1,26 +1,31 @@
 -- Banks of branches in words: what is read back of a branch, a bank kept where other words are written, and a bank written by blocks.
-use mathlib.Core.Path.{_≡_, sym, ap, _∙_}
+use mathlib.Core.Path.{_≡_, sym, ap, _∙_, subst}
 use mathlib.Core.List.{List, _++_}
-use Prim.Native.Nat.{ℕ, _+_, _*_, _/_, _%_, _≤_, _<_}
-use native.Mathlib.Nat.{add-assoc, div-add-mod', div-lt-iff-lt-mul, mod-lt, zero-add}
+use Prim.Native.Nat.{ℕ, _+_, _*_, _-_, _/_, _%_, _^_, _≤_, _<_}
+use native.Mathlib.Nat.{add-assoc, div-add-mod', div-lt-iff-lt-mul, mod-lt, zero-add, add-zero}
 use native.Mathlib.Omega.{arith}
 use lib.Dec.{leb}
-use lib.ListN.{length, getD, length-append, List·getD-append}
+use lib.ListN.{length, getD, take, drop, length-append, List·getD-append}
 use lib.Seq.{sets, getD-append-add}
 use lib.IntN.{ℤ, pos}
+use borrow.Author.Tests.{le-leb}
 use Rattle.algebra.specs.Sum.{δ}
-use Rattle.algebra.specs.Words.{blocks}
+use Rattle.algebra.specs.Words.{fromBits, blocks, upTo}
 use Rattle.algebra.proofs.Lists.{concat-length, concat-at}
 use Rattle.algebra.proofs.Blocks.{Same, length-blocks, blocks-at, block-in, append-block}
 use Rattle.scalar.specs.Exact.{Exact, exact, maxExponent}
 use Rattle.scalar.specs.Cells.{cellWords, cellAt, exponentAt, cells}
+use Rattle.scalar.specs.Inner.{Coords}
 use Rattle.scalar.proofs.Cell.{cell-is, exponent-is, length-cells, cells-at, cells-same, fill-block}
 use Rattle.matrix.specs.Matrix.{identified}
+use Rattle.matrix.specs.Factors.{Factor}
 use Rattle.kraus.specs.Dense.{table}
 use Rattle.kraus.specs.Branch.{Store, Branch}
 use Rattle.kraus.proofs.Dense.{tabulate-at}
-use Rattle.branches.specs.Store.{storeWords}
+use Rattle.kraus.proofs.Limits.{Kraus}
+use Rattle.branches.specs.Store.{Bits, StoreAt, storeWords}
 use Rattle.branches.specs.Bank.{matrixSize, branchSize, branchWords, bankWords, identityBranch, Holds}
+use Rattle.branches.proofs.Stores.{low-below, high-below}
 
 -- ---- the words of a branch
 module _ (d : ℕ) (b : Branch) where
@@ -43,6 +48,20 @@ module _ (d : ℕ) (b : Branch) where
 pub length-bank : (d : ℕ) (bs : List Branch) → length (bankWords d bs) ≡ length bs * branchSize d
 length-bank d bs = concat-length (branchWords d) (branchSize d) (length-branch d) bs
 
+-- ---- n numbers f i are read from `at` on
+pub record Read (l : List ℤ) (at n : ℕ) (f : ℕ → Exact) : Type 0 where
+  pub room : at + n * 5 ≤ length l
+  pub number : (i : ℕ) → i < n → cellAt l (at + i * 5) ≡ f i
+  pub exponent : (i : ℕ) → i < n → exponentAt l (at + i * 5) ≡ leb (f i .exp) maxExponent
+
+-- a number with coordinates from −1 to 1
+pub read-factor : {l : List ℤ} {at n : ℕ} {f : ℕ → Exact} → Read l at n f → (e : ℕ) → e ≤ 28 → (i : ℕ) → i < n → Kraus e (f i) → Factor l (at + i * 5)
+read-factor {f = f} r e small i h k = record {
+  room = omega (arith, r .room, block-in h 5);
+  exponent = r .exponent i h ∙ le-leb (f i .exp) maxExponent (omega (arith, k .coords .exponent));
+  coords = subst (Coords 1 28) (sym (r .number i h)) (record { exponent = omega (arith, k .coords .exponent); size = k .coords .size });
+}
+
 -- ---- what a bank holds; z is what is read past its end
 module _ {l : List ℤ} {at : ℕ} (d : ℕ) (bs : List Branch) (h : Holds l at (bankWords d bs)) where
   pub bank-room : at + length bs * branchSize d ≤ length l
@@ -63,17 +82,39 @@ module _ {l : List ℤ} {at : ℕ} (d : ℕ) (bs : List Branch) (h : Holds l at 
           ∙ bank-word (i * 5 + k) (omega (arith, block-in hi 5))
           ∙ branch-cell d (getD bs j z) i k hi hk
 
-      pub bank-cell : cellAt l (at + j * branchSize d + i * 5) ≡ getD (getD bs j z .matrix) i (exact .𝟘)
+      bank-cell : cellAt l (at + j * branchSize d + i * 5) ≡ getD (getD bs j z .matrix) i (exact .𝟘)
       bank-cell = cell-is l (at + j * branchSize d + i * 5) (entries d (getD bs j z) i) words
 
-      pub bank-exponent : exponentAt l (at + j * branchSize d + i * 5) ≡ leb (getD (getD bs j z .matrix) i (exact .𝟘) .exp) maxExponent
+      bank-exponent : exponentAt l (at + j * branchSize d + i * 5) ≡ leb (getD (getD bs j z .matrix) i (exact .𝟘) .exp) maxExponent
       bank-exponent = exponent-is l (at + j * branchSize d + i * 5) (entries d (getD bs j z) i) words
 
-    pub bank-store : (k : ℕ) → k < 2 → getD l (at + j * branchSize d + matrixSize d + k) (pos 0) ≡ getD (storeWords (getD bs j z .store)) k (pos 0)
+    -- its numbers
+    pub bank-read : Read l (at + j * branchSize d) (d * d) (λ (i : ℕ). getD (getD bs j z .matrix) i (exact .𝟘))
+    bank-read = record {
+      room = omega (arith, bank-room, block-in hj (branchSize d));
+      number = bank-cell;
+      exponent = bank-exponent;
+    }
+
+    bank-store : (k : ℕ) → k < 2 → getD l (at + j * branchSize d + matrixSize d + k) (pos 0) ≡ getD (storeWords (getD bs j z .store)) k (pos 0)
     bank-store k hk =
         ap (λ (w : ℕ). getD l w (pos 0)) (add-assoc (at + j * branchSize d) (matrixSize d) k)
         ∙ bank-word (matrixSize d + k) (omega arith)
         ∙ branch-store d (getD bs j z) k
+
+    -- its store, in two words below 2^32 each
+    pub bank-low : getD l (at + j * branchSize d + matrixSize d) (pos 0) ≡ pos (fromBits (take 32 (getD bs j z .store)))
+    bank-low = ap (λ (w : ℕ). getD l w (pos 0)) (sym (add-zero (at + j * branchSize d + matrixSize d))) ∙ bank-store 0 (omega arith)
+
+    pub bank-high : getD l (at + j * branchSize d + matrixSize d + 1) (pos 0) ≡ pos (fromBits (drop 32 (getD bs j z .store)))
+    bank-high = bank-store 1 (omega arith)
+
+    pub store-at : Bits (getD bs j z .store) → length (getD bs j z .store) ≤ 64 → StoreAt l (at + j * branchSize d + matrixSize d)
+    store-at b few = record {
+      room = omega (arith, bank-room, block-in hj (branchSize d));
+      low = ap (upTo (2 ^ 32 - 1)) bank-low ∙ le-leb (fromBits (take 32 (getD bs j z .store))) (2 ^ 32 - 1) (omega (arith, low-below (getD bs j z .store) b));
+      high = ap (upTo (2 ^ 32 - 1)) bank-high ∙ le-leb (fromBits (drop 32 (getD bs j z .store))) (2 ^ 32 - 1) (omega (arith, high-below (getD bs j z .store) b few));
+    }
 
 pub held-same : {l m : List ℤ} {at : ℕ} {ws : List ℤ} → Holds l at ws → Same m l at (length ws) → Holds m at ws
 held-same h s = record { room = omega (arith, s .long, h .room); word = λ k l. s .word _ (omega arith) (omega arith) ∙ h .word k l }

@@ -1,28 +1,24 @@
 -- From the sizes of a circuit's numbers to what a product in words asks; and a step of a bank is the step of its branches.
-use mathlib.Core.Path.{_≡_, refl, sym, ap, ap₂, _∙_, subst, subst₂}
+use mathlib.Core.Path.{_≡_, refl, sym, ap, ap₂, _∙_, subst₂}
 use mathlib.Core.Bool.{true}
 use mathlib.Core.List.{List, [], _∷_, _++_, map}
-use Prim.Native.Nat.{ℕ, zero, suc, _+_, _*_, _-_, _/_, _%_, _^_, _≤_, _<_}
-use native.Mathlib.Nat.{not-suc-le-zero, div-add-mod', div-lt-iff-lt-mul, mod-lt, add-zero, le-of-eq}
+use Prim.Native.Nat.{ℕ, zero, suc, _+_, _*_, _/_, _%_, _^_, _≤_, _<_}
+use native.Mathlib.Nat.{not-suc-le-zero, div-add-mod', div-lt-iff-lt-mul, mod-lt, le-of-eq}
 use native.Mathlib.Omega.{arith}
 use lib.Arith.{digits-lt, digits-div, digits-mod}
-use lib.Dec.{leb}
-use lib.ListN.{length, getD, take, drop, length-map}
-use lib.IntN.{ℤ, pos}
-use borrow.Author.Tests.{le-leb}
+use lib.ListN.{length, getD, length-map}
+use lib.IntN.{ℤ}
 use Rattle.algebra.specs.Sum.{sum, times}
 use Rattle.algebra.specs.Lists.{All}
-use Rattle.algebra.specs.Words.{fromBits, blocks, upTo}
+use Rattle.algebra.specs.Words.{blocks}
 use Rattle.algebra.proofs.Lists.{all-getD, concat-length, concat-at}
 use Rattle.algebra.proofs.Sum.{sum-same, times-same}
-use Rattle.algebra.proofs.Blocks.{block-in}
-use Rattle.scalar.specs.Exact.{Exact, exact, maxExponent}
-use Rattle.scalar.specs.Cells.{cellAt, exponentAt}
-use Rattle.scalar.specs.Inner.{Coords, Room}
+use Rattle.scalar.specs.Exact.{Exact, exact}
+use Rattle.scalar.specs.Inner.{Room}
 use Rattle.scalar.proofs.Exact.{exacts}
 use Rattle.scalar.proofs.Cell.{cells-same}
 use Rattle.matrix.specs.Matrix as matrix
-use Rattle.matrix.specs.Factors.{Factor, Factors}
+use Rattle.matrix.specs.Factors.{Factors}
 use Rattle.matrix.proofs.Terms.{row-lt, column-lt}
 use Rattle.gate.specs.Gate.{Gate, valid}
 use Rattle.gate.specs.Operators.{Operator, operators}
@@ -34,23 +30,9 @@ use Rattle.kraus.proofs.Limits.{Kraus, Fitting, Enough, matrixOf, gate-entries}
 use Rattle.branches.specs.Store.{StoreAt, outcomePair, outcomeBit}
 use Rattle.branches.specs.Bank.{matrixSize, branchSize, branchWords, bankWords, Holds}
 use Rattle.branches.specs.Step.{stepWords}
-use Rattle.branches.proofs.Stores.{low-below, high-below, outcome-store}
-use Rattle.branches.proofs.Banks.{bank-room, bank-cell, bank-exponent, bank-store, held-blocks, table-cells}
+use Rattle.branches.proofs.Stores.{outcome-store}
+use Rattle.branches.proofs.Banks.{Read, read-factor, bank-read, bank-low, bank-high, store-at, held-blocks, table-cells}
 use Rattle.branches.proofs.Steps.{factor-pos, length-product}
-
--- n numbers f i are read from `at` on
-pub record Read (l : List ℤ) (at n : ℕ) (f : ℕ → Exact) : Type 0 where
-  pub room : at + n * 5 ≤ length l
-  pub number : (i : ℕ) → i < n → cellAt l (at + i * 5) ≡ f i
-  pub exponent : (i : ℕ) → i < n → exponentAt l (at + i * 5) ≡ leb (f i .exp) maxExponent
-
--- a number with coordinates from −1 to 1
-read-factor : {l : List ℤ} {at n : ℕ} {f : ℕ → Exact} → Read l at n f → (e : ℕ) → e ≤ 28 → (i : ℕ) → i < n → Kraus e (f i) → Factor l (at + i * 5)
-read-factor {f = f} r e small i h k = record {
-  room = omega (arith, r .room, block-in h 5);
-  exponent = r .exponent i h ∙ le-leb (f i .exp) maxExponent (omega (arith, k .coords .exponent));
-  coords = subst (Coords 1 28) (sym (r .number i h)) (record { exponent = omega (arith, k .coords .exponent); size = k .coords .size });
-}
 
 -- an operator M in words, and the matrix of a branch
 module _ {l : List ℤ} {op old : ℕ} (n : ℕ) (M : Matrix) (m : List Exact)
@@ -104,20 +86,13 @@ module _ (n m : ℕ) (g : Gate) (ok : valid n m g ≡ true) (o : Operator) (z : 
 
   module _ {l : List ℤ} {from : ℕ} (slots : ℕ) (held : Holds l from (bankWords (2 ^ n) bs))
       (operators-read : (k : ℕ) → k < length (operators g) → Read l (slots + k * branchSize (2 ^ n)) (2 ^ n * 2 ^ n) (λ (i : ℕ). matrixOf n g (getD (operators g) k o) (i / 2 ^ n) (i % 2 ^ n))) where
-    bank-read : (j : ℕ) → j < length bs → Read l (from + j * branchSize (2 ^ n)) (2 ^ n * 2 ^ n) (λ (i : ℕ). getD (getD bs j z .matrix) i (exact .𝟘))
-    bank-read j h = record {
-      room = omega (arith, bank-room (2 ^ n) bs held, block-in h (branchSize (2 ^ n)));
-      number = λ i p. bank-cell (2 ^ n) bs held z j h i p;
-      exponent = λ i p. bank-exponent (2 ^ n) bs held z j h i p;
-    }
-
     -- its factors are small
     pub step-factors : (E : ℕ) → E ≤ 28 → Enough E n bs → (j : ℕ) → j < length bs * length (operators g)
         → Factors l (slots + j % length (operators g) * branchSize (2 ^ n)) (from + j / length (operators g) * branchSize (2 ^ n)) (2 ^ n)
     step-factors E small enough j h =
         let p = factor-pos j (length bs) ops h in
         let b = div-lt-iff-lt-mul p .1 h in
-        linked n (matrixOf n g (getD os (j % ops) o)) (getD bs (j / ops) z .matrix) (operators-read (j % ops) (mod-lt j p)) (bank-read (j / ops) b) E small
+        linked n (matrixOf n g (getD os (j % ops) o)) (getD bs (j / ops) z .matrix) (operators-read (j % ops) (mod-lt j p)) (bank-read (2 ^ n) bs held z (j / ops) b) E small
         (all-getD (λ (o : Operator). Everywhere (Kraus 1) n (matrixOf n g o)) os (gate-entries n m g ok) (j % ops) (mod-lt j p) o)
         (all-getD (λ (b : Branch). (i : ℕ) → i < 2 ^ n * 2 ^ n → Kraus E (getD (b .matrix) i (exact .𝟘))) bs (enough .entries) (j / ops) b z)
         (all-getD (Along (Fitting (1 + E)) n (matrixOf n g (getD os (j % ops) o))) bs (all-getD (λ (o : Operator). All (Along (Fitting (1 + E)) n (matrixOf n g o)) bs) os (enough .products m g ok) (j % ops) (mod-lt j p) o) (j / ops) b z)
@@ -127,12 +102,7 @@ module _ (n m : ℕ) (g : Gate) (ok : valid n m g ≡ true) (o : Operator) (z : 
       pub step-store : (j : ℕ) → j < length bs → StoreAt l (from + j * branchSize (2 ^ n) + matrixSize (2 ^ n))
       step-store j h =
           let (e, b) = all-getD (λ (b : Branch). Word m (b .store)) bs words j h z in
-          let at = from + j * branchSize (2 ^ n) + matrixSize (2 ^ n) in
-          record {
-            room = omega (arith, bank-room (2 ^ n) bs held, block-in h (branchSize (2 ^ n)));
-            low = ap (upTo (2 ^ 32 - 1)) (ap (λ (w : ℕ). getD l w (pos 0)) (sym (add-zero at)) ∙ bank-store (2 ^ n) bs held z j h 0 (omega arith)) ∙ le-leb (fromBits (take 32 (getD bs j z .store))) (2 ^ 32 - 1) (omega (arith, low-below (getD bs j z .store) b));
-            high = ap (upTo (2 ^ 32 - 1)) (bank-store (2 ^ n) bs held z j h 1 (omega arith)) ∙ le-leb (fromBits (drop 32 (getD bs j z .store))) (2 ^ 32 - 1) (omega (arith, high-below (getD bs j z .store) b (omega arith)));
-          }
+          store-at (2 ^ n) bs held z j h b (omega arith)
 
       step-words : (j : ℕ) → j < length bs * ops → stepWords l slots ops from (2 ^ n) (outcomeBit g) j ≡ branchWords (2 ^ n) (getD (step n bs g) j (apply n g z o))
       step-words j h =
@@ -140,10 +110,9 @@ module _ (n m : ℕ) (g : Gate) (ok : valid n m g ≡ true) (o : Operator) (z : 
           let b = div-lt-iff-lt-mul p .1 h in
           let M = matrixOf n g (getD os (j % ops) o) in
           let x = getD bs (j / ops) z in
-          let at = from + j / ops * branchSize (2 ^ n) + matrixSize (2 ^ n) in
-          (λ i. (cells-same (2 ^ n * 2 ^ n) _ _ (λ k hk. product-is n M (x .matrix) (operators-read (j % ops) (mod-lt j p)) (bank-read (j / ops) b) (k / 2 ^ n) (k % 2 ^ n) (row-lt k (2 ^ n) hk) (column-lt k (2 ^ n) hk))
+          (λ i. (cells-same (2 ^ n * 2 ^ n) _ _ (λ k hk. product-is n M (x .matrix) (operators-read (j % ops) (mod-lt j p)) (bank-read (2 ^ n) bs held z (j / ops) b) (k / 2 ^ n) (k % 2 ^ n) (row-lt k (2 ^ n) hk) (column-lt k (2 ^ n) hk))
           ∙ table-cells (2 ^ n) (times exact (2 ^ n) M (cell exact (2 ^ n) (x .matrix)))) i
-          ++ (ap₂ (outcomePair (outcomeBit g) (j % ops)) (ap (λ (w : ℕ). getD l w (pos 0)) (sym (add-zero at)) ∙ bank-store (2 ^ n) bs held z (j / ops) b 0 (omega arith)) (bank-store (2 ^ n) bs held z (j / ops) b 1 (omega arith))
+          ++ (ap₂ (outcomePair (outcomeBit g) (j % ops)) (bank-low (2 ^ n) bs held z (j / ops) b) (bank-high (2 ^ n) bs held z (j / ops) b)
           ∙ outcome-store n m g o (x .store) (j % ops) ok (all-getD (λ (b : Branch). Word m (b .store)) bs words (j / ops) b z) few (mod-lt j p)) i)
           ∙ ap (branchWords (2 ^ n)) (sym (step-at j h))
 

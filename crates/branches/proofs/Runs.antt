@@ -30,10 +30,10 @@ use Rattle.branches.specs.Store.{outcomeBit}
 use Rattle.branches.specs.Bank.{branchSize, branchWords, bankWords, identityBranch, Holds}
 use Rattle.branches.specs.Step.{stepWords}
 use Rattle.branches.specs.Run.{workSize, operatorWords, withOperators, gateStepped, GateStep, Runs, Ran}
-use Rattle.branches.proofs.Banks.{length-branch, length-bank, held-same}
+use Rattle.branches.proofs.Banks.{Read, length-branch, length-bank, held-same}
 use Rattle.branches.proofs.Steps.{length-product}
 use Rattle.branches.proofs.Gates.{two-operators}
-use Rattle.branches.proofs.Link.{Read, step-length, step-factors, step-store, step-held}
+use Rattle.branches.proofs.Link.{step-length, step-factors, step-store, step-held}
 
 pub work-is : (d banks : ℕ) → workSize d banks ≡ 2 * (banks * branchSize d) + 2 * branchSize d
 work-is d banks = add-mul (2 * banks) 2 (branchSize d) ∙ ap (λ (k : ℕ). k + 2 * branchSize d) (mul-assoc 2 banks (branchSize d))

@@ -1,18 +1,18 @@
 -- Stores in two words: read from bytes from the top down, and the words after a bit is written.
 use mathlib.Core.Path.{_≡_, refl, sym, ap, _∙_}
-use mathlib.Core.Bool.{Bool, true, false, cond, _&&_, true≢false}
+use mathlib.Core.Bool.{Bool, true, false, cond, _&&_}
 use mathlib.Core.List.{List, [], _∷_}
 use Prim.Native.Nat.{ℕ, zero, suc, _+_, _*_, _-_, _^_, _<_, _≤_, min}
 use native.Mathlib.Nat.{le-trans, sub-zero}
 use native.Mathlib.Omega.{arith}
 use lib.Dec.{eqb, ltb}
-use lib.IntN.{ℤ, pos, negsuc, natAbs}
+use lib.IntN.{ℤ, pos, natAbs}
 use lib.Pow.{pow-mono}
 use lib.ListN.{length, getD, take, drop, set, drop-of-length-le, length-take, length-drop}
 use lib.Seq.{drop-cons, getD-take, length-take-le, take-length, take-all, take-set-lt, take-set-le, drop-set-lt, drop-set-add}
 use native.Mathlib.Decide.{decLt}
-use borrow.Author.Tests.{leb-true, ltb-true, lt-ltb, le-ltb}
-use Rattle.algebra.specs.Words.{fromBits, upTo}
+use borrow.Author.Tests.{ltb-true, lt-ltb, le-ltb}
+use Rattle.algebra.specs.Words.{fromBits}
 use Rattle.algebra.specs.Lists.{every}
 use Rattle.algebra.proofs.Tests.{and-split}
 use Rattle.gate.specs.Gate.{Gate, measure, reset, qubits, bits, distinct, formed, placed, supported, valid}
@@ -38,11 +38,6 @@ module _ (σ : List ℕ) (to : ℕ) (room : to ≤ length σ) where
 
   pub packed-none : fromBits (drop to (take to σ)) ≡ 0
   packed-none = ap fromBits (drop-of-length-le (take to σ) {i = to} (omega (arith, length-take-le to σ room)))
-
--- ---- a word below 2^32
-pub word-is : (n : ℕ) (w : ℤ) → upTo n w ≡ true → (w ≡ pos (natAbs w)) × (natAbs w ≤ n)
-word-is n (pos m) h = (refl, leb-true m n h)
-word-is n (negsuc m) h = absurd (true≢false (sym h))
 
 -- ---- the word of the bits from `first` on, with a bit written
 module _ (first bit v : ℕ) (w : ℤ) where

@@ -9,18 +9,20 @@ use lib.Dec.{eqb}
 use lib.IntN.{ℤ}
 use borrow.Author.Tests.{eq-eqb, eqb-true}
 use Rattle.algebra.proofs.Tests.{eqb-same}
+use Rattle.scalar.specs.Exact.{equal}
 use Rattle.scalar.specs.Calls.{scalarOf}
+use Rattle.scalar.proofs.Equal.{equal-swap}
 use Rattle.channel.specs.declared.compare.Place.{Place}
 use Rattle.channel.specs.declared.compare.Found.{Found}
 use Rattle.channel.specs.declared.compare.Found.the-variants.{Refused, Same, Dimensions, Entry}
 use Rattle.channel.specs.declared.compare.Difference.{Difference}
 use Rattle.channel.specs.Layout.{side, dimAt, bitsAt, readBack}
 use Rattle.channel.specs.WellFormed.{wellFormed}
-use Rattle.channel.specs.Compare.{Both, equal, plain, entry, isSame, orElse, scan, first, merge, compareOf}
+use Rattle.channel.specs.Compare.{Both, plain, entry, isSame, orElse, scan, first, merge, compareOf}
 use Rattle.channel.specs.Claims.{entryOf, earlier, Comparable, Agree, SameExactly, swapped, Symmetric, FirstAt, FirstEntry}
 use Rattle.channel.proofs.Judging.{formed}
 use Rattle.channel.proofs.Sorted.{sorted, swap, merge-swap, merge-left, merge-right, merge-sorted, lookLeft, lookRight}
-use Rattle.channel.proofs.First.{equal-swap, Compared, alike, differs, compared}
+use Rattle.channel.proofs.First.{Compared, alike, differs, compared}
 
 module _ (l r : List ℤ) where
   abbrev both : List Both

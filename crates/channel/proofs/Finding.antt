@@ -11,8 +11,9 @@ use lib.ListN.{length, getD, take, drop}
 use lib.Seq.{drop-cons}
 use lib.IntN.{ℤ, natAbs}
 use borrow.Author.Tests.{leb-true, eqb-true}
+use Rattle.algebra.specs.Words.{fromBits}
 use Rattle.algebra.proofs.Tests.{and-split, all-at}
-use Rattle.channel.specs.Layout.{recordSize, side, word, storeOf, storeAt, dimAt, bitsAt, countAt}
+use Rattle.channel.specs.Layout.{recordSize, side, word, storeAt, dimAt, bitsAt, countAt}
 use Rattle.channel.specs.WellFormed.{wellFormed, Onward}
 use Rattle.channel.specs.Lookup.{storeRight, Lookup, malformed, wrongStore, missing, found, find, placed, lookupOf, partOf, spanOf}
 use Rattle.channel.proofs.Chain.{onward-begin, on-inside, on-next}
@@ -28,11 +29,11 @@ module _ (m : ℕ) (bs : List ℕ) (e : storeRight m bs ≡ true) where
 -- x is the store of the bytes from i on
 pub record Read (bs : List ℕ) (i x : ℕ) : Type 0 where
   pub count : i ≤ length bs
-  pub is : x ≡ storeOf (drop i bs)
+  pub is : x ≡ fromBits (drop i bs)
   pub small : x < 2 ^ (length bs - i)
 
 pub read-none : (bs : List ℕ) → Read bs (length bs) 0
-read-none bs = record { count = omega arith; is = sym (ap storeOf (drop-length bs)); small = by (length bs - length bs) (omega arith) }
+read-none bs = record { count = omega arith; is = sym (ap fromBits (drop-length bs)); small = by (length bs - length bs) (omega arith) }
   where
     drop-length : (bs : List ℕ) → drop (length bs) bs ≡ []
     drop-length [] = refl
@@ -47,7 +48,7 @@ read-more m bs {i} {x} e r h = record {
   count = omega (arith, r .count);
   is =
       let next : suc (i - 1) ≡ i = omega arith in
-      ap (λ (y : ℕ). getD bs (i - 1) 0 + 2 * y) (r .is ∙ ap (λ (k : ℕ). storeOf (drop k bs)) (sym next)) ∙ sym (ap storeOf (drop-cons bs (i - 1) 0 (omega (arith, r .count))));
+      ap (λ (y : ℕ). getD bs (i - 1) 0 + 2 * y) (r .is ∙ ap (λ (k : ℕ). fromBits (drop k bs)) (sym next)) ∙ sym (ap fromBits (drop-cons bs (i - 1) 0 (omega (arith, r .count))));
   small =
       let next : length bs - (i - 1) ≡ suc (length bs - i) = omega (arith, r .count) in
       subst (λ (k : ℕ). getD bs (i - 1) 0 + 2 * x < 2 ^ k) (sym next) (by (length bs - i) (getD bs (i - 1) 0) (right-byte m bs e (i - 1) (omega (arith, r .count))) (r .small));
@@ -100,7 +101,7 @@ find-inside {l} s (suc n) at o a e h = go (eqb (storeAt l at) s) refl (λ q. fin
 
 module _ (l : List ℤ) (bs : List ℕ) where
   abbrev pub index : ℕ
-  index = find l (storeOf bs) (countAt l) (natAbs (word l 3))
+  index = find l (fromBits bs) (countAt l) (natAbs (word l 3))
 
   pub look-malformed : wellFormed l ≡ false → lookupOf l bs ≡ malformed
   look-malformed e = ap (λ (b : Bool). cond b (cond (storeRight (bitsAt l) bs) (placed index) wrongStore) malformed) e
@@ -112,7 +113,7 @@ module _ (l : List ℤ) (bs : List ℕ) where
   look-placed e f = λ i. cond (e i) (cond (f i) (placed index) wrongStore) malformed
 
   pub index-inside : wellFormed l ≡ true → (a : ℕ) → index ≡ a → 0 < a → a + recordSize (side (dimAt l)) ≤ length l
-  index-inside e = find-inside (storeOf bs) (countAt l) (natAbs (word l 3)) (onward-begin l e)
+  index-inside e = find-inside (fromBits bs) (countAt l) (natAbs (word l 3)) (onward-begin l e)
 
   pub span-inside : spanOf l (lookupOf l bs) .start + spanOf l (lookupOf l bs) .size ≤ length l
   span-inside = go (wellFormed l) refl

@@ -6,48 +6,16 @@ use Prim.Native.Nat.{ℕ, zero, suc, _+_, _*_, _/_, _%_, _≤_, _<_}
 use native.Mathlib.Decide.{decLt}
 use native.Mathlib.Omega.{arith}
 use lib.Dec.{eqb, ltb}
-use lib.IntN.{ℤ, pos, negsuc}
 use borrow.Author.Tests.{eq-eqb, eqb-true, ltb-true}
-use Rattle.algebra.specs.Dyadic.{frac}
-use Rattle.algebra.specs.Words.{eqℤ}
 use Rattle.algebra.proofs.Tests.{and-split}
-use Rattle.scalar.specs.Exact.{Exact, number}
+use Rattle.scalar.specs.Exact.{equal}
+use Rattle.scalar.proofs.Equal.{equal-true, equal-of}
 use Rattle.channel.specs.declared.compare.Difference.{Difference}
 use Rattle.channel.specs.declared.compare.Found.the-variants.{Same}
 use Rattle.channel.specs.Layout.{before}
-use Rattle.channel.specs.Compare.{Both, equal, plain, entry, orElse, scan, first}
+use Rattle.channel.specs.Compare.{Both, plain, entry, orElse, scan, first}
 use Rattle.channel.specs.Claims.{earlier}
 use Rattle.channel.proofs.Sorted.{Above, Sorted, above-trans, stores, lookLeft, lookRight, none-left, none-right}
-
--- ---- equal numbers
-eq-ℤ : (x y : ℤ) → eqℤ x y ≡ true → x ≡ y
-eq-ℤ (pos a) (pos b) e = ap pos (eqb-true a b e)
-eq-ℤ (pos a) (negsuc b) e = absurd (true≢false (sym e))
-eq-ℤ (negsuc a) (pos b) e = absurd (true≢false (sym e))
-eq-ℤ (negsuc a) (negsuc b) e = ap negsuc (eqb-true a b e)
-
-ℤ-refl : (x : ℤ) → eqℤ x x ≡ true
-ℤ-refl (pos a) = eq-eqb a a refl
-ℤ-refl (negsuc a) = eq-eqb a a refl
-
-pub equal-is : (x y : Exact) → equal x y ≡ true → x ≡ y
-equal-is x y e =
-    let a = and-split _ (eqb (x .exp) (y .exp)) e in
-    let b = and-split _ (eqℤ (x .num .im .im) (y .num .im .im)) (a .0) in
-    let c = and-split _ (eqℤ (x .num .im .re) (y .num .im .re)) (b .0) in
-    let d = and-split (eqℤ (x .num .re .re) (y .num .re .re)) (eqℤ (x .num .re .im) (y .num .re .im)) (c .0) in
-    λ i. frac (number (eq-ℤ (x .num .re .re) (y .num .re .re) (d .0) i) (eq-ℤ (x .num .re .im) (y .num .re .im) (d .1) i) (eq-ℤ (x .num .im .re) (y .num .im .re) (c .1) i) (eq-ℤ (x .num .im .im) (y .num .im .im) (b .1) i)) (eqb-true (x .exp) (y .exp) (a .1) i)
-
-pub equal-refl : (x : Exact) → equal x x ≡ true
-equal-refl x = λ i. (((ℤ-refl (x .num .re .re) i && ℤ-refl (x .num .re .im) i) && ℤ-refl (x .num .im .re) i) && ℤ-refl (x .num .im .im) i) && eq-eqb (x .exp) (x .exp) refl i
-
-pub equal-swap : (x y : Exact) → equal x y ≡ equal y x
-equal-swap x y = go (equal x y) refl (equal y x) refl
-  where
-    go : (a : Bool) → equal x y ≡ a → (b : Bool) → equal y x ≡ b → equal x y ≡ equal y x
-    go true e b f = ap (λ (z : Exact). equal z y) (equal-is x y e) ∙ sym (ap (λ (z : Exact). equal y z) (equal-is x y e))
-    go false e true f = ap (λ (z : Exact). equal x z) (equal-is y x f) ∙ sym (ap (λ (z : Exact). equal z x) (equal-is y x f))
-    go false e false f = e ∙ sym f
 
 -- ---- the entries of one store, n from k on
 data Scanned (b : Both) (w n k : ℕ) (d : Difference) : Type 0 where
@@ -70,9 +38,9 @@ scanned b w (suc n) k = go (equal (b .left k) (b .right k)) refl (scanned b w n 
         by (no q) = let z : k ≡ j = omega arith in subst (λ (i : ℕ). b .left i ≡ b .right i) z e
 
     go : (t : Bool) → equal (b .left k) (b .right k) ≡ t → Scanned b w n (suc k) (scan b w n (suc k)) → Scanned b w (suc n) k (here (equal (b .left k) (b .right k)))
-    go true t (alike e f) = alike (ap here t ∙ e) (λ j p q. from j (equal-is _ _ t) p (λ r. f j r (omega arith)))
-    go true t (differs q p r f u e) = differs q (omega arith) (omega arith) (λ j x y. from j (equal-is _ _ t) x (λ z. f j z y)) u (ap here t ∙ e)
-    go false t r = differs k (omega arith) (omega arith) (λ j p q. absurd (omega arith)) (λ e. true≢false (sym (ap (equal (b .left k)) (sym e) ∙ equal-refl (b .left k)) ∙ t)) (ap here t)
+    go true t (alike e f) = alike (ap here t ∙ e) (λ j p q. from j (equal-true _ _ t) p (λ r. f j r (omega arith)))
+    go true t (differs q p r f u e) = differs q (omega arith) (omega arith) (λ j x y. from j (equal-true _ _ t) x (λ z. f j z y)) u (ap here t ∙ e)
+    go false t r = differs k (omega arith) (omega arith) (λ j p q. absurd (omega arith)) (λ e. true≢false (sym (equal-of _ _ e) ∙ t)) (ap here t)
 
 -- ---- all stores
 pub data Compared (w : ℕ) (bs : List Both) (d : Difference) : Type 0 where

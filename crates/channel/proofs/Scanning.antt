@@ -7,7 +7,8 @@ use native.Mathlib.Numerals.{add-one}
 use native.Mathlib.Omega.{arith}
 use lib.Arith.{digits-div, digits-mod}
 use Rattle.channel.specs.declared.compare.Found.the-variants.{Same}
-use Rattle.channel.specs.Compare.{Both, equal, plain, entry, scan}
+use Rattle.scalar.specs.Exact.{equal}
+use Rattle.channel.specs.Compare.{Both, plain, entry, scan}
 
 module _ (b : Both) (w m k : ℕ) (h : k < m) where
   step : scan b w (m - k) k ≡ cond (equal (b .left k) (b .right k)) (scan b w (m - (k + 1)) (suc k)) (entry (b .store) (k / w) (k % w) (b .left k) (b .right k))

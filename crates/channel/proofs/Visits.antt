@@ -20,6 +20,10 @@ use Rattle.channel.proofs.Words.{Starts}
 use Rattle.channel.proofs.Chain.{onward-begin, on-start, on-next}
 use Rattle.channel.proofs.Sorted.{Above, Sorted, keys, sorted}
 
+pub length-places : (l : List ℤ) (n at : ℕ) → length (places l n at) ≡ n
+length-places l zero at = refl
+length-places l (suc n) at = ap suc (length-places l n (natAbs (word l at)))
+
 -- ---- n different numbers below n
 abbrev has : List ℕ → ℕ → Bool
 has ps j = some (λ (p : ℕ). eqb p j) ps
@@ -194,10 +198,6 @@ module _ (l : List ℤ) where
           ap (λ (t : Bool). cond t (entryAt l at k) (look (chain l n (natAbs (word l at))) (keyAt j) k)) (ne-eqb (keyAt j) (storeAt l at) (λ v. true≢false (sym (eq-eqb (storeAt l at) (keyAt j) (sym v)) ∙ before-apart (storeAt l at) (keyAt j) q))) ∙ ih r
 
   module _ (e : wellFormed l ≡ true) where
-    length-places : (n at : ℕ) → length (places l n at) ≡ n
-    length-places zero at = refl
-    length-places (suc n) at = ap suc (length-places n (natAbs (word l at)))
-
     below : (ps : List ℕ) → All (λ (p : ℕ). (p < countAt l) × Unit {0}) ps → All (λ (p : ℕ). p < countAt l) ps
     below [] a = tt
     below (p ∷ ps) a = (a .0 .0, below ps (a .1))
@@ -209,7 +209,7 @@ module _ (l : List ℤ) where
     rising = subst Sorted (along .1) (sorted l e)
 
     every-place : (j : ℕ) → j < countAt l → has (places l (countAt l) (natAbs (word l 3))) j ≡ true
-    every-place = covers keyAt (countAt l) (places l (countAt l) (natAbs (word l 3))) rising (below (places l (countAt l) (natAbs (word l 3))) (along .0)) (length-places (countAt l) (natAbs (word l 3)))
+    every-place = covers keyAt (countAt l) (places l (countAt l) (natAbs (word l 3))) rising (below (places l (countAt l) (natAbs (word l 3))) (along .0)) (length-places l (countAt l) (natAbs (word l 3)))
 
     -- what is known of every record on the way is known of each of them
     pub each-record : (Q : ℕ → Type 0) → ((n at : ℕ) → Onward l n at → 0 < n → Q at) → (j : ℕ) → j < countAt l → Q (recordAt size j)

@@ -9,7 +9,7 @@ use lib.Arith.{digits-div, digits-mod}
 use lib.Dec.{T, leb, eqb, ltb, ltb→lt}
 use lib.Pow.{pow-pos}
 use lib.IntN.{ℤ, pos, negsuc, natAbs}
-use lib.Signed.{ltZ, nonNeg, mag}
+use lib.Signed.{ltZ, nonNeg}
 use mir.Syntax.{Width, w64}
 use mir.Val.{Fits, SFits, toZ, ofZ, sel}
 use mir.Facts.{toZ-ofZ}
@@ -20,10 +20,6 @@ use Rattle.algebra.proofs.Signed.{eq-words}
 use Rattle.algebra.proofs.Blocks.{block-in}
 use Rattle.channel.specs.Layout.{headerSize, recordSize, recordAt}
 use Rattle.channel.specs.WellFormed.{isStart, isDim}
-
--- a word that is read
-pub reads-back : (z : ℤ) → mag z < 2 ^ 63 → toZ w64 (ofZ w64 z) ≡ z
-reads-back z h = toZ-ofZ (record { sfits = h })
 
 -- what a cast of a word asks
 abbrev pub Casts : Width → ℤ → Type 0
@@ -38,10 +34,6 @@ module _ {z : ℤ} (f : SFits w64 z) where
   unread P h = subst P (toZ-ofZ f) h
 
 -- ---- from 0 to n
-pub low-up : (n : ℕ) (z : ℤ) → ltZ z (pos 0) ≡ true → false ≡ upTo n z
-low-up n (pos a) e = absurd (omega (arith, ltb-true a 0 e))
-low-up n (negsuc a) e = refl
-
 pub high-up : (n : ℕ) (z : ℤ) → ltZ z (pos 0) ≡ false → leb (natAbs z) n ≡ upTo n z
 high-up n (pos a) e = refl
 high-up n (negsuc a) e = absurd (subst T e tt)
@@ -165,7 +157,3 @@ dim-range (pos a) e = first (either _ _ e)
 
 pub square-small : (d : ℕ) → d ≤ 16 → d * d ≤ 256
 square-small d h = mul-le-mul h h
-
--- `x == y` of two words that are read
-pub eq-read : (x y : ℤ) → mag x < 2 ^ 63 → mag y < 2 ^ 63 → eqb (ofZ w64 x) (ofZ w64 y) ≡ eqℤ x y
-eq-read x y h k = eq-words x y (record { sfits = h }) (record { sfits = k })

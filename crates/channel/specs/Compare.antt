@@ -4,8 +4,7 @@ use mathlib.Core.List.{List, [], _∷_, map}
 use Prim.Native.Nat.{ℕ, zero, suc, _*_, _/_, _%_}
 use lib.Dec.{eqb}
 use lib.IntN.{ℤ}
-use Rattle.algebra.specs.Words.{eqℤ}
-use Rattle.scalar.specs.Exact.{Exact, exact}
+use Rattle.scalar.specs.Exact.{Exact, exact, equal}
 use Rattle.scalar.specs.Calls.{scalarOf}
 use Rattle.channel.specs.declared.compare.Found.{Found}
 use Rattle.channel.specs.declared.compare.Found.the-variants.{Refused, Same, Dimensions, Entry}
@@ -70,10 +69,6 @@ merge [] bs = map rightOnly bs
 merge (a ∷ more) bs = insert a (merge more) bs
 
 -- ---- the first unequal entry
-abbrev pub equal : Exact → Exact → Bool
-equal x y =
-    (((eqℤ (x .num .re .re) (y .num .re .re) && eqℤ (x .num .re .im) (y .num .re .im)) && eqℤ (x .num .im .re) (y .num .im .re)) && eqℤ (x .num .im .im) (y .num .im .im)) && eqb (x .exp) (y .exp)
-
 -- n entries of blocks of w columns, from entry k on
 unfoldable pub scan : Both → ℕ → ℕ → ℕ → Difference
 scan b w zero k = plain Same

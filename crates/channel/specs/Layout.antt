@@ -5,8 +5,9 @@ use Prim.Native.Nat.{ℕ, zero, suc, _+_, _*_, _-_, _/_, _%_, _^_}
 use lib.Dec.{eqb, ltb}
 use lib.ListN.{getD}
 use lib.IntN.{ℤ, pos, natAbs}
+use Rattle.algebra.specs.Sum.{sum}
 use Rattle.algebra.specs.Words.{joined}
-use Rattle.scalar.specs.Exact.{Exact}
+use Rattle.scalar.specs.Exact.{Exact, exact}
 use Rattle.scalar.specs.Cells.{cellSize, cellAt, cells}
 
 -- ---- sizes and places
@@ -18,13 +19,20 @@ headerSize = 4
 abbrev pub recordHead : ℕ
 recordHead = 3
 
+-- an entry is a cell
+abbrev pub entrySize : ℕ
+entrySize = cellSize
+
 -- a block of a channel of dimension d has d² rows and columns
 abbrev pub side : ℕ → ℕ
 side d = d * d
 
--- the words of a record whose matrix has w rows and columns
+-- the words of the entries of a block of w rows and columns, and of its record
+abbrev pub blockSize : ℕ → ℕ
+blockSize w = w * w * entrySize
+
 abbrev pub recordSize : ℕ → ℕ
-recordSize w = recordHead + w * w * cellSize
+recordSize w = recordHead + blockSize w
 
 -- the index of record j
 abbrev pub recordAt : ℕ → ℕ → ℕ
@@ -32,7 +40,7 @@ recordAt w j = headerSize + j * recordSize w
 
 -- the place of entry k, row · w + column, of the record at `at`
 abbrev pub entryPlace : ℕ → ℕ → ℕ
-entryPlace at k = at + recordHead + k * cellSize
+entryPlace at k = at + recordHead + k * entrySize
 
 abbrev pub entryAt : List ℤ → ℕ → ℕ → Exact
 entryAt l at k = cellAt l (entryPlace at k)
@@ -56,11 +64,6 @@ precedes (x ∷ xs) (y ∷ ys) = cond (eqb x y) (precedes xs ys) (ltb x y)
 unfoldable pub before : ℕ → ℕ → Bool
 before x y = precedes (bits 64 x) (bits 64 y)
 
--- the store of a list of bits, bit 0 first
-abbrev pub storeOf : List ℕ → ℕ
-storeOf [] = 0
-storeOf (b ∷ bs) = b + 2 * storeOf bs
-
 -- the store in two words
 abbrev pub storeFrom : ℤ → ℤ → ℕ
 storeFrom low high = natAbs low + natAbs high * 2 ^ 32
@@ -73,6 +76,13 @@ pub record Block : Type 0 where
   pub store : ℕ
   -- entry k, row · w + column
   pub entry : ℕ → Exact
+
+-- entry (r, c) of the effect of a block of dimension d: block entry (o·d + r, o·d + c), summed over o from 0 up
+abbrev pub effectPlace : ℕ → ℕ → ℕ → ℕ → ℕ
+effectPlace d r c o = (o * d + r) * side d + (o * d + c)
+
+abbrev pub effectOf : ℕ → (ℕ → Exact) → ℕ → ℕ → Exact
+effectOf d x r c = sum exact d (λ (o : ℕ). x (effectPlace d r c o))
 
 abbrev pub recordWords : ℕ → ℕ → Block → List ℤ
 recordWords w next b = pos next ∷ pos (b .store % 2 ^ 32) ∷ pos (b .store / 2 ^ 32) ∷ cells (w * w) (b .entry)

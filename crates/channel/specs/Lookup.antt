@@ -1,14 +1,14 @@
 -- The block of a store: where it lies in a channel's words.
 use mathlib.Core.Bool.{Bool, cond, _&&_}
 use mathlib.Core.List.{List, []}
-use Prim.Native.Nat.{ℕ, zero, suc, _+_, _*_}
+use Prim.Native.Nat.{ℕ, zero, suc, _+_}
 use lib.Dec.{eqb, leb}
 use lib.ListN.{length, getD, take, drop}
 use lib.IntN.{ℤ, natAbs}
 use Rattle.algebra.specs.Lists.{allBelow}
-use Rattle.scalar.specs.Cells.{cellSize}
+use Rattle.algebra.specs.Words.{fromBits}
 use Rattle.channel.specs.declared.lookup.Span.{Span}
-use Rattle.channel.specs.Layout.{recordHead, side, word, storeOf, storeAt, dimAt, bitsAt, countAt}
+use Rattle.channel.specs.Layout.{recordHead, blockSize, side, word, storeAt, dimAt, bitsAt, countAt}
 use Rattle.channel.specs.WellFormed.{wellFormed}
 
 -- one byte a bit, each 0 or 1
@@ -33,11 +33,11 @@ placed (suc a) = found (suc a)
 
 abbrev pub lookupOf : List ℤ → List ℕ → Lookup
 lookupOf l bytes =
-    cond (wellFormed l) (cond (storeRight (bitsAt l) bytes) (placed (find l (storeOf bytes) (countAt l) (natAbs (word l 3)))) wrongStore) malformed
+    cond (wellFormed l) (cond (storeRight (bitsAt l) bytes) (placed (find l (fromBits bytes) (countAt l) (natAbs (word l 3)))) wrongStore) malformed
 
 -- the words of a block's entries
 abbrev pub blockWords : List ℤ → ℕ
-blockWords l = side (dimAt l) * side (dimAt l) * cellSize
+blockWords l = blockSize (side (dimAt l))
 
 -- the part of the words that holds the block's entries, or an empty part
 abbrev pub partOf : List ℤ → Lookup → List ℤ

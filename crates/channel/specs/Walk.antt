@@ -7,10 +7,10 @@ use lib.Dec.{eqb, ltb}
 use lib.ListN.{length}
 use lib.IntN.{ℤ, natAbs}
 use Rattle.scalar.specs.Exact.{Exact, exact}
-use Rattle.scalar.specs.Cells.{cellSize, exponentAt}
+use Rattle.scalar.specs.Cells.{exponentAt}
 use Rattle.channel.specs.declared.compare.Turn.{Turn}
 use Rattle.channel.specs.declared.compare.Cursor.{Cursor}
-use Rattle.channel.specs.Layout.{side, dimAt, countAt, word, entryPlace, entryAt, storeAt, before}
+use Rattle.channel.specs.Layout.{entrySize, side, dimAt, countAt, word, entryPlace, entryAt, storeAt, before}
 use Rattle.channel.specs.WellFormed.{wellFormed, Onward}
 use Rattle.channel.specs.Compare.{Both}
 
@@ -60,5 +60,5 @@ pub record Matched (l r : List ℤ) (m n w : ℕ) : Type 0 where
 
 -- entry k can be read, if the side has a block
 pub record Held (has : Bool) (l : List ℤ) (at k : ℕ) : Type 0 where
-  pub inside : has ≡ true → entryPlace at k + cellSize ≤ length l
+  pub inside : has ≡ true → entryPlace at k + entrySize ≤ length l
   pub exponent : has ≡ true → exponentAt l (entryPlace at k) ≡ true

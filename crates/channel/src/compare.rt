@@ -1,19 +1,18 @@
-// The comparison of two channels: their chains are walked in step, and the blocks of each store compared entry by entry.
-use super::layout::CELL;
-use super::layout::RECORD_HEAD;
+// The comparison of two channels: their chains are walked in step, and the blocks of each store compared entry by entry. A word is read at most
+// twice: once to judge it, and once to compare it.
 use super::layout::comes_before;
 use super::layout::follow;
+use super::layout::read_entry;
 use super::layout::read_store;
 use super::well_formed::judge;
 use scalar::Scalar;
-use scalar::cells::read_cell;
 ghost use mathlib.Core.Path.{_≡_};
 ghost use mathlib.Core.Bool.{true};
 ghost use Prim.Native.Nat.{ℕ, _*_, _<_, _≤_};
-ghost use Rattle.scalar.specs.Calls.{value, scalarOf};
+ghost use Rattle.scalar.specs.Calls.{scalarOf};
 ghost use Rattle.channel.specs.Layout.{readBack};
 ghost use Rattle.channel.specs.WellFormed.{Onward};
-ghost use Rattle.channel.specs.Compare.{equal, isSame, plain, scan, first, merge, compareOf};
+ghost use Rattle.channel.specs.Compare.{isSame, plain, scan, first, merge, compareOf};
 ghost use Rattle.channel.specs.Walk.{sideAt, bothAt, turnOf, cursorAt, advance, On, Held, Matched};
 
 // Bit j of a store weighs 2^j.
@@ -39,20 +38,20 @@ pub struct Difference {
 }
 
 // The sides that have a block of the next store.
-pub struct Turn {
+struct Turn {
     pub left: bool,
     pub right: bool,
     pub store: u64,
 }
 
 // A place on a chain: the index of the next record, how many are left, and the record's store (0 at the end).
-pub struct Cursor {
+struct Cursor {
     pub at: usize,
     pub left: usize,
     pub store: u64,
 }
 
-pub fn without_entry(f: Found) -> Difference
+fn without_entry(f: Found) -> Difference
     ensures { λ r. ⌜ r ≡ plain f ⌝ }
 {
     let z = Scalar { n: [0; 4], e: 0 };
@@ -63,7 +62,7 @@ pub fn without_entry(f: Found) -> Difference
     }
 }
 
-pub fn is_same(d: Difference) -> bool
+fn is_same(d: Difference) -> bool
     ensures { λ r. ⌜ r ≡ isSame (d .found) ⌝ }
 {
     let f = d.found;
@@ -75,37 +74,20 @@ pub fn is_same(d: Difference) -> bool
     }
 }
 
-pub fn same_scalar(s: Scalar, t: Scalar) -> bool
-    ensures { λ r. ⌜ r ≡ equal (value s) (value t) ⌝ }
-{
-    let x = s.n;
-    let y = t.n;
-    let e = s.e;
-    let f = t.e;
-    (x[0] == y[0]) & (x[1] == y[1]) & (x[2] == y[2]) & (x[3] == y[3]) & (e == f)
-}
-
 // Entry k of the record at `at`, or zero where the side has no block.
-pub fn entry_or_zero(has: bool, s: &[i64], at: usize, k: usize) -> Scalar
+fn entry_or_zero(has: bool, s: &[i64], at: usize, k: usize) -> Scalar
     requires { ⌜ Held has (now s) at k ⌝ }
     ensures { λ r. ⌜ r ≡ scalarOf (sideAt has (now (s .entry)) at k) ⌝ }
 {
     if has {
-        read_cell(s, at + RECORD_HEAD + k * CELL)
+        read_entry(s, at, k)
     } else {
         Scalar { n: [0; 4], e: 0 }
     }
 }
 
 // The first unequal entry of the blocks of one store, rows then columns.
-pub fn compare_block(
-    t: Turn,
-    left: &[i64],
-    i: usize,
-    right: &[i64],
-    j: usize,
-    w: usize,
-) -> Difference
+fn compare_block(t: Turn, left: &[i64], i: usize, right: &[i64], j: usize, w: usize) -> Difference
     requires { ⌜ (w ≤ 256) × ((k : ℕ) → k < w * w → Held (t .left) (now left) i k × Held (t .right) (now right) j k) ⌝ }
     ensures { λ r. ⌜ r ≡ scan (bothAt t (now (left .entry)) i (now (right .entry)) j) w (w * w) 0 ⌝ }
 {
@@ -120,7 +102,7 @@ pub fn compare_block(
         while col < w {
             let x = entry_or_zero(on_left, left, i, k);
             let y = entry_or_zero(on_right, right, j, k);
-            if !same_scalar(x, y) {
+            if !x.equals(y) {
                 let place = Place { store, row, col };
                 found = Difference {
                     found: Found::Entry(place),
@@ -138,7 +120,7 @@ pub fn compare_block(
 }
 
 // The next of n records, at index `at`.
-pub fn enter(s: &[i64], n: usize, at: usize) -> Cursor
+fn enter(s: &[i64], n: usize, at: usize) -> Cursor
     requires { ⌜ Onward (now s) n at ⌝ }
     ensures { λ r. ⌜ r ≡ cursorAt (now (s .entry)) n at ⌝ }
 {
@@ -154,7 +136,7 @@ pub fn enter(s: &[i64], n: usize, at: usize) -> Cursor
 }
 
 // The record after the cursor's, if its side took part.
-pub fn advanced(b: bool, s: &[i64], c: Cursor) -> Cursor
+fn advanced(b: bool, s: &[i64], c: Cursor) -> Cursor
     requires { ⌜ On (now s) c × (b ≡ true → 0 < c .left) ⌝ }
     ensures { λ r. ⌜ r ≡ advance b (now (s .entry)) c ⌝ }
 {
@@ -168,7 +150,7 @@ pub fn advanced(b: bool, s: &[i64], c: Cursor) -> Cursor
 }
 
 // The sides that have the least of two cursors' stores.
-pub fn choose(a: Cursor, b: Cursor) -> Turn
+fn choose(a: Cursor, b: Cursor) -> Turn
     ensures { λ r. ⌜ r ≡ turnOf a b ⌝ }
 {
     let x = a.store;
@@ -211,7 +193,7 @@ pub fn choose(a: Cursor, b: Cursor) -> Turn
 }
 
 // The first unequal entry along two chains, walked in step.
-pub fn compare_chains(left: &[i64], right: &[i64], m: usize, n: usize, w: usize) -> Difference
+fn compare_chains(left: &[i64], right: &[i64], m: usize, n: usize, w: usize) -> Difference
     requires { ⌜ Matched (now left) (now right) m n w ⌝ }
     ensures { λ r. ⌜ r ≡ first w (merge (readBack (now (left .entry))) (readBack (now (right .entry)))) ⌝ }
 {

@@ -1,4 +1,7 @@
 // The words of a channel: sizes, starts of records, stores and their order, and the chain.
+use scalar::Scalar;
+use scalar::cells::CELL;
+use scalar::cells::read_cell;
 ghost use mathlib.Core.Path.{_≡_};
 ghost use mathlib.Core.Bool.{true};
 ghost use Prim.Native.Nat.{_+_, _<_, _≤_, _^_, _-_};
@@ -6,21 +9,48 @@ ghost use lib.Dec.{ltb};
 ghost use lib.ListN.{length};
 ghost use lib.IntN.{pos, natAbs};
 ghost use Rattle.algebra.specs.Words.{upTo};
-ghost use Rattle.channel.specs.Layout.{recordSize, storeFrom, before, storeAt, word};
+ghost use Rattle.scalar.specs.Calls.{scalarOf};
+ghost use Rattle.scalar.specs.Cells.{exponentAt};
+ghost use Rattle.channel.specs.Layout.{recordHead, entrySize, blockSize, recordSize, entryPlace, entryAt, storeFrom, before, storeAt, word};
 ghost use Rattle.channel.specs.WellFormed.{isStart};
 
 pub const HEADER: usize = 4;
 
 pub const RECORD_HEAD: usize = 3;
 
-pub const CELL: usize = 5;
+// An entry is a cell.
+pub const ENTRY: usize = CELL;
 
-// The words of a record whose matrix has w rows and columns.
+// The words of the entries of a block of w rows and columns.
+pub fn block_size(w: usize) -> usize
+    requires { ⌜ w ≤ 256 ⌝ }
+    ensures { λ r. ⌜ r ≡ blockSize w ⌝ }
+{
+    w * w * ENTRY
+}
+
+// The words of the record of a block of w rows and columns.
 pub fn record_size(w: usize) -> usize
     requires { ⌜ w ≤ 256 ⌝ }
     ensures { λ r. ⌜ r ≡ recordSize w ⌝ }
 {
-    RECORD_HEAD + w * w * CELL
+    RECORD_HEAD + block_size(w)
+}
+
+// The place of entry k, row · w + column, of the record at `at`.
+pub fn entry_place(at: usize, k: usize) -> usize
+    requires { ⌜ entryPlace at k < 2 ^ 64 ⌝ }
+    ensures { λ r. ⌜ r ≡ entryPlace at k ⌝ }
+{
+    at + RECORD_HEAD + k * ENTRY
+}
+
+// Entry k of the record at `at`.
+pub fn read_entry(s: &[i64], at: usize, k: usize) -> Scalar
+    requires { ⌜ (entryPlace at k + entrySize ≤ length (now s)) × (exponentAt (now s) (entryPlace at k) ≡ true) ⌝ }
+    ensures { λ r. ⌜ r ≡ scalarOf (entryAt (now (s .entry)) at k) ⌝ }
+{
+    read_cell(s, entry_place(at, k))
 }
 
 // Whether a word is a number from 0 to n.
@@ -62,14 +92,22 @@ pub fn join(low: i64, high: i64) -> u64
     low as u64 + high as u64 * 4294967296
 }
 
+// The store in the two words from `at` on.
+pub fn store_from(s: &[i64], at: usize) -> u64
+    requires { ⌜ (at + 2 ≤ length (now s)) × ((upTo (2 ^ 32 - 1) (word (now s) at) ≡ true) × (upTo (2 ^ 32 - 1) (word (now s) (at + 1)) ≡ true)) ⌝ }
+    ensures { λ r. ⌜ r ≡ storeFrom (word (now (s .entry)) at) (word (now (s .entry)) (at + 1)) ⌝ }
+{
+    let low = s[at];
+    let high = s[at + 1];
+    join(low, high)
+}
+
 // The store of the record at `at`.
 pub fn read_store(s: &[i64], at: usize) -> u64
-    requires { ⌜ (at + 3 ≤ length (now s)) × ((upTo (2 ^ 32 - 1) (word (now s) (at + 1)) ≡ true) × (upTo (2 ^ 32 - 1) (word (now s) (at + 2)) ≡ true)) ⌝ }
+    requires { ⌜ (at + recordHead ≤ length (now s)) × ((upTo (2 ^ 32 - 1) (word (now s) (at + 1)) ≡ true) × (upTo (2 ^ 32 - 1) (word (now s) (at + 2)) ≡ true)) ⌝ }
     ensures { λ r. ⌜ r ≡ storeAt (now (s .entry)) at ⌝ }
 {
-    let low = s[at + 1];
-    let high = s[at + 2];
-    join(low, high)
+    store_from(s, at + 1)
 }
 
 // Whether a store has no bit beyond its first m.

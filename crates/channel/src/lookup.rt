@@ -1,6 +1,6 @@
 // The block of a store, as a part of the channel's words.
-use super::layout::CELL;
 use super::layout::RECORD_HEAD;
+use super::layout::block_size;
 use super::layout::follow;
 use super::layout::read_store;
 use super::well_formed::judge;
@@ -8,7 +8,8 @@ ghost use mathlib.Core.Path.{_≡_};
 ghost use mathlib.Core.Bool.{true};
 ghost use Prim.Native.Nat.{_≤_};
 ghost use lib.IntN.{natAbs};
-ghost use Rattle.channel.specs.Layout.{storeOf, word, countAt};
+ghost use Rattle.algebra.specs.Words.{fromBits};
+ghost use Rattle.channel.specs.Layout.{word, countAt};
 ghost use Rattle.channel.specs.WellFormed.{wellFormed};
 ghost use Rattle.channel.specs.Lookup.{storeRight, find, lookupOf, partOf, spanOf, noSpan};
 
@@ -18,14 +19,14 @@ pub struct Span {
     pub size: usize,
 }
 
-pub fn none() -> Span
+fn none() -> Span
     ensures { λ r. ⌜ r ≡ noSpan ⌝ }
 {
     Span { start: 0, size: 0 }
 }
 
 // Whether a store has m bytes, each 0 or 1.
-pub fn right_store(m: u32, bytes: &[u8]) -> bool
+fn right_store(m: u32, bytes: &[u8]) -> bool
     ensures { λ r. ⌜ r ≡ storeRight m (now (bytes .entry)) ⌝ }
 {
     if bytes.len() != m as usize {
@@ -42,9 +43,9 @@ pub fn right_store(m: u32, bytes: &[u8]) -> bool
 }
 
 // The store of a list of bits, bit 0 first.
-pub fn store_number(m: u32, bytes: &[u8]) -> u64
+fn store_number(m: u32, bytes: &[u8]) -> u64
     requires { ⌜ (m ≤ 64) × (storeRight m (now bytes) ≡ true) ⌝ }
-    ensures { λ r. ⌜ r ≡ storeOf (now (bytes .entry)) ⌝ }
+    ensures { λ r. ⌜ r ≡ fromBits (now (bytes .entry)) ⌝ }
 {
     let mut x = 0;
     let mut i = bytes.len();
@@ -56,7 +57,7 @@ pub fn store_number(m: u32, bytes: &[u8]) -> u64
 }
 
 // The index of the record of a store in a well-formed channel of `count` blocks, or 0.
-pub fn find_store(s: &[i64], store: u64, count: usize) -> usize
+fn find_store(s: &[i64], store: u64, count: usize) -> usize
     requires { ⌜ (wellFormed (now s) ≡ true) × (count ≡ countAt (now s)) ⌝ }
     ensures { λ r. ⌜ r ≡ find (now (s .entry)) store count (natAbs (word (now (s .entry)) 3)) ⌝ }
 {
@@ -91,7 +92,7 @@ pub fn locate(s: &[i64], store: &[u8]) -> Span
     let w = h.dim * h.dim;
     Span {
         start: at + RECORD_HEAD,
-        size: w * w * CELL,
+        size: block_size(w),
     }
 }
 

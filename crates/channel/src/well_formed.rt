@@ -1,9 +1,8 @@
 // Whether words are a well-formed channel. Each word is read once.
 use super::Shape;
-use super::layout::CELL;
 use super::layout::HEADER;
-use super::layout::RECORD_HEAD;
 use super::layout::comes_before;
+use super::layout::entry_place;
 use super::layout::fits_bits;
 use super::layout::is_start;
 use super::layout::join;
@@ -14,16 +13,16 @@ ghost use mathlib.Core.Path.{_≡_};
 ghost use mathlib.Core.Bool.{true, false};
 ghost use Prim.Native.Nat.{_+_, _≤_};
 ghost use lib.ListN.{length};
-ghost use Rattle.channel.specs.Layout.{recordSize, entryPlace, storeFrom, storeAt, word};
+ghost use Rattle.channel.specs.Layout.{recordHead, recordSize, entryPlace, storeFrom, storeAt, word};
 ghost use Rattle.channel.specs.WellFormed.{judged, isDim, wordsOk, storeOk, entriesOk, recordOk, chainOk, Room, wellFormed, headerOf, shapeOf, noShape};
 
 // What is found of a record: its store, or `ok` false and 0.
-pub struct Judged {
+struct Judged {
     pub ok: bool,
     pub store: u64,
 }
 
-pub fn bad() -> Judged
+fn bad() -> Judged
     ensures { λ r. ⌜ r ≡ judged false 0 ⌝ }
 {
     Judged {
@@ -32,14 +31,14 @@ pub fn bad() -> Judged
     }
 }
 
-pub fn is_dim(z: i64) -> bool
+fn is_dim(z: i64) -> bool
     ensures { λ r. ⌜ r ≡ isDim z ⌝ }
 {
     (z == 1) | (z == 2) | (z == 4) | (z == 8) | (z == 16)
 }
 
 // The store in two words, if it has at most m bits.
-pub fn judge_words(low: i64, high: i64, m: u32) -> Judged
+fn judge_words(low: i64, high: i64, m: u32) -> Judged
     requires { ⌜ m ≤ 64 ⌝ }
     ensures { λ r. ⌜ r ≡ judged (wordsOk low high m) (storeFrom low high) ⌝ }
 {
@@ -54,8 +53,8 @@ pub fn judge_words(low: i64, high: i64, m: u32) -> Judged
 }
 
 // The store of the record at `at`.
-pub fn judge_store(s: &[i64], at: usize, m: u32) -> Judged
-    requires { ⌜ (at + 3 ≤ length (now s)) × (m ≤ 64) ⌝ }
+fn judge_store(s: &[i64], at: usize, m: u32) -> Judged
+    requires { ⌜ (at + recordHead ≤ length (now s)) × (m ≤ 64) ⌝ }
     ensures { λ r. ⌜ r ≡ judged (storeOk (now (s .entry)) at m) (storeAt (now (s .entry)) at) ⌝ }
 {
     let low = s[at + 1];
@@ -64,13 +63,13 @@ pub fn judge_store(s: &[i64], at: usize, m: u32) -> Judged
 }
 
 // Whether n entries of the record at `at` are scalars in range and in lowest form.
-pub fn entries_ok(s: &[i64], at: usize, n: usize) -> bool
+fn entries_ok(s: &[i64], at: usize, n: usize) -> bool
     requires { ⌜ entryPlace at n ≤ length (now s) ⌝ }
     ensures { λ r. ⌜ r ≡ entriesOk (now (s .entry)) at n ⌝ }
 {
     let mut k = 0;
     while k < n {
-        if !well_formed_at(s, at + RECORD_HEAD + k * CELL) {
+        if !well_formed_at(s, entry_place(at, k)) {
             return false;
         }
         k += 1;
@@ -79,7 +78,7 @@ pub fn entries_ok(s: &[i64], at: usize, n: usize) -> bool
 }
 
 // The record at `at`, whose store is to come after `prev` unless it is the first.
-pub fn judge_record(s: &[i64], at: usize, w: usize, m: u32, first: bool, prev: u64) -> Judged
+fn judge_record(s: &[i64], at: usize, w: usize, m: u32, first: bool, prev: u64) -> Judged
     requires { ⌜ (w ≤ 256) × ((m ≤ 64) × (at + recordSize w ≤ length (now s))) ⌝ }
     ensures { λ r. ⌜ r ≡ judged (recordOk (now (s .entry)) w m at first prev) (storeAt (now (s .entry)) at) ⌝ }
 {
@@ -98,7 +97,7 @@ pub fn judge_record(s: &[i64], at: usize, w: usize, m: u32, first: bool, prev: u
 }
 
 // Whether the chain visits `count` records in rising order of their stores, and ends.
-pub fn chain_ok(s: &[i64], w: usize, m: u32, count: usize) -> bool
+fn chain_ok(s: &[i64], w: usize, m: u32, count: usize) -> bool
     requires { ⌜ Room (now s) w m count ⌝ }
     ensures { λ r. ⌜ r ≡ chainOk (now (s .entry)) w m count count (word (now (s .entry)) 3) true 0 ⌝ }
 {
@@ -123,7 +122,7 @@ pub fn chain_ok(s: &[i64], w: usize, m: u32, count: usize) -> bool
     z == 0
 }
 
-pub fn malformed() -> Shape
+fn malformed() -> Shape
     ensures { λ r. ⌜ r ≡ noShape ⌝ }
 {
     Shape {
@@ -135,7 +134,7 @@ pub fn malformed() -> Shape
 }
 
 // The header, if it and the room for its records are right.
-pub fn header(s: &[i64]) -> Shape
+fn header(s: &[i64]) -> Shape
     ensures { λ r. ⌜ r ≡ headerOf (now (s .entry)) ⌝ }
 {
     if s.len() < HEADER {

@@ -8,9 +8,9 @@ use lib.IntN.{ℤ}
 use Rattle.algebra.specs.Words.{blocks}
 use Rattle.algebra.proofs.Blocks.{wrote}
 use Rattle.algebra.proofs.Lists.{all-getD}
+use Rattle.algebra.proofs.Signed.{word-is}
 use Rattle.kraus.specs.Blocks.{survivors}
 use Rattle.branches.specs.Store.{StoreAt}
-use Rattle.branches.proofs.Stores.{word-is}
 use Rattle.channel.specs.Layout.{Block, headerSize, recordSize, side, word, storeFrom}
 use Rattle.collect.specs.Bank.{storesOf, blockOf, records, bankIn}
 use Rattle.collect.specs.Links.{linked, headed, Records}

@@ -2,22 +2,20 @@
 use mathlib.Core.Path.{_≡_, refl, sym, ap, _∙_, subst, subst₂}
 use mathlib.Core.Bool.{true}
 use mathlib.Core.List.{List, [], _∷_, _++_, map, foldl}
-use Prim.Native.Nat.{ℕ, zero, suc, _+_, _*_, _-_, _^_, _≤_, _<_}
-use native.Mathlib.Nat.{add-zero, zero-add, mul-comm}
+use Prim.Native.Nat.{ℕ, zero, suc, _+_, _*_, _^_, _≤_, _<_}
+use native.Mathlib.Nat.{zero-add, mul-comm}
 use native.Mathlib.Omega.{arith}
 use lib.Pow.{pow-mono}
 use lib.ListN.{length, getD, take, drop}
 use lib.Seq.{ext-getD, take-suc, take-length}
-use lib.IntN.{ℤ, pos}
-use borrow.Author.Tests.{le-leb}
-use Rattle.algebra.specs.Words.{fromBits, upTo}
+use lib.IntN.{ℤ}
+use Rattle.algebra.specs.Words.{fromBits}
 use Rattle.algebra.specs.Lists.{All, every, total, filterBy}
 use Rattle.algebra.proofs.Lists.{all-getD, all-map, all-concat}
 use Rattle.algebra.proofs.Totals.{sub-whole, sub-filter, sub-take}
-use Rattle.algebra.proofs.Blocks.{block-in}
 use Rattle.algebra.proofs.Bits.{bits-below, bits-parts}
-use Rattle.scalar.specs.Exact.{Exact, exact, maxExponent}
-use Rattle.scalar.specs.Inner.{Coords, Room}
+use Rattle.scalar.specs.Exact.{Exact, exact}
+use Rattle.scalar.specs.Inner.{Room}
 use Rattle.matrix.specs.Factors.{Factor}
 use Rattle.gate.specs.Gate.{Gate, valid, weight, splits}
 use Rattle.gate.specs.Operators.{Operator, operators}
@@ -27,12 +25,11 @@ use Rattle.kraus.specs.Blocks.{alive, survivors, having, block, stores}
 use Rattle.kraus.proofs.Dense.{tabulate-length, tabulate-at}
 use Rattle.kraus.proofs.Counting.{branch-count, branches-bits}
 use Rattle.kraus.proofs.Limits.{Kraus, Enough, never-48}
-use Rattle.branches.specs.Store.{Bits, StoreAt}
-use Rattle.branches.specs.Bank.{branchSize, bankWords, Holds}
-use Rattle.branches.proofs.Stores.{low-below, high-below}
-use Rattle.branches.proofs.Banks.{bank-room, bank-cell, bank-exponent, bank-store}
-use Rattle.channel.specs.Layout.{headerSize, recordSize, side, bits, word, storeFrom}
-use Rattle.collect.specs.Bank.{place, storePlace, entry, storeOf, overlaps, bankIn, Bank}
+use Rattle.branches.specs.Store.{Bits}
+use Rattle.branches.specs.Bank.{bankWords, Holds}
+use Rattle.branches.proofs.Banks.{read-factor, bank-room, bank-read, bank-low, bank-high, store-at}
+use Rattle.channel.specs.Layout.{headerSize, recordSize, side, bits, storeFrom}
+use Rattle.collect.specs.Bank.{place, entry, storeOf, overlaps, bankIn, Bank}
 use Rattle.collect.specs.Delivered.{Deliverable}
 use Rattle.collect.proofs.Branching.{branchIn, block-is, store-count, bits-word}
 
@@ -93,41 +90,22 @@ module _ {l : List ℤ} {at n m : ℕ} {bs : List Branch} (h : Held l at n m bs)
     bits-of : Bits (at-place j .store)
     bits-of = word-of .1
 
-    low-is : word l (storePlace at d j) ≡ pos (fromBits (take 32 (at-place j .store)))
-    low-is = ap (word l) (sym (add-zero (storePlace at d j))) ∙ bank-store d bs (h .words) z j hj 0 (omega arith)
-
-    high-is : word l (storePlace at d j + 1) ≡ pos (fromBits (drop 32 (at-place j .store)))
-    high-is = bank-store d bs (h .words) z j hj 1 (omega arith)
-
     store-is : storeOf l at d j ≡ fromBits (at-place j .store)
     store-is =
-        (λ i. storeFrom (low-is i) (high-is i))
+        (λ i. storeFrom (bank-low d bs (h .words) z j hj i) (bank-high d bs (h .words) z j hj i))
         ∙ ap (λ (k : ℕ). fromBits (take 32 (at-place j .store)) + k) (mul-comm (fromBits (drop 32 (at-place j .store))) (2 ^ 32)) ∙ sym (bits-parts 32 (at-place j .store))
 
     store-below : storeOf l at d j < 2 ^ m
     store-below = subst₂ (λ (x k : ℕ). x < 2 ^ k) (sym store-is) (word-of .0) (bits-below (at-place j .store) bits-of)
 
-    store-at : StoreAt l (storePlace at d j)
-    store-at = record {
-      room = omega (arith, bank-room d bs (h .words), block-in hj (branchSize d));
-      low = ap (upTo (2 ^ 32 - 1)) low-is ∙ le-leb (fromBits (take 32 (at-place j .store))) (2 ^ 32 - 1) (omega (arith, low-below (at-place j .store) bits-of));
-      high = ap (upTo (2 ^ 32 - 1)) high-is ∙ le-leb (fromBits (drop 32 (at-place j .store))) (2 ^ 32 - 1) (omega (arith, high-below (at-place j .store) bits-of (omega (arith, word-of .0, h .narrow))));
-    }
-
     entry-of : (i : ℕ) → i < d * d → entry l at d j i ≡ getD (at-place j .matrix) i (exact .𝟘)
-    entry-of i hi = bank-cell d bs (h .words) z j hj i hi
+    entry-of = bank-read d bs (h .words) z j hj .number
 
     kraus-of : (i : ℕ) → i < d * d → Kraus 25 (getD (at-place j .matrix) i (exact .𝟘))
     kraus-of = all-getD (λ (b : Branch). (i : ℕ) → i < d * d → Kraus 25 (getD (b .matrix) i (exact .𝟘))) bs (h .enough .entries) j hj z
 
     factor-of : (i : ℕ) → i < d * d → Factor l (place at d j + i * 5)
-    factor-of i hi =
-        let k = kraus-of i hi .coords in
-        record {
-          room = omega (arith, bank-room d bs (h .words), block-in hj (branchSize d), block-in hi 5);
-          exponent = bank-exponent d bs (h .words) z j hj i hi ∙ le-leb (getD (at-place j .matrix) i (exact .𝟘) .exp) maxExponent (omega (arith, k .exponent));
-          coords = subst (Coords 1 28) (sym (entry-of i hi)) (record { exponent = omega (arith, k .exponent); size = k .size });
-        }
+    factor-of i hi = read-factor (bank-read d bs (h .words) z j hj) 25 (omega arith) i hi (kraus-of i hi)
 
     branch-is : branchIn l at d m j ≡ at-place j
     branch-is =
@@ -161,7 +139,7 @@ module _ {l : List ℤ} {at n m : ℕ} {bs : List Branch} (h : Held l at n m bs)
     dim = pow-mono {i = n} {j = 4} (h .small);
     few = h .few;
     room = bank-room d bs (h .words);
-    stores = store-at;
+    stores = λ j hj. store-at d bs (h .words) z j hj (bits-of j hj) (omega (arith, word-of j hj .0, h .narrow));
     entries = λ j i p q. factor-of j p i q;
     sums = sums-of;
   }

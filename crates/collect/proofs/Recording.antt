@@ -12,11 +12,11 @@ use lib.Seq.{sets, getD-append-add}
 use lib.IntN.{ℤ, pos, natAbs}
 use Rattle.algebra.specs.Words.{blocks}
 use Rattle.algebra.proofs.Blocks.{Writing, begin, again, done, long, block-in, append-block}
+use Rattle.algebra.proofs.Signed.{word-is}
 use Rattle.scalar.specs.Exact.{Exact}
 use Rattle.scalar.specs.Cells.{cells, fill}
 use Rattle.scalar.proofs.Cell.{fill-block, length-cells}
 use Rattle.branches.specs.Store.{StoreAt}
-use Rattle.branches.proofs.Stores.{word-is}
 use Rattle.channel.specs.Layout.{headerSize, recordSize, side, word, storeFrom, recordWords, Block}
 use Rattle.collect.specs.Bank.{storeOf, starts, storesOf, overlaps, recordOf, records, Bank, Begun}
 

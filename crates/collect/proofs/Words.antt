@@ -1,15 +1,16 @@
 -- Words that are written where they stand already.
 use mathlib.Core.Path.{_≡_, refl, sym, ap, _∙_}
-use mathlib.Core.Bool.{true, true≢false}
+use mathlib.Core.Bool.{true}
 use mathlib.Core.List.{List, [], _∷_}
 use Prim.Native.Nat.{ℕ, zero, suc, _+_, _*_, _<_}
 use native.Mathlib.Nat.{add-zero}
 use native.Mathlib.Omega.{arith}
 use lib.ListN.{length, getD, set}
 use lib.Seq.{sets, set-getD}
-use lib.IntN.{ℤ, pos, negsuc, natAbs}
-use Rattle.algebra.specs.Words.{blocks, upTo}
-use Rattle.scalar.specs.Exact.{Exact}
+use lib.IntN.{ℤ, pos}
+use Rattle.algebra.specs.Words.{blocks}
+use Rattle.algebra.proofs.Signed.{word-is}
+use Rattle.scalar.specs.Exact.{Exact, maxExponent}
 use Rattle.scalar.specs.Cells.{cellWords, cellAt, exponentAt, fill}
 
 pub sets-there : (vs l : List ℤ) (at : ℕ) → ((k : ℕ) → k < length vs → getD l (at + k) (pos 0) ≡ getD vs k (pos 0)) → sets l at vs ≡ l
@@ -22,10 +23,6 @@ sets-there (a ∷ vs) l at h = ap (λ (m : List ℤ). sets m (suc at) vs) first 
     rest : (k : ℕ) → k < length vs → getD l (suc at + k) (pos 0) ≡ getD vs k (pos 0)
     rest k p = let e : suc at + k ≡ at + suc k = omega arith in ap (λ (w : ℕ). getD l w (pos 0)) e ∙ h (suc k) (omega arith)
 
-natural : (n : ℕ) (z : ℤ) → upTo n z ≡ true → z ≡ pos (natAbs z)
-natural n (pos a) e = refl
-natural n (negsuc a) e = absurd (true≢false (sym e))
-
 pub cell-there : (l : List ℤ) (at : ℕ) → exponentAt l at ≡ true → sets l at (cellWords (cellAt l at)) ≡ l
 cell-there l at e = sets-there (cellWords (cellAt l at)) l at by
   where
@@ -34,7 +31,7 @@ cell-there l at e = sets-there (cellWords (cellAt l at)) l at by
     by (suc zero) h = refl
     by (suc (suc zero)) h = refl
     by (suc (suc (suc zero))) h = refl
-    by (suc (suc (suc (suc zero)))) h = natural 60 _ e
+    by (suc (suc (suc (suc zero)))) h = word-is maxExponent _ e .0
     by (suc (suc (suc (suc (suc k))))) h = absurd (omega arith)
 
 -- n numbers

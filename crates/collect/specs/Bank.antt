@@ -94,7 +94,7 @@ pub record Bank (l : List ℤ) (at d n : ℕ) : Type 0 where
   pub few : n ≤ 64
   pub room : at + n * branchSize d ≤ length l
   pub stores : (j : ℕ) → j < n → StoreAt l (storePlace at d j)
-  pub entries : (j i : ℕ) → j < n → i < d * d → Factor l (place at d j + i * 5)
+  pub entries : (j i : ℕ) → j < n → i < d * d → Factor l (place at d j + i * cellSize)
   pub sums : (b j r c : ℕ) → b < n → j < n → r < d * d → c < d * d → Room (entry l at d j r .exp + entry l at d j c .exp) (overlaps l at d j (storeOf l at d b) r c)
 
 -- the records of the branches before branch b are written: n of them, and room for all of the bank's

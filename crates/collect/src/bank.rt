@@ -1,5 +1,6 @@
-use channel::layout::join;
+use channel::layout::store_from;
 use matrix::words::is_zero;
+use scalar::cells::CELL;
 ghost use mathlib.Core.Path.{_≡_};
 ghost use Prim.Native.Nat.{_*_, _<_};
 ghost use Rattle.collect.specs.Bank.{storeOf, survives, has, isFirst, Branch, Branches};
@@ -9,11 +10,9 @@ pub fn branch_store(work: &[i64], at: usize, d: usize, j: usize) -> u64
     requires { ⌜ Branch (now work) at d j ⌝ }
     ensures { λ r. ⌜ r ≡ storeOf (now (work .entry)) at d j ⌝ }
 {
-    let n = d * d * 5;
+    let n = d * d * CELL;
     let s = at + j * (n + 2) + n;
-    let low = work[s];
-    let high = work[s + 1];
-    join(low, high)
+    store_from(work, s)
 }
 
 // Whether some entry of branch j is not zero.
@@ -22,7 +21,7 @@ pub fn is_alive(work: &[i64], at: usize, d: usize, j: usize) -> bool
     ensures { λ r. ⌜ r ≡ survives (now (work .entry)) at d j ⌝ }
 {
     let n = d * d;
-    let p = at + j * (n * 5 + 2);
+    let p = at + j * (n * CELL + 2);
     !is_zero(work, p, n)
 }
 

@@ -1,12 +1,15 @@
 use super::bank::branch_store;
 use super::bank::has_store;
 use super::overlaps::add_overlaps;
+use channel::layout::ENTRY;
 use matrix::words::clear;
+use scalar::cells::CELL;
 ghost use mathlib.Core.Path.{_≡_};
 ghost use mathlib.Core.Bool.{cond};
 ghost use Prim.Native.Nat.{_+_, _*_, _/_, _%_, _<_, _≤_};
 ghost use lib.ListN.{length};
 ghost use Rattle.scalar.specs.Cells.{fill};
+ghost use Rattle.channel.specs.Layout.{blockSize};
 ghost use Rattle.collect.specs.Overlap.{blockOverlapped, Block};
 ghost use Rattle.collect.specs.Bank.{place, storeOf, has, overlaps, Branch, Bank};
 
@@ -27,7 +30,7 @@ fn add_branch(
         return;
     }
     let n = d * d;
-    let p = at + j * (n * 5 + 2);
+    let p = at + j * (n * CELL + 2);
     add_overlaps(result, out, work, p, n);
 }
 
@@ -41,12 +44,12 @@ pub fn write_block(
     count: usize,
     b: usize,
 )
-    requires { ⌜ (b < count) × ((out + d * d * (d * d) * 5 ≤ length (now result)) × Bank (now work) at d count) ⌝ }
+    requires { ⌜ (b < count) × ((out + blockSize (d * d) ≤ length (now result)) × Bank (now work) at d count) ⌝ }
     ensures { λ _. ⌜ now (result .exit) ≡ fill (now (result .entry)) out (d * d * (d * d)) (λ k. overlaps (now (work .entry)) at d count (storeOf (now (work .entry)) at d b) (k / (d * d)) (k % (d * d))) ⌝ }
 {
     let store = branch_store(work, at, d, b);
     let w = d * d;
-    clear(result, out, w * w * 5);
+    clear(result, out, w * w * ENTRY);
     let mut j = 0;
     while j < count {
         add_branch(result, out, work, at, d, j, store);

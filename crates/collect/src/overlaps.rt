@@ -1,4 +1,6 @@
+use channel::layout::ENTRY;
 use scalar::Scalar;
+use scalar::cells::CELL;
 use scalar::cells::read_cell;
 use scalar::cells::write_cell;
 use scalar::cells::zero_at;
@@ -9,9 +11,10 @@ ghost use Prim.Native.Nat.{_+_, _*_};
 ghost use lib.Seq.{sets};
 ghost use Rattle.scalar.specs.Exact.{conj};
 ghost use Rattle.scalar.specs.Calls.{value, scalarOf};
-ghost use Rattle.scalar.specs.Cells.{cellAt, cellWords, fill};
+ghost use Rattle.scalar.specs.Cells.{cellSize, cellAt, cellWords, fill};
 ghost use Rattle.scalar.specs.Inner.{Coords};
 ghost use Rattle.matrix.specs.Factors.{Factor};
+ghost use Rattle.channel.specs.Layout.{entrySize};
 ghost use Rattle.collect.specs.Overlap.{overlapped, blockOverlapped, Sum, Row, Block};
 
 // The conjugate of the scalar at `at`.
@@ -45,7 +48,7 @@ fn add_overlap(result: &mut [i64], at: usize, x: Scalar, work: &[i64], q: usize)
 // Add the scalar at p of `work` times the conjugates of the w scalars from k on to the w scalars from `to` on of `result`; a zero is passed over.
 fn add_row(result: &mut [i64], to: usize, work: &[i64], p: usize, k: usize, w: usize)
     requires { ⌜ Row (now result) to (now work) p k w ⌝ }
-    ensures { λ _. ⌜ now (result .exit) ≡ fill (now (result .entry)) to w (λ c. overlapped (now (result .entry)) (to + c * 5) (cellAt (now (work .entry)) p) (now (work .entry)) (k + c * 5)) ⌝ }
+    ensures { λ _. ⌜ now (result .exit) ≡ fill (now (result .entry)) to w (λ c. overlapped (now (result .entry)) (to + c * entrySize) (cellAt (now (work .entry)) p) (now (work .entry)) (k + c * cellSize)) ⌝ }
 {
     if zero_at(work, p) {
         return;
@@ -53,7 +56,7 @@ fn add_row(result: &mut [i64], to: usize, work: &[i64], p: usize, k: usize, w: u
     let x = read_cell(work, p);
     let mut c = 0;
     while c < w {
-        add_overlap(result, to + c * 5, x, work, k + c * 5);
+        add_overlap(result, to + c * ENTRY, x, work, k + c * CELL);
         c += 1;
     }
 }
@@ -65,7 +68,7 @@ pub fn add_overlaps(result: &mut [i64], out: usize, work: &[i64], k: usize, w: u
 {
     let mut r = 0;
     while r < w {
-        add_row(result, out + r * w * 5, work, k + r * 5, k, w);
+        add_row(result, out + r * w * ENTRY, work, k + r * CELL, k, w);
         r += 1;
     }
 }

@@ -2,7 +2,9 @@ use super::bank::is_alive;
 use super::bank::is_first;
 use super::blocks::write_block;
 use channel::layout::HEADER;
+use channel::layout::RECORD_HEAD;
 use channel::layout::record_size;
+use scalar::cells::CELL;
 ghost use mathlib.Core.Path.{_≡_};
 ghost use mathlib.Core.Bool.{cond};
 ghost use Prim.Native.Nat.{_+_, _*_, _<_, _≤_};
@@ -25,14 +27,14 @@ fn write_record(
     requires { ⌜ (b < count) × ((to + recordSize (side d) ≤ length (now result)) × Bank (now work) at d count) ⌝ }
     ensures { λ _. ⌜ now (result .exit) ≡ sets (now (result .entry)) to (recordOf (now (work .entry)) at d count (storeOf (now (work .entry)) at d b)) ⌝ }
 {
-    let n = d * d * 5;
+    let n = d * d * CELL;
     let s = at + b * (n + 2) + n;
     let low = work[s];
     let high = work[s + 1];
     result[to] = 0;
     result[to + 1] = low;
     result[to + 2] = high;
-    write_block(result, to + 3, work, at, d, count, b);
+    write_block(result, to + RECORD_HEAD, work, at, d, count, b);
 }
 
 // Write record n for branch b if it is the first to survive with its store; how many records there are then.

@@ -22,11 +22,12 @@ use Rattle.kraus.specs.Branch.{Store, Branch, branches}
 use Rattle.kraus.specs.Blocks.{survivors, stores, block}
 use Rattle.kraus.proofs.Hermitian as hermitian
 use Rattle.kraus.proofs.Effect.{effect, probabilities}
-use Rattle.channel.specs.Layout.{Block, side, bits, readBack}
+use Rattle.channel.specs.Layout.{Block, side, effectOf, bits, readBack}
+use Rattle.collect.proofs.Branching.{bits-word}
 use Rattle.demands.specs.Delivered.{circuitWords}
-use Rattle.demands.specs.Demands.{effectAt, IsChannel}
+use Rattle.demands.specs.Demands.{IsChannel}
 use Rattle.demands.proofs.Reading.{SameBlock, SameBlocks, range-map, back, chained, chained-perm, read-blocks}
-use Rattle.demands.proofs.Stores.{bits-word, some-stores}
+use Rattle.demands.proofs.Stores.{some-stores}
 use Rattle.demands.proofs.Accepted.{Sound, store-words, writable}
 
 some-map : {A B : Type 0} (p : B → Bool) (f : A → B) (xs : List A) → some p (map f xs) ≡ some (λ (a : A). p (f a)) xs
@@ -95,7 +96,7 @@ module _ {n m : ℕ} {σ : List ℕ} {gs : List Gate} {result work : ℕ} (s : S
   entry-is : (a : Block) (τ : Store) → SameBlock w a (blockOf τ) → (i j : ℕ) → i < side (2 ^ n) → j < side (2 ^ n) → a .entry (i * side (2 ^ n) + j) ≡ block bs τ i j
   entry-is a τ g i j p q = g .entries (i * w + j) (digits-lt p q) ∙ (λ x. block bs τ (digits-div i q x) (digits-mod i q x))
 
-  effect-is : (r c : ℕ) → r < d → c < d → (a : Block) (τ : Store) → SameBlock w a (blockOf τ) → effectAt (2 ^ n) r c a ≡ effect (2 ^ n) bs τ r c
+  effect-is : (r c : ℕ) → r < d → c < d → (a : Block) (τ : Store) → SameBlock w a (blockOf τ) → effectOf (2 ^ n) (a .entry) r c ≡ effect (2 ^ n) bs τ r c
   effect-is r c p q a τ g = sum-same exacts d _ _ (λ o h. entry-is a τ g (o * d + r) (o * d + c) (digits-lt h p) (digits-lt h q))
 
   pub is-channel : IsChannel n m (survivors (branches n σ gs)) (circuitWords n m σ gs ++ rest)
@@ -110,6 +111,6 @@ module _ {n m : ℕ} {σ : List ℕ} {gs : List Gate} {result work : ℕ} (s : S
         entry-is a τ g i j p q ∙ ap (λ (ρ : Store). block bs ρ i j) (sym (ap (bits m) (g .store) ∙ bits-word m τ h))) (readBack l) along along-words along-blocks;
     hermitian = agrees-all w blockOf _ (Word m) (λ a τ h g i j p q.
         entry-is a τ g i j p q ∙ hermitian.hermitian bs τ i j ∙ ap conj (sym (entry-is a τ g j i q p))) (readBack l) along along-words along-blocks;
-    effects = λ r c p q. agrees-fold w blockOf (effectAt d r c) (λ (τ : Store). effect d bs τ r c) (effect-is r c p q) (readBack l) along (exact .𝟘) along-blocks
+    effects = λ r c p q. agrees-fold w blockOf (λ (a : Block). effectOf d (a .entry) r c) (λ (τ : Store). effect d bs τ r c) (effect-is r c p q) (readBack l) along (exact .𝟘) along-blocks
         ∙ probabilities n m σ gs (s .valid-gates) along along-perm r c p q;
   }

@@ -20,6 +20,7 @@ use Rattle.channel.specs.Compare.{plain, compareOf}
 use Rattle.channel.specs.Claims.{look, entryOf, Comparable, places, visits, Writable, ReadsBack}
 use Rattle.channel.proofs.Stores.{before-irrefl, before-trans, before-apart}
 use Rattle.channel.proofs.Sorted.{Above, Sorted, keys, sorted}
+use Rattle.channel.proofs.Visits.{length-places}
 use Rattle.channel.proofs.Claims.{same-exactly}
 use Rattle.channel.proofs.RoundTrip.{round-trip}
 
@@ -173,11 +174,7 @@ module _ {d m n : ℕ} {block : ℕ → Block} (wr : Writable d m n block) (rest
   chained = places (channelWords d m n block ++ rest) n (natAbs (word (channelWords d m n block ++ rest) 3))
 
   pub chained-perm : Perm chained (range 0 n)
-  chained-perm = once-perm 0 n chained (count n (natAbs (word l 3))) (λ j k h. back .once j (omega arith))
-    where
-      count : (k at : ℕ) → length (places l k at) ≡ k
-      count zero at = refl
-      count (suc k) at = ap suc (count k (natAbs (word l at)))
+  chained-perm = once-perm 0 n chained (length-places l n (natAbs (word l 3))) (λ j k h. back .once j (omega arith))
 
   pub chained-below : All (λ (j : ℕ). j < n) chained
   chained-below = all-back (λ (j : ℕ). j < n) chained-perm (range-all _ 0 n (λ j k h. omega arith))

@@ -3,12 +3,12 @@ use mathlib.Core.Path.{_≡_, refl, sym, ap, _∙_, subst}
 use mathlib.Core.Bool.{Bool, true, false, cond, not, _||_, true≢false}
 use mathlib.Core.List.{List, [], _∷_, map, map-map}
 use Prim.Native.Nat.{ℕ, zero, suc, _+_, _*_, _/_, _%_, _^_, _<_, _≤_}
-use native.Mathlib.Nat.{pow-suc}
 use native.Mathlib.Omega.{arith}
 use lib.ListN.{length, getD}
 use lib.IntN.{pos}
 use Rattle.algebra.specs.Lists.{All, some, filterBy}
 use Rattle.algebra.specs.Words.{fromBits}
+use Rattle.algebra.proofs.Bits.{bits-below}
 use Rattle.algebra.proofs.Lists.{all-getD}
 use Rattle.algebra.proofs.Trace.{join, all-back}
 use Rattle.algebra.proofs.Perm.{Perm, perm-path, map-of}
@@ -22,26 +22,12 @@ use Rattle.channel.specs.Layout.{side, bits}
 use Rattle.channel.specs.WellFormed.{isDim}
 use Rattle.channel.specs.Claims.{Writable}
 use Rattle.collect.specs.Delivered.{blockAt}
+use Rattle.collect.proofs.Branching.{bits-word}
 use Rattle.demands.proofs.Reading.{Covers, range, range-map}
 
 -- ---- a store as a number
-bits-from : (τ : Store) → All (λ (b : ℕ). b < 2) τ → bits (length τ) (fromBits τ) ≡ τ
-bits-from [] h = refl
-bits-from (b ∷ τ) h =
-    let l : b < 2 = h .0 in
-    let low : (b + 2 * fromBits τ) % 2 ≡ b = omega arith in
-    let high : (b + 2 * fromBits τ) / 2 ≡ fromBits τ = omega arith in
-    (λ i. low i ∷ bits (length τ) (high i)) ∙ ap (λ (ρ : Store). b ∷ ρ) (bits-from τ (h .1))
-
-pub bits-word : (m : ℕ) (τ : Store) → Word m τ → bits m (fromBits τ) ≡ τ
-bits-word m τ (e, h) = subst (λ (k : ℕ). bits k (fromBits τ) ≡ τ) e (bits-from τ h)
-
-from-below : (τ : Store) → All (λ (b : ℕ). b < 2) τ → fromBits τ < 2 ^ length τ
-from-below [] h = omega arith
-from-below (b ∷ τ) h = omega (arith, h .0, from-below τ (h .1), pow-suc 2 (length τ))
-
 from-word : (m : ℕ) (τ : Store) → Word m τ → fromBits τ < 2 ^ m
-from-word m τ (e, h) = subst (λ (k : ℕ). fromBits τ < 2 ^ k) e (from-below τ h)
+from-word m τ (e, h) = subst (λ (k : ℕ). fromBits τ < 2 ^ k) e (bits-below τ h)
 
 -- ---- different places have different stores
 apart : (ss : List Store) → Distinct ss → (i j : ℕ) → i < length ss → j < length ss → getD ss i [] ≡ getD ss j [] → i ≡ j

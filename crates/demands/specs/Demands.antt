@@ -9,7 +9,7 @@ use lib.Dec.{eqb}
 use lib.ListN.{length, getD, take, drop}
 use lib.IntN.{ℤ, pos}
 use Rattle.algebra.specs.Lists.{All, every, some}
-use Rattle.algebra.specs.Sum.{sum, δ}
+use Rattle.algebra.specs.Sum.{δ}
 use Rattle.algebra.specs.Schedule.{Schedule}
 use Rattle.algebra.specs.Words.{fromBits}
 use Rattle.scalar.specs.Exact as scalar
@@ -19,7 +19,7 @@ use Rattle.kraus.specs.Branch.{Store, Branch, branches}
 use Rattle.kraus.specs.Blocks.{survivors, stores, block}
 use Rattle.circuit.specs.declared.limits.Limits.{Limits}
 use Rattle.channel.specs.declared.compare.Found.the-variants.{Same}
-use Rattle.channel.specs.Layout.{Block, side, bits, dimAt, bitsAt, countAt, readBack}
+use Rattle.channel.specs.Layout.{Block, side, effectOf, bits, dimAt, bitsAt, countAt, readBack}
 use Rattle.channel.specs.WellFormed.{wellFormed}
 use Rattle.channel.specs.Compare.{plain, compareOf}
 use Rattle.demands.specs.Delivered.{circuitWords}
@@ -59,10 +59,6 @@ abbrev pub Demand1 : Type 0
 Demand1 = (n m : ℕ) (σ : List ℕ) (l : Limits) (ws : List ℕ) (r w : List ℤ) → Judges n m σ l ws r w
 
 -- ---- demand 2: the channel delivered is that of the definitions, whatever the result held
--- entry (r, c) of a block's effect, in a channel of dimension d
-abbrev pub effectAt : ℕ → ℕ → ℕ → Block → Exact
-effectAt d r c b = sum exact d (λ (o : ℕ). b .entry ((o * d + r) * side d + (o * d + c)))
-
 -- of the result of an accepted call; bs are the surviving branches
 pub record IsChannel (n m : ℕ) (bs : List Branch) (l : List ℤ) : Type 0 where
   pub formed : wellFormed l ≡ true
@@ -77,7 +73,7 @@ pub record IsChannel (n m : ℕ) (bs : List Branch) (l : List ℤ) : Type 0 wher
   pub entries : All (λ (a : Block). (i j : ℕ) → i < side (2 ^ n) → j < side (2 ^ n) → a .entry (i * side (2 ^ n) + j) ≡ block bs (bits m (a .store)) i j) (readBack l)
   pub hermitian : All (λ (a : Block). (i j : ℕ) → i < side (2 ^ n) → j < side (2 ^ n) → a .entry (i * side (2 ^ n) + j) ≡ conj (a .entry (j * side (2 ^ n) + i))) (readBack l)
   -- the effects add up to the identity
-  pub effects : (r c : ℕ) → r < 2 ^ n → c < 2 ^ n → foldl (λ (x : Exact) (a : Block). exact ._⊕_ x (effectAt (2 ^ n) r c a)) (exact .𝟘) (readBack l) ≡ δ exact r c
+  pub effects : (r c : ℕ) → r < 2 ^ n → c < 2 ^ n → foldl (λ (x : Exact) (a : Block). exact ._⊕_ x (effectOf (2 ^ n) (a .entry) r c)) (exact .𝟘) (readBack l) ≡ δ exact r c
 
 abbrev pub Demand2 : Type 0
 Demand2 =

@@ -11,7 +11,7 @@ use Rattle.algebra.specs.Lists.{allBelow}
 use Rattle.algebra.specs.Words.{blocks}
 use Rattle.scalar.specs.Exact.{Exact, exact, inRange}
 use Rattle.scalar.specs.Cells.{cells}
-use Rattle.channel.specs.Layout.{headerSize, recordSize, recordAt, side, word, entryAt, dimAt, countAt}
+use Rattle.channel.specs.Layout.{headerSize, recordSize, recordAt, side, word, entryAt, effectPlace, effectOf, dimAt, countAt}
 use Rattle.channel.specs.WellFormed.{wellFormed}
 use Rattle.effects.specs.declared.Outcome.{Outcome}
 use Rattle.effects.specs.declared.Outcome.the-variants.{Written, ShortBuffer, TooLarge, Malformed}
@@ -26,14 +26,14 @@ outcomeNumber Malformed = 10
 -- ---- the effect of the block at `at`, of a channel of dimension d
 -- block entry (o·d + r, o·d + c), for i = r·d + c
 abbrev pub termPlace : ℕ → ℕ → ℕ → ℕ
-termPlace d i o = (o * d + i / d) * side d + (o * d + i % d)
+termPlace d i o = effectPlace d (i / d) (i % d) o
 
 abbrev pub term : List ℤ → ℕ → ℕ → ℕ → ℕ → Exact
 term l at d i o = entryAt l at (termPlace d i o)
 
 -- entry i, row · d + column, of the effect
 abbrev pub effectAt : List ℤ → ℕ → ℕ → ℕ → Exact
-effectAt l at d i = sum exact d (term l at d i)
+effectAt l at d i = effectOf d (entryAt l at) (i / d) (i % d)
 
 -- the first n partial sums from 0 up are in range
 abbrev pub partialsFit : ℕ → (ℕ → Exact) → Bool

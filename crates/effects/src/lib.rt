@@ -1,13 +1,13 @@
 // The effects of a channel's blocks. The sums are tried before the first word is written, so that a refusal leaves the result as it was.
-use channel::layout::CELL;
+use channel::layout::ENTRY;
 use channel::layout::HEADER;
 use channel::layout::RECORD_HEAD;
+use channel::layout::read_entry;
 use channel::layout::record_size;
 use channel::well_formed::judge;
 use scalar::Answer;
 use scalar::Scalar;
 use scalar::Verdict;
-use scalar::cells::read_cell;
 use scalar::cells::write_cell;
 use scalar::refused;
 ghost use mathlib.Core.Path.{_≡_};
@@ -19,7 +19,7 @@ ghost use lib.Seq.{sets};
 ghost use Rattle.scalar.specs.Calls.{accepted, refusedWith};
 ghost use Rattle.scalar.specs.declared.Verdict.the-variants.{TooLarge};
 ghost use Rattle.scalar.specs.Cells.{fill};
-ghost use Rattle.channel.specs.Layout.{headerSize, recordSize, word};
+ghost use Rattle.channel.specs.Layout.{headerSize, blockSize, recordSize, word};
 ghost use Rattle.effects.specs.Effects.{termPlace, term, effectAt, partialsFit, recordFits, sumsFit, relink, effectHeader, effectRecord, withRecords, outcomeOf, resultOf};
 ghost use Rattle.effects.specs.Readable.{isAccepted, Dim, Readable, Records, Linked};
 
@@ -31,7 +31,7 @@ pub enum Outcome {
     Malformed,
 }
 
-pub fn is_accepted(v: Verdict) -> bool
+fn is_accepted(v: Verdict) -> bool
     ensures { λ r. ⌜ r ≡ isAccepted v ⌝ }
 {
     match v {
@@ -42,7 +42,7 @@ pub fn is_accepted(v: Verdict) -> bool
 }
 
 // The place in a block of its entry (o·d + r, o·d + c), for i = r·d + c.
-pub fn term_place(d: usize, i: usize, o: usize) -> usize
+fn term_place(d: usize, i: usize, o: usize) -> usize
     requires { ⌜ Dim d × ((i < d * d) × (o < d)) ⌝ }
     ensures { λ r. ⌜ r ≡ termPlace d i o ⌝ }
 {
@@ -53,7 +53,7 @@ pub fn term_place(d: usize, i: usize, o: usize) -> usize
 }
 
 // Entry i of the effect of the block at `at`, or 9 where a partial sum leaves the range.
-pub fn sum_entry(s: &[i64], at: usize, d: usize, i: usize) -> Answer
+fn sum_entry(s: &[i64], at: usize, d: usize, i: usize) -> Answer
     requires { ⌜ Readable (now s) at d × (i < d * d) ⌝ }
     ensures { λ r. ⌜ r ≡ cond (partialsFit d (term (now (s .entry)) at d i)) (accepted (effectAt (now (s .entry)) at d i)) (refusedWith TooLarge) ⌝ }
 {
@@ -61,7 +61,7 @@ pub fn sum_entry(s: &[i64], at: usize, d: usize, i: usize) -> Answer
     let mut o = 0;
     while o < d {
         let k = term_place(d, i, o);
-        let x = read_cell(s, at + RECORD_HEAD + k * CELL);
+        let x = read_entry(s, at, k);
         let a = acc.add(x);
         let v = a.verdict;
         if !is_accepted(v) {
@@ -77,7 +77,7 @@ pub fn sum_entry(s: &[i64], at: usize, d: usize, i: usize) -> Answer
 }
 
 // Whether every partial sum of the block at `at` fits.
-pub fn record_fits(s: &[i64], at: usize, d: usize) -> bool
+fn record_fits(s: &[i64], at: usize, d: usize) -> bool
     requires { ⌜ Readable (now s) at d ⌝ }
     ensures { λ r. ⌜ r ≡ recordFits (now (s .entry)) at d ⌝ }
 {
@@ -95,7 +95,7 @@ pub fn record_fits(s: &[i64], at: usize, d: usize) -> bool
 }
 
 // Whether every partial sum of n blocks fits.
-pub fn sums_fit(s: &[i64], d: usize, n: usize) -> bool
+fn sums_fit(s: &[i64], d: usize, n: usize) -> bool
     requires { ⌜ Records (now s) d n ⌝ }
     ensures { λ r. ⌜ r ≡ sumsFit (now (s .entry)) d n ⌝ }
 {
@@ -111,7 +111,7 @@ pub fn sums_fit(s: &[i64], d: usize, n: usize) -> bool
 }
 
 // The index among the effects' records that matches an index of the channel's chain.
-pub fn relinked(d: usize, z: i64) -> i64
+fn relinked(d: usize, z: i64) -> i64
     requires { ⌜ Linked d z ⌝ }
     ensures { λ r. ⌜ r ≡ relink d z ⌝ }
 {
@@ -125,21 +125,21 @@ pub fn relinked(d: usize, z: i64) -> i64
 }
 
 // Write the d² entries of the effect of the block at `at` from `out` on.
-pub fn write_entries(s: &[i64], at: usize, d: usize, result: &mut [i64], out: usize)
-    requires { ⌜ Readable (now s) at d × ((recordFits (now s) at d ≡ true) × (out + d * d * 5 ≤ length (now result))) ⌝ }
+fn write_entries(s: &[i64], at: usize, d: usize, result: &mut [i64], out: usize)
+    requires { ⌜ Readable (now s) at d × ((recordFits (now s) at d ≡ true) × (out + blockSize d ≤ length (now result))) ⌝ }
     ensures { λ _. ⌜ now (result .exit) ≡ fill (now (result .entry)) out (d * d) (effectAt (now (s .entry)) at d) ⌝ }
 {
     let n = d * d;
     let mut i = 0;
     while i < n {
         let a = sum_entry(s, at, d, i);
-        write_cell(result, out + i * CELL, a.value);
+        write_cell(result, out + i * ENTRY, a.value);
         i += 1;
     }
 }
 
 // Write three words from `at` on.
-pub fn put_three(result: &mut [i64], at: usize, a: i64, b: i64, c: i64)
+fn put_three(result: &mut [i64], at: usize, a: i64, b: i64, c: i64)
     requires { ⌜ at + 3 ≤ length (now result) ⌝ }
     ensures { λ _. ⌜ now (result .exit) ≡ sets (now (result .entry)) at (a ∷ b ∷ c ∷ []) ⌝ }
 {
@@ -149,7 +149,7 @@ pub fn put_three(result: &mut [i64], at: usize, a: i64, b: i64, c: i64)
 }
 
 // Write the effect's record of the block at `at` from `out` on.
-pub fn write_record(s: &[i64], at: usize, d: usize, result: &mut [i64], out: usize)
+fn write_record(s: &[i64], at: usize, d: usize, result: &mut [i64], out: usize)
     requires { ⌜ Readable (now s) at d × ((recordFits (now s) at d ≡ true) × (out + recordSize d ≤ length (now result))) ⌝ }
     ensures { λ _. ⌜ now (result .exit) ≡ sets (now (result .entry)) out (effectRecord (now (s .entry)) d at) ⌝ }
 {
@@ -161,7 +161,7 @@ pub fn write_record(s: &[i64], at: usize, d: usize, result: &mut [i64], out: usi
 }
 
 // Write the effects' records of n blocks, in the channel's own order.
-pub fn write_records(s: &[i64], d: usize, n: usize, result: &mut [i64])
+fn write_records(s: &[i64], d: usize, n: usize, result: &mut [i64])
     requires { ⌜ Records (now s) d n × ((sumsFit (now s) d n ≡ true) × (headerSize + n * recordSize d ≤ length (now result))) ⌝ }
     ensures { λ _. ⌜ now (result .exit) ≡ withRecords (now (s .entry)) d n (now (result .entry)) ⌝ }
 {
@@ -175,8 +175,8 @@ pub fn write_records(s: &[i64], d: usize, n: usize, result: &mut [i64])
 }
 
 // Write the effects' header.
-pub fn write_header(s: &[i64], d: usize, result: &mut [i64])
-    requires { ⌜ Linked d (word (now s) 3) × ((4 ≤ length (now s)) × (4 ≤ length (now result))) ⌝ }
+fn write_header(s: &[i64], d: usize, result: &mut [i64])
+    requires { ⌜ Linked d (word (now s) 3) × ((headerSize ≤ length (now s)) × (headerSize ≤ length (now result))) ⌝ }
     ensures { λ _. ⌜ now (result .exit) ≡ sets (now (result .entry)) 0 (effectHeader (now (s .entry)) d) ⌝ }
 {
     let dim = s[0];

@@ -6,16 +6,13 @@ use Prim.Native.Nat.{ℕ, zero, suc, _<_}
 use native.Mathlib.Omega.{arith}
 use lib.Dec.{eqb, leb}
 use lib.ListN.{length, length-take}
-use lib.IntN.{ℤ, pos, negsuc}
 use borrow.Author.Tests.{eqb-true, leb-true}
-use Rattle.algebra.specs.Quadratic.{Pair, pair}
-use Rattle.algebra.specs.Dyadic.{frac}
-use Rattle.algebra.specs.Words.{eqℤ}
 use Rattle.algebra.specs.Sum.{listSum}
 use Rattle.algebra.specs.Lists.{allBelow, every}
 use Rattle.algebra.proofs.Tests.{and-split, all-at}
 use Rattle.algebra.proofs.Adjoint.{Star}
-use Rattle.scalar.specs.Exact.{Exact, exact, conj}
+use Rattle.scalar.specs.Exact.{exact, conj, equal}
+use Rattle.scalar.proofs.Equal.{equal-true}
 use Rattle.scalar.proofs.Exact.{exacts, conj-plus, conj-by, conj-𝟘, one-by, mul-lowest}
 use Rattle.gate.specs.Gate.{Gate, gate, rz, arity, qubits, unused, supported, valid}
 use Rattle.gate.specs.Operators.{Operator, operators, one, none, sameBits}
@@ -33,28 +30,6 @@ conjugation = record {
   one-mul = λ x y. one-by (exact ._⊗_ x y) (mul-lowest x y);
   one-one = refl;
 }
-
--- ---- a test of equality
-eqℤ-true : (x y : ℤ) → eqℤ x y ≡ true → x ≡ y
-eqℤ-true (pos m) (pos n) e = ap pos (eqb-true m n e)
-eqℤ-true (pos m) (negsuc n) e = absurd (true≢false (sym e))
-eqℤ-true (negsuc m) (pos n) e = absurd (true≢false (sym e))
-eqℤ-true (negsuc m) (negsuc n) e = ap negsuc (eqb-true m n e)
-
-module _ {A : Type 0} (eq : A → A → Bool) where
-  abbrev eqPair : Pair A → Pair A → Bool
-  eqPair x y = eq (x .re) (y .re) && eq (x .im) (y .im)
-
-  eqPair-true : ((a b : A) → eq a b ≡ true → a ≡ b) → (x y : Pair A) → eqPair x y ≡ true → x ≡ y
-  eqPair-true h x y e = let (p, q) = and-split (eq (x .re) (y .re)) (eq (x .im) (y .im)) e in ap₂ pair (h (x .re) (y .re) p) (h (x .im) (y .im) q)
-
-abbrev pub equal : Exact → Exact → Bool
-equal x y = eqPair (eqPair eqℤ) (x .num) (y .num) && eqb (x .exp) (y .exp)
-
-pub equal-true : (x y : Exact) → equal x y ≡ true → x ≡ y
-equal-true x y e =
-    let (p, q) = and-split (eqPair (eqPair eqℤ) (x .num) (y .num)) (eqb (x .exp) (y .exp)) e in
-    ap₂ frac (eqPair-true (eqPair eqℤ) (eqPair-true eqℤ eqℤ-true) (x .num) (y .num) p) (eqb-true (x .exp) (y .exp) q)
 
 -- ---- a test on all basis states, at one
 every-append : {A : Type 0} (p : A → Bool) (xs ys : List A) → every p (xs ++ ys) ≡ true → (every p xs ≡ true) × (every p ys ≡ true)

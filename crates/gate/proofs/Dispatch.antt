@@ -2,21 +2,21 @@
 use mathlib.Core.Path.{_≡_, refl, sym, ap, _∙_, subst}
 use mathlib.Core.Bool.{Bool, true, false, not, _&&_, _||_, or-false, true≢false}
 use mathlib.Core.List.{List, [], _∷_}
-use Prim.Native.Nat.{ℕ, suc, _≤_, _<_}
+use Prim.Native.Nat.{ℕ, _≤_, _<_}
 use native.Mathlib.Omega.{arith}
 use lib.Dec.{T, eqb, leb, ltb}
 use lib.ListN.{length, getD}
 use borrow.Author.Tests.{leb-true, ltb-true, eqb-true, eq-eqb, not-true}
-use Rattle.algebra.specs.Lists.{All, allBelow, every}
+use Rattle.algebra.specs.Lists.{allBelow, every}
 use Rattle.algebra.proofs.Tests.{exhaust, and-split, holds-true}
 use Rattle.scalar.specs.Exact.{exact}
 use Rattle.gate.specs.Gate.{Gate, gate, arity, qubits, bits, elem, distinct, rz, formed, placed, supported, splits, valid}
 use Rattle.gate.specs.Operators.{Small, operator, operators, noUnitary, controlled, swapped}
 use Rattle.gate.specs.Embed.{embed}
-use Rattle.gate.specs.declared.judge.GateVerdict.the-variants.{Fine, Malformed, Operand, Unsupported}
+use Rattle.gate.specs.declared.judge.GateVerdict.the-variants.{Fine}
 use Rattle.gate.specs.Verdict.{firstFault, onQubits, gateVerdict, unitaryVerdict}
 use Rattle.gate.specs.Entries.{unitaryOf, targetOf, operatorAt, gateEntry, Ready, Apart2, Apart3}
-use Rattle.gate.proofs.Kind.{each}
+use Rattle.gate.proofs.Gate.{elem-in}
 use Rattle.gate.proofs.Questions.{on-one, on-two, on-three}
 
 -- ---- kinds
@@ -40,10 +40,10 @@ no-split m ks = go (eqb m 12) (eqb m 13) (elem m ks)
 
 -- the controlled kinds have a target
 pub target-two : (m : ℕ) → elem m (8 ∷ 9 ∷ 20 ∷ 25 ∷ []) ≡ true → elem m (8 ∷ 10 ∷ 9 ∷ 11 ∷ 20 ∷ 25 ∷ []) ≡ true
-target-two = each (λ (m : ℕ). elem m (8 ∷ 10 ∷ 9 ∷ 11 ∷ 20 ∷ 25 ∷ []) ≡ true) (8 ∷ 9 ∷ 20 ∷ 25 ∷ []) (refl, (refl, (refl, (refl, tt))))
+target-two = elem-in (λ (m : ℕ). elem m (8 ∷ 10 ∷ 9 ∷ 11 ∷ 20 ∷ 25 ∷ []) ≡ true) (8 ∷ 9 ∷ 20 ∷ 25 ∷ []) (refl, (refl, (refl, (refl, tt))))
 
 pub target-three : (m : ℕ) → elem m (10 ∷ 11 ∷ []) ≡ true → elem m (8 ∷ 10 ∷ 9 ∷ 11 ∷ 20 ∷ 25 ∷ []) ≡ true
-target-three = each (λ (m : ℕ). elem m (8 ∷ 10 ∷ 9 ∷ 11 ∷ 20 ∷ 25 ∷ []) ≡ true) (10 ∷ 11 ∷ []) (refl, (refl, tt))
+target-three = elem-in (λ (m : ℕ). elem m (8 ∷ 10 ∷ 9 ∷ 11 ∷ 20 ∷ 25 ∷ []) ≡ true) (10 ∷ 11 ∷ []) (refl, (refl, tt))
 
 module _ {n : ℕ} {g : Gate} {j : ℕ} (ready : Ready n g j) where
   kind-low : g .kind < 27
@@ -117,20 +117,20 @@ module _ (n j r s : ℕ) where
     Entry qs u m = j < length (operators (gate m a b c k)) → embed exact n qs u r s ≡ gateEntry n (gate m a b c k) j r s
 
     pub split-entry : (m : ℕ) → elem m (12 ∷ 13 ∷ []) ≡ true → embed exact n (a ∷ []) (operatorAt (gate m 0 0 0 0) j .small) r s ≡ gateEntry n (gate m a b c k) j r s
-    split-entry = each (λ (m : ℕ). embed exact n (a ∷ []) (operatorAt (gate m 0 0 0 0) j .small) r s ≡ gateEntry n (gate m a b c k) j r s) (12 ∷ 13 ∷ []) (refl, (refl, tt))
+    split-entry = elem-in (λ (m : ℕ). embed exact n (a ∷ []) (operatorAt (gate m 0 0 0 0) j .small) r s ≡ gateEntry n (gate m a b c k) j r s) (12 ∷ 13 ∷ []) (refl, (refl, tt))
 
     pub split-two : (m : ℕ) → elem m (12 ∷ 13 ∷ []) ≡ true → j < length (operators (gate m a b c k)) → j < 2
-    split-two = each (λ (m : ℕ). j < length (operators (gate m a b c k)) → j < 2) (12 ∷ 13 ∷ []) ((λ l. l), ((λ l. l), tt))
+    split-two = elem-in (λ (m : ℕ). j < length (operators (gate m a b c k)) → j < 2) (12 ∷ 13 ∷ []) ((λ l. l), ((λ l. l), tt))
 
     pub unitary-entry : (m : ℕ) → elem m (2 ∷ 3 ∷ 4 ∷ 5 ∷ 6 ∷ 7 ∷ 0 ∷ 1 ∷ 15 ∷ 16 ∷ []) ≡ true → Entry (a ∷ []) (unitaryOf m k) m
-    unitary-entry = each (λ (m : ℕ). Entry (a ∷ []) (unitaryOf m k) m) (2 ∷ 3 ∷ 4 ∷ 5 ∷ 6 ∷ 7 ∷ 0 ∷ 1 ∷ 15 ∷ 16 ∷ [])
+    unitary-entry = elem-in (λ (m : ℕ). Entry (a ∷ []) (unitaryOf m k) m) (2 ∷ 3 ∷ 4 ∷ 5 ∷ 6 ∷ 7 ∷ 0 ∷ 1 ∷ 15 ∷ 16 ∷ [])
         (o 2, (o 3, (o 4, (o 5, (o 6, (o 7, (o 0, (o 1, (o 15, (o 16, tt))))))))))
       where
         o : (m : ℕ) → j < 1 → embed exact n (a ∷ []) (unitaryOf m k) r s ≡ embed exact n (a ∷ []) (getD (operator (unitaryOf m k) 0 ∷ []) j (operator noUnitary 0) .small) r s
         o m = only-one (a ∷ []) (unitaryOf m k)
 
     pub controlled-entry : (m : ℕ) → elem m (8 ∷ 9 ∷ 20 ∷ 25 ∷ []) ≡ true → Entry (a ∷ b ∷ []) (controlled (targetOf m)) m
-    controlled-entry = each (λ (m : ℕ). Entry (a ∷ b ∷ []) (controlled (targetOf m)) m) (8 ∷ 9 ∷ 20 ∷ 25 ∷ []) (o 8, (o 9, (o 20, (o 25, tt))))
+    controlled-entry = elem-in (λ (m : ℕ). Entry (a ∷ b ∷ []) (controlled (targetOf m)) m) (8 ∷ 9 ∷ 20 ∷ 25 ∷ []) (o 8, (o 9, (o 20, (o 25, tt))))
       where
         o : (m : ℕ) → j < 1 → embed exact n (a ∷ b ∷ []) (controlled (targetOf m)) r s ≡ embed exact n (a ∷ b ∷ []) (getD (operator (controlled (targetOf m)) 0 ∷ []) j (operator noUnitary 0) .small) r s
         o m = only-one (a ∷ b ∷ []) (controlled (targetOf m))
@@ -139,7 +139,7 @@ module _ (n j r s : ℕ) where
     swap-entry m e = subst (Entry (a ∷ b ∷ []) swapped) (sym e) (only-one (a ∷ b ∷ []) swapped)
 
     pub twice-controlled-entry : (m : ℕ) → elem m (10 ∷ 11 ∷ []) ≡ true → Entry (a ∷ b ∷ c ∷ []) (controlled (controlled (targetOf m))) m
-    twice-controlled-entry = each (λ (m : ℕ). Entry (a ∷ b ∷ c ∷ []) (controlled (controlled (targetOf m))) m) (10 ∷ 11 ∷ [])
+    twice-controlled-entry = elem-in (λ (m : ℕ). Entry (a ∷ b ∷ c ∷ []) (controlled (controlled (targetOf m))) m) (10 ∷ 11 ∷ [])
         (only-one (a ∷ b ∷ c ∷ []) (controlled (controlled (targetOf 10))), (only-one (a ∷ b ∷ c ∷ []) (controlled (controlled (targetOf 11))), tt))
 
     pub controlled-swap-entry : (m : ℕ) → m ≡ 26 → Entry (a ∷ b ∷ c ∷ []) (controlled swapped) m

@@ -17,9 +17,10 @@ use Rattle.algebra.proofs.Sum.{listSum-map}
 use Rattle.algebra.proofs.Adjoint.{dot}
 use Rattle.algebra.proofs.Quadratic.{ℤ√2i}
 use Rattle.algebra.proofs.Dyadic.{fits-low, fits-grow}
-use Rattle.scalar.specs.Exact.{Number, Exact, exact, within, narrow, wellFormed, maxNumerator, maxExponent, narrowNumerator, narrowExponent}
+use Rattle.scalar.specs.Exact.{Exact, exact, narrow, wellFormed, maxNumerator, maxExponent, narrowNumerator, narrowExponent}
 use Rattle.scalar.specs.Inner.{Within, scaled, Coords, Room}
 use Rattle.scalar.proofs.Exact.{exactHalving, exacts}
+use Rattle.scalar.proofs.Sizes.{of-within}
 use Rattle.scalar.proofs.Align.{widen, power-within, scaled-none}
 use Rattle.gate.specs.Gate.{Gate, qubits, valid, weight}
 use Rattle.gate.specs.Operators.{Operator, operators}
@@ -82,9 +83,6 @@ pub record Enough (E n : ℕ) (bs : List Branch) : Type 0 where
   pub effects : (xs : List Branch) → Sub xs bs → (r c k : ℕ) → r < 2 ^ n → c < 2 ^ n → k ≤ 2 ^ n
       → Fitting (E + E) (sum exact k (λ (o : ℕ). gather (exact ._⊕_) (overlap (o * 2 ^ n + r) (o * 2 ^ n + c)) (exact .𝟘) xs))
 
-within-true : (m : ℕ) (z : Number) → Within m z → within m z ≡ true
-within-true m z w = λ i. ((le-leb _ m (w .w0) i && le-leb _ m (w .w1) i) && le-leb _ m (w .w2) i) && le-leb _ m (w .w3) i
-
 -- the numbers that the ranges ask for
 pub record Suits (E : ℕ) : Type 0 where
   pub narrow-exponent : E ≤ narrowExponent
@@ -95,8 +93,8 @@ pub record Suits (E : ℕ) : Type 0 where
 module _ (E : ℕ) (suits : Suits E) where
   kraus : (e : ℕ) (x : Exact) → e ≤ E → Entry e x → Kraus e x
   kraus e x l h = record {
-    well-formed = λ i. (within-true maxNumerator (x .num) (widen (2 ^ E) maxNumerator (x .num) wide unit) i && le-leb (x .exp) maxExponent (omega (arith, short)) i) && h .lowest i;
-    is-narrow = λ i. within-true narrowNumerator (x .num) (widen (2 ^ E) narrowNumerator (x .num) (suits .narrow-numerator) unit) i && le-leb (x .exp) narrowExponent short i;
+    well-formed = λ i. (of-within maxNumerator (x .num) (widen (2 ^ E) maxNumerator (x .num) wide unit) i && le-leb (x .exp) maxExponent (omega (arith, short)) i) && h .lowest i;
+    is-narrow = λ i. of-within narrowNumerator (x .num) (widen (2 ^ E) narrowNumerator (x .num) (suits .narrow-numerator) unit) i && le-leb (x .exp) narrowExponent short i;
     coords = h .coords;
   }
     where
@@ -114,7 +112,7 @@ module _ (E : ℕ) (suits : Suits E) where
 
 fitting : (e s : ℕ) (x : Exact) → e ≤ 56 → s ≤ maxNumerator → Sum e s x → Fitting e x
 fitting e s x l m h = record {
-  well-formed = λ i. (within-true maxNumerator (x .num) (widen s maxNumerator (x .num) m plain) i && le-leb (x .exp) maxExponent (omega (arith, h .exponent)) i) && h .lowest i;
+  well-formed = λ i. (of-within maxNumerator (x .num) (widen s maxNumerator (x .num) m plain) i && le-leb (x .exp) maxExponent (omega (arith, h .exponent)) i) && h .lowest i;
   room = λ t k. record { exponent = omega (arith, h .exponent); size = widen s (2 ^ 61) (scaled (x .num) (t - x .exp)) (omega arith) (h .sizes t k) };
 }
   where

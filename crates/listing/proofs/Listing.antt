@@ -1,11 +1,11 @@
 -- Laws of the listing's lines.
 use mathlib.Core.Path.{_≡_, refl, sym, ap, _∙_}
-use mathlib.Core.Bool.{Bool, true, false, cond, _&&_, true≢false}
+use mathlib.Core.Bool.{Bool, true, false, cond, _&&_}
 use mathlib.Core.List.{List, [], _∷_, _++_, map}
 use Prim.Native.Nat.{ℕ, zero, suc, _+_, _*_, _-_, _/_, _%_, _^_, _<_, _≤_}
 use native.Mathlib.Numerals.{add-one}
 use native.Mathlib.Omega.{arith}
-use lib.IntN.{ℤ, pos, negsuc, natAbs}
+use lib.IntN.{ℤ, pos, natAbs}
 use lib.Signed.{mag}
 use mir.Syntax.{w64}
 use mir.Val.{toZ, ofZ}
@@ -47,10 +47,6 @@ bits-end m s h = let e : m ≡ 0 = omega arith in ap (λ (k : ℕ). bitBytes k s
 -- a word, as it is read
 pub spaced-word : {p q : Page} (z : ℤ) → mag z < 2 ^ 63 → Written p (spaced (toZ w64 (ofZ w64 z))) q → Written p (spaced z) q
 spaced-word z h w = text (ap spaced (reads z h)) w
-
-pub natural : (n : ℕ) (z : ℤ) → upTo n z ≡ true → z ≡ pos (natAbs z)
-natural n (pos a) e = refl
-natural n (negsuc a) e = absurd (true≢false (sym e))
 
 module _ (r c : ℕ) (x : Exact) where
   pub entry-zero : isZero (x .num) ≡ true → [] ≡ entryLine r c x

@@ -4,8 +4,7 @@ use super::page::put_all;
 use super::page::put_decimal;
 use super::page::put_natural;
 use super::page::put_spaced;
-use channel::layout::CELL;
-use channel::layout::RECORD_HEAD;
+use channel::layout::entry_place;
 use channel::layout::follow;
 use channel::layout::read_store;
 use channel::well_formed::judge;
@@ -15,7 +14,7 @@ ghost use mathlib.Core.Bool.{true};
 ghost use Prim.Native.Nat.{_+_, _*_, _≤_};
 ghost use lib.ListN.{length};
 ghost use Rattle.algebra.specs.Lists.{concatMap};
-ghost use Rattle.scalar.specs.Cells.{cellAt, cellWords, exponentAt, wellFormedAt};
+ghost use Rattle.scalar.specs.Cells.{cellSize, cellAt, cellWords, exponentAt, wellFormedAt};
 ghost use Rattle.channel.specs.Layout.{recordSize, side, entryAt, dimAt, bitsAt, countAt, readBack};
 ghost use Rattle.channel.specs.WellFormed.{storeOk, entriesOk, wellFormed};
 ghost use Rattle.listing.specs.Page.{page, write, Written};
@@ -49,7 +48,7 @@ fn put_store(out: &mut [u8], at: usize, store: u64, m: u32) -> usize
 
 // The five numbers of a cell, each after a space.
 fn put_cell(out: &mut [u8], at: usize, s: &[i64], place: usize) -> usize
-    requires { ⌜ (place + 5 ≤ length (now s)) × (exponentAt (now s) place ≡ true) ⌝ }
+    requires { ⌜ (place + cellSize ≤ length (now s)) × (exponentAt (now s) place ≡ true) ⌝ }
     ensures { λ r. ⌜ Written (page (now (out .entry)) at) (concatMap spaced (cellWords (cellAt (now (s .entry)) place))) (page (now (out .exit)) r) ⌝ }
 {
     let a = put_spaced(out, at, s[place]);
@@ -61,7 +60,7 @@ fn put_cell(out: &mut [u8], at: usize, s: &[i64], place: usize) -> usize
 
 // The line of an entry that is not zero.
 fn put_entry(out: &mut [u8], at: usize, s: &[i64], place: usize, row: usize, column: usize) -> usize
-    requires { ⌜ (place + 5 ≤ length (now s)) × (wellFormedAt (now s) place ≡ true) ⌝ }
+    requires { ⌜ (place + cellSize ≤ length (now s)) × (wellFormedAt (now s) place ≡ true) ⌝ }
     ensures { λ r. ⌜ Written (page (now (out .entry)) at) (entryLine row column (cellAt (now (s .entry)) place)) (page (now (out .exit)) r) ⌝ }
 {
     if zero_at(s, place) {
@@ -82,7 +81,7 @@ fn put_entries(out: &mut [u8], at: usize, s: &[i64], place: usize, w: usize) -> 
     let mut p = at;
     let mut k = 0;
     while k < n {
-        p = put_entry(out, p, s, place + RECORD_HEAD + k * CELL, k / w, k % w);
+        p = put_entry(out, p, s, entry_place(place, k), k / w, k % w);
         k += 1;
     }
     p

@@ -1,5 +1,5 @@
 -- Equality up to a global phase is what it says: y = u·x for some number u of modulus 1, whichever entry is the pivot.
-use mathlib.Core.Path.{_≡_, refl, sym, ap, ap₂, _∙_, subst}
+use mathlib.Core.Path.{_≡_, refl, sym, ap, _∙_, subst}
 use mathlib.Core.Bool.{Bool, true, false, cond, _&&_}
 use mathlib.Core.Logic.{_≢_, _↔_, _⊎_, inl, inr, ⊎-elim}
 use mathlib.Core.List.{List}
@@ -7,28 +7,26 @@ use Prim.Native.Nat.{ℕ, zero, suc, _+_, _*_, _-_, _<_, _≤_}
 use native.Mathlib.Numerals.{add-one}
 use native.Mathlib.Decide.{ℕ-discrete}
 use native.Mathlib.Omega.{arith}
-use lib.Dec.{T, eqb}
+use lib.Dec.{T}
 use lib.IntN.{ℤ}
-use borrow.Author.Tests.{eqb-true, eq-eqb}
+use borrow.Author.Tests.{eq-eqb}
 use Rattle.algebra.specs.Ops.{Ops}
-use Rattle.algebra.specs.Quadratic.{Pair, pair, conjugate}
-use Rattle.algebra.specs.Dyadic.{frac}
-use Rattle.algebra.specs.Words.{eqℤ}
+use Rattle.algebra.specs.Quadratic.{conjugate}
 use Rattle.algebra.proofs.Tests.{and-split, all-at, all-by, test-same}
 use Rattle.algebra.proofs.Semi.{Semi, mul-four, mul-left}
 use Rattle.algebra.proofs.Quadratic.{ℤ√2i}
 use Rattle.algebra.proofs.Dyadic.{low-zero}
 use Rattle.algebra.proofs.Domain.{ℤ√2i-domain, zero-fraction, cancel-fraction}
-use Rattle.algebra.proofs.Signed.{eqℤ-true, eqℤ-refl}
-use Rattle.scalar.specs.Exact.{Exact, exact, Number, numbers, root2, conj, lowest}
+use Rattle.scalar.specs.Exact.{Exact, exact, Number, numbers, root2, conj, lowest, equal}
 use Rattle.scalar.specs.Cells.{isZero}
 use Rattle.scalar.proofs.Cell.{zero-is}
+use Rattle.scalar.proofs.Equal.{equal-true, equal-of}
 use Rattle.scalar.proofs.Exact.{exacts, exactHalving, conj-by, conj-conj, is-lowest, mul-lowest}
 use Rattle.scalar.specs.declared.Verdict.the-variants.{TooLarge, Malformed}
 use Rattle.matrix.specs.declared.Phase.the-variants.{Equivalent, Different}
 use Rattle.matrix.specs.declared.PhaseAnswer.{PhaseAnswer}
 use Rattle.matrix.proofs.Terms.{zero-by}
-use Rattle.matrix.specs.Phase.{_·_, samePair, same, zeroMatrix, equalModulus, equalRatios, inPhaseAt, firstNot, pivot, inPhase, answered, refusedPhase, entryOf, wellFormedMatrix, narrowMatrix, phaseAnswer, GlobalPhase, Meaning}
+use Rattle.matrix.specs.Phase.{_·_, zeroMatrix, equalModulus, equalRatios, inPhaseAt, firstNot, pivot, inPhase, answered, refusedPhase, entryOf, wellFormedMatrix, narrowMatrix, phaseAnswer, GlobalPhase, Meaning}
 
 -- ---- with x·b = y·a and p·b = q·a
 module _ (𝓡 : Semi) (bar : 𝓡 .R → 𝓡 .R) (bar-mul : (x y : 𝓡 .R) → bar (𝓡 .ops ._⊗_ x y) ≡ 𝓡 .ops ._⊗_ (bar x) (bar y)) where
@@ -48,17 +46,6 @@ module _ (𝓡 : Semi) (bar : 𝓡 .R → 𝓡 .R) (bar-mul : (x y : 𝓡 .R) �
       spread u v = mul-four 𝓡 u (bar u) v (bar v) ∙ ap (λ (z : R). (u ⊗ v) ⊗ z) (sym (bar-mul u v))
 
 -- ---- the tests
-pair-true : {A : Type 0} (eq : A → A → Bool) → ((a b : A) → eq a b ≡ true → a ≡ b) → (x y : Pair A) → samePair eq x y ≡ true → x ≡ y
-pair-true eq sound x y e = let p = and-split (eq (x .re) (y .re)) (eq (x .im) (y .im)) e in ap₂ pair (sound (x .re) (y .re) (p .0)) (sound (x .im) (y .im) (p .1))
-
-pub same-true : (x y : Exact) → same x y ≡ true → x ≡ y
-same-true x y e =
-    let p = and-split (samePair (samePair eqℤ) (x .num) (y .num)) (eqb (x .exp) (y .exp)) e in
-    ap₂ frac (pair-true (samePair eqℤ) (pair-true eqℤ eqℤ-true) (x .num) (y .num) (p .0)) (eqb-true (x .exp) (y .exp) (p .1))
-
-pub same-of : (x y : Exact) → x ≡ y → same x y ≡ true
-same-of x y e = ap (same x) (sym e) ∙ (λ i. ((eqℤ-refl (x .num .re .re) i && eqℤ-refl (x .num .re .im) i) && (eqℤ-refl (x .num .im .re) i && eqℤ-refl (x .num .im .im) i)) && eq-eqb (x .exp) (x .exp) refl i)
-
 zero-false : (z : Number) → isZero z ≡ false → z ≢ numbers .𝟘
 zero-false z e f = subst T (sym (ap isZero f) ∙ e) tt
 
@@ -88,8 +75,8 @@ module _ (n : ℕ) (x y : ℕ → Exact) where
         a = x i;
         b = y i;
         nonzero = h;
-        modulus = same-true (x i · conj (x i)) (y i · conj (y i)) (p .0);
-        ratio = λ j l. same-true (x j · y i) (y j · x i) (all-at n (λ (j : ℕ). same (x j · y i) (y j · x i)) (p .1) j l);
+        modulus = equal-true (x i · conj (x i)) (y i · conj (y i)) (p .0);
+        ratio = λ j l. equal-true (x j · y i) (y j · x i) (all-at n (λ (j : ℕ). equal (x j · y i) (y j · x i)) (p .1) j l);
       }
 
   pub phase-at : GlobalPhase n x y → (i : ℕ) → i < n → inPhaseAt n x y i ≡ true
@@ -97,11 +84,11 @@ module _ (n : ℕ) (x y : ℕ → Exact) where
       let a = g .a in
       let b = g .b in
       let m : equalModulus (x i) (y i) ≡ true =
-      same-of (x i · conj (x i)) (y i · conj (y i))
+      equal-of (x i · conj (x i)) (y i · conj (y i))
       (cancel-by (a · conj a) (x i) (conj (x i)) (y i) (conj (y i)) (modulus-by a (g .nonzero)) (moduli exacts conj conj-by (x i) (y i) a b (g .ratio i l) (g .modulus))) in
       let r : equalRatios n x y (x i) (y i) ≡ true =
-      all-by n (λ (j : ℕ). same (x j · y i) (y j · x i))
-      (λ j k. same-of (x j · y i) (y j · x i) (cancel-by a (x j) (y i) (y j) (x i) (g .nonzero) (cross exacts conj conj-by (x j) (y j) (x i) (y i) a b (g .ratio j k) (g .ratio i l)))) in
+      all-by n (λ (j : ℕ). equal (x j · y i) (y j · x i))
+      (λ j k. equal-of (x j · y i) (y j · x i) (cancel-by a (x j) (y i) (y j) (x i) (g .nonzero) (cross exacts conj conj-by (x j) (y j) (x i) (y i) a b (g .ratio j k) (g .ratio i l)))) in
       (λ t. m t && r t)
 
   pub zero-phase : zeroMatrix n x ≡ true → GlobalPhase n x y → zeroMatrix n y ≡ true

@@ -2,18 +2,13 @@
 use mathlib.Core.Path.{_≡_, refl, ap, _∙_}
 use mathlib.Core.Bool.{Bool, true, false, _&&_, _||_}
 use mathlib.Core.List.{List}
-use Prim.Native.Nat.{ℕ, _*_, _≤_, _<_, _^_}
-use lib.Dec.{eqb, leb}
+use Prim.Native.Nat.{ℕ, _*_, _≤_, _<_}
+use lib.Dec.{leb}
 use lib.ListN.{length}
 use lib.IntN.{ℤ, natAbs}
-use lib.Signed.{mag}
-use mir.Syntax.{w64}
-use mir.Val.{ofZ}
 use Rattle.algebra.specs.Lists.{allBelow}
-use Rattle.algebra.specs.Words.{eqℤ}
 use Rattle.algebra.proofs.Tests.{and-split, all-at}
 use Rattle.algebra.proofs.Parts.{abs-neg}
-use Rattle.algebra.proofs.Signed.{eq-words}
 use Rattle.scalar.specs.declared.Answer.{Answer}
 use Rattle.scalar.specs.Exact.{Exact, conj, within, maxNumerator, maxExponent, narrowNumerator, narrowExponent, wellFormed, narrow}
 use Rattle.scalar.specs.Calls.{value, scalarOf, mulAnswer, conjAnswer}
@@ -54,9 +49,6 @@ operands l n h f g =
     both i p = and-split (exponentAt l (i * 5)) (wellFormed (entryOf l i)) (all-at n (λ (i : ℕ). wellFormedAt l (i * 5)) f i p)
 
 -- ---- tests
-pub eq-word : (x y : ℤ) → mag x < 2 ^ 63 → mag y < 2 ^ 63 → eqb (ofZ w64 x) (ofZ w64 y) ≡ eqℤ x y
-eq-word x y h k = eq-words x y (record { sfits = h }) (record { sfits = k })
-
 pub or-false : (b : Bool) → b ≡ (b || false)
 or-false true = refl
 or-false false = refl

@@ -7,12 +7,10 @@ use Prim.Native.Nat.{ℕ, zero, suc, _*_, _<_}
 use lib.Dec.{eqb}
 use lib.ListN.{length}
 use lib.IntN.{ℤ}
-use Rattle.algebra.specs.Quadratic.{Pair}
 use Rattle.algebra.specs.Lists.{allBelow, some}
-use Rattle.algebra.specs.Words.{eqℤ}
 use Rattle.scalar.specs.declared.Verdict.{Verdict}
 use Rattle.scalar.specs.declared.Verdict.the-variants.{Accepted, TooLarge, Malformed}
-use Rattle.scalar.specs.Exact.{Exact, exact, conj, narrow}
+use Rattle.scalar.specs.Exact.{Exact, exact, conj, narrow, equal}
 use Rattle.scalar.specs.Cells.{cellSize, cellAt, wellFormedAt, isZero}
 use Rattle.matrix.specs.declared.Phase.the-variants.{Equivalent, Different}
 use Rattle.matrix.specs.declared.PhaseAnswer.{PhaseAnswer}
@@ -38,23 +36,16 @@ infixl 70 _·_
 abbrev pub _·_ : Exact → Exact → Exact
 _·_ = exact ._⊗_
 
--- equal numbers have equal words, since lowest forms are unique
-abbrev pub samePair : {A : Type 0} → (A → A → Bool) → Pair A → Pair A → Bool
-samePair eq x y = eq (x .re) (y .re) && eq (x .im) (y .im)
-
-abbrev pub same : Exact → Exact → Bool
-same x y = samePair (samePair eqℤ) (x .num) (y .num) && eqb (x .exp) (y .exp)
-
 abbrev pub zeroMatrix : ℕ → (ℕ → Exact) → Bool
 zeroMatrix n x = allBelow n (λ (i : ℕ). isZero (x i .num))
 
 -- |a| = |b|
 abbrev pub equalModulus : Exact → Exact → Bool
-equalModulus a b = same (a · conj a) (b · conj b)
+equalModulus a b = equal (a · conj a) (b · conj b)
 
 -- each pair is in the ratio of a to b
 abbrev pub equalRatios : ℕ → (ℕ → Exact) → (ℕ → Exact) → Exact → Exact → Bool
-equalRatios n x y a b = allBelow n (λ (j : ℕ). same (x j · b) (y j · a))
+equalRatios n x y a b = allBelow n (λ (j : ℕ). equal (x j · b) (y j · a))
 
 -- with entry i as the pivot
 abbrev pub inPhaseAt : ℕ → (ℕ → Exact) → (ℕ → Exact) → ℕ → Bool

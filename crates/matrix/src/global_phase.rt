@@ -14,7 +14,7 @@ ghost use Rattle.algebra.specs.Lists.{allBelow};
 ghost use Rattle.scalar.specs.Exact.{conj, narrow};
 ghost use Rattle.scalar.specs.Calls.{value, scalarOf};
 ghost use Rattle.scalar.specs.Cells.{wellFormedAt};
-ghost use Rattle.matrix.specs.Phase.{_·_, same, isDim, entryOf, wellFormedMatrix, equalRatios, pivot, inPhaseAt, inPhase, answered, refusedPhase, phaseAnswer};
+ghost use Rattle.matrix.specs.Phase.{_·_, isDim, entryOf, wellFormedMatrix, equalRatios, pivot, inPhaseAt, inPhase, answered, refusedPhase, phaseAnswer};
 ghost use Rattle.matrix.specs.Operands.{Operand, Operands};
 
 // ---- the questions
@@ -67,14 +67,6 @@ fn all_narrow(s: &[i64], n: usize) -> bool
 }
 
 // ---- the rule
-fn same_scalar(x: Scalar, y: Scalar) -> bool
-    ensures { λ r. ⌜ r ≡ same (value x) (value y) ⌝ }
-{
-    let a = x.n;
-    let b = y.n;
-    (((a[0] == b[0]) & (a[1] == b[1])) & ((a[2] == b[2]) & (a[3] == b[3]))) & (x.e == y.e)
-}
-
 fn times(x: Scalar, y: Scalar) -> Scalar
     requires { ⌜ Operand (value x) × Operand (value y) ⌝ }
     ensures { λ r. ⌜ r ≡ scalarOf (value x · value y) ⌝ }
@@ -104,7 +96,7 @@ fn ratios_same(left: &[i64], right: &[i64], n: usize, a: Scalar, b: Scalar) -> b
         let y = read_cell(right, j * 5);
         let p = times(x, b);
         let q = times(y, a);
-        if !same_scalar(p, q) {
+        if !p.equals(q) {
             return false;
         }
         j += 1;
@@ -120,7 +112,7 @@ fn in_phase_at(left: &[i64], right: &[i64], n: usize, i: usize) -> bool
     let b = read_cell(right, i * 5);
     let p = squared_modulus(a);
     let q = squared_modulus(b);
-    if !same_scalar(p, q) {
+    if !p.equals(q) {
         return false;
     }
     ratios_same(left, right, n, a, b)

@@ -7,3 +7,4 @@ pub mod Sizes
 pub mod Questions
 pub mod Overflow
 pub mod Claims
+pub mod Equal

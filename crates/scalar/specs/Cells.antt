@@ -36,7 +36,7 @@ zeroAt l at = isZero (cellAt l at .num)
 
 -- n numbers written from `at` on
 abbrev pub fill : List ℤ → ℕ → ℕ → (ℕ → Exact) → List ℤ
-fill l at n f = blocks 5 l at n (λ (i : ℕ). cellWords (f i))
+fill l at n f = blocks cellSize l at n (λ (i : ℕ). cellWords (f i))
 
 -- the words of n numbers
 abbrev pub cells : ℕ → (ℕ → Exact) → List ℤ

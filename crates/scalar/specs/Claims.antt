@@ -7,9 +7,8 @@ use lib.Dec.{eqb}
 use lib.IntN.{pos}
 use Rattle.algebra.specs.Dyadic.{frac}
 use Rattle.algebra.specs.Lists.{every}
-use Rattle.algebra.specs.Words.{eqℤ}
 use Rattle.scalar.specs.declared.Answer.{Answer}
-use Rattle.scalar.specs.Exact.{Number, number, Exact, exact, imaginary, invSqrtTwo, omega}
+use Rattle.scalar.specs.Exact.{number, Exact, exact, equal, imaginary, invSqrtTwo, omega}
 use Rattle.scalar.specs.Calls.{value, verdictNumber, integerAnswer, omegaAnswer, negAnswer, conjAnswer, halfAnswer, addAnswer, mulAnswer}
 
 -- an answer, document 01's number for its verdict, and the number that it hands back
@@ -18,13 +17,8 @@ pub record Row : Type 0 where
   pub verdict : ℕ
   pub result : Exact
 
-abbrev pub sameNumber : Number → Number → Bool
-sameNumber z w = (eqℤ (z .re .re) (w .re .re) && eqℤ (z .re .im) (w .re .im)) && (eqℤ (z .im .re) (w .im .re) && eqℤ (z .im .im) (w .im .im))
-
 abbrev pub holds : Row → Bool
-holds r =
-    eqb (verdictNumber (r .answer .verdict)) (r .verdict)
-    && (sameNumber (value (r .answer .value) .num) (r .result .num) && eqb (value (r .answer .value) .exp) (r .result .exp))
+holds r = eqb (verdictNumber (r .answer .verdict)) (r .verdict) && equal (value (r .answer .value)) (r .result)
 
 abbrev pub accepts : Answer → Exact → Row
 accepts a x = record { answer = a; verdict = 0; result = x }

@@ -6,6 +6,7 @@ use lib.IntN.{ℤ, pos, negsuc, natAbs}
 use Rattle.algebra.specs.Ops.{Ops, integers}
 use Rattle.algebra.specs.Quadratic.{Pair, pair, quadratic, conjugate}
 use Rattle.algebra.specs.Dyadic.{Halves, integerHalves, pairHalves, Frac, frac, low, onNum, dyadic}
+use Rattle.algebra.specs.Words.{eqℤ}
 
 -- ---- the numerators: ℤ[√2], then ℤ[√2][i]
 abbrev pub root2 : Ops (Pair ℤ)
@@ -90,3 +91,8 @@ wellFormed x = inRange x && isLowest x
 
 abbrev pub narrow : Exact → Bool
 narrow x = within narrowNumerator (x .num) && leb (x .exp) narrowExponent
+
+-- ---- equality: lowest forms are unique
+abbrev pub equal : Exact → Exact → Bool
+equal x y =
+    ((eqℤ (x .num .re .re) (y .num .re .re) && eqℤ (x .num .re .im) (y .num .re .im)) && (eqℤ (x .num .im .re) (y .num .im .re) && eqℤ (x .num .im .im) (y .num .im .im))) && eqb (x .exp) (y .exp)

@@ -9,6 +9,9 @@ ghost use lib.Seq.{sets};
 ghost use Rattle.scalar.specs.Calls.{value, scalarOf};
 ghost use Rattle.scalar.specs.Cells.{cellAt, cellWords, exponentAt, wellFormedAt, zeroAt};
 
+// The words of a cell.
+pub const CELL: usize = 5;
+
 // The scalar in the five words from `at` on.
 pub fn read_cell(s: &[i64], at: usize) -> Scalar
     requires { ⌜ (at + 5 ≤ length (now s)) × (exponentAt (now s) at ≡ true) ⌝ }
@@ -60,6 +63,10 @@ pub fn well_formed_at(s: &[i64], at: usize) -> bool
     requires { ⌜ at + 5 ≤ length (now s) ⌝ }
     ensures { λ r. ⌜ r ≡ wellFormedAt (now (s .entry)) at ⌝ }
 {
+    let a = s[at];
+    let b = s[at + 1];
+    let c = s[at + 2];
+    let d = s[at + 3];
     let e = s[at + 4];
     if e < 0 {
         return false;
@@ -67,6 +74,8 @@ pub fn well_formed_at(s: &[i64], at: usize) -> bool
     if (MAX_EXPONENT as i64) < e {
         return false;
     }
-    let v = read_cell(s, at);
+    let n = [a, b, c, d];
+    let f = e as u32;
+    let v = Scalar { n, e: f };
     v.is_well_formed()
 }

@@ -1,4 +1,4 @@
-// Ranges and lowest forms: the questions that the calls ask of their operands.
+// Ranges, lowest forms and equality: the questions that are asked of scalars.
 use super::MAX_EXPONENT;
 use super::MAX_NUMERATOR;
 use super::NARROW_EXPONENT;
@@ -10,7 +10,7 @@ ghost use Prim.Native.Nat.{_≤_, _^_};
 ghost use lib.Dec.{leb};
 ghost use lib.IntN.{pos, natAbs};
 ghost use Rattle.algebra.specs.Dyadic.{Halves};
-ghost use Rattle.scalar.specs.Exact.{numberHalves, within, inRange, isLowest, wellFormed, narrow};
+ghost use Rattle.scalar.specs.Exact.{numberHalves, within, inRange, isLowest, wellFormed, narrow, equal};
 ghost use Rattle.scalar.specs.Calls.{numberOf, value};
 ghost use Rattle.scalar.specs.Inner.{scaled};
 
@@ -82,6 +82,17 @@ impl Scalar {
         ensures { λ r. ⌜ r ≡ wellFormed (value self) ⌝ }
     {
         self.in_range() & self.is_lowest()
+    }
+
+    // Whether both are the same number: lowest forms are unique.
+    pub fn equals(self, other: Scalar) -> bool
+        ensures { λ r. ⌜ r ≡ equal (value self) (value other) ⌝ }
+    {
+        let x = self.n;
+        let y = other.n;
+        let e = self.e;
+        let f = other.e;
+        (((x[0] == y[0]) & (x[1] == y[1])) & ((x[2] == y[2]) & (x[3] == y[3]))) & (e == f)
     }
 }
 

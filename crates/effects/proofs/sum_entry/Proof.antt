@@ -42,10 +42,10 @@ module _ (c : tie.After-term-place Inv-loop μ-loop) where
   right : wellFormedAt (start .args .s .now) (entryPlace (start .args .at) (c .term-place .result)) ≡ true
   right = start .pre .0 .formed (c .term-place .result) below
 
-read : (a : tie.After-add Inv-loop μ-loop) → (let n = a .before .before .before in a .before .read-cell .result ≡ scalarOf (terms n (n .before .loop .o)))
+read : (a : tie.After-add Inv-loop μ-loop) → (let n = a .before .before .before in a .before .read-entry .result ≡ scalarOf (terms n (n .before .loop .o)))
 read a =
     let t = a .before .before in
-    a .before .read-cell .ensures ∙ ap (λ (k : ℕ). scalarOf (entryAt (start t .args .s .now) (start t .args .at) k)) (t .term-place .ensures)
+    a .before .read-entry .ensures ∙ ap (λ (k : ℕ). scalarOf (entryAt (start t .args .s .now) (start t .args .at) k)) (t .term-place .ensures)
 
 formed : (a : tie.After-add Inv-loop μ-loop) → (let n = a .before .before .before in wellFormed (terms n (n .before .loop .o)) ≡ true)
 formed a =
@@ -58,17 +58,8 @@ loop-holds c = record { count = omega arith; is = refl; fit = refl }
 term-place-requires : tie.Need-term-place-requires Inv-loop μ-loop
 term-place-requires c κs = let s = c .before .before in (s .pre .0 .dim, (s .pre .1, c .loop-test .taken))
 
-add-read-cell : tie.Need-add-read-cell Inv-loop μ-loop
-add-read-cell c = let q = inside c in omega arith
-
-mul-read-cell : tie.Need-mul-read-cell Inv-loop μ-loop
-mul-read-cell c = let q = inside c in omega arith
-
-add-read-cell-2 : tie.Need-add-read-cell-2 Inv-loop μ-loop
-add-read-cell-2 c = let q = inside c in omega arith
-
-read-cell-requires : tie.Need-read-cell-requires Inv-loop μ-loop
-read-cell-requires c κs = (inside c, and-split (exponentAt (start c .args .s .now) (entryPlace (start c .args .at) (c .term-place .result))) _ (right c) .0)
+read-entry-requires : tie.Need-read-entry-requires Inv-loop μ-loop
+read-entry-requires c κs = (inside c, and-split (exponentAt (start c .args .s .now) (entryPlace (start c .args .at) (c .term-place .result))) _ (right c) .0)
 
 add-requires : tie.Need-add-requires Inv-loop μ-loop
 add-requires c κs = tt
@@ -119,10 +110,7 @@ sum-entry-spec =
     μ-loop
     loop-holds
     term-place-requires
-    add-read-cell
-    mul-read-cell
-    add-read-cell-2
-    read-cell-requires
+    read-entry-requires
     add-requires
     is-accepted-requires
     refused-requires

@@ -4,7 +4,7 @@ use mathlib.Core.List.{[], _∷_}
 use lib.ListN.{set}
 use lib.Seq.{sets}
 use Rattle.channel.specs.Layout.{word}
-use Rattle.channel.proofs.Words.{reads-back}
+use Rattle.algebra.proofs.Signed.{reads}
 use Rattle.effects.specs.Effects.{relink}
 use borrow.Author.Needs.{needs}
 use Rattle.effects.proofs.write_header.Statement.{statement}
@@ -42,8 +42,8 @@ returns c =
     let n = f .before in
     let s = n .before .before .before .args in
     let l = s .s .now in
-    (λ i. set (p .put-three .ensures i) 3 ((reads-back (k .relinked .result) (k .relinked .ok) ∙ k .relinked .ensures ∙ ap (relink (s .d)) (reads-back (word l 3) (f .first .given))) i))
-    ∙ (λ i. set (sets (s .result .now) 0 (reads-back (word l 0) (n .before .before .dim .given) i ∷ reads-back (word l 1) (n .before .bits .given) i ∷ reads-back (word l 2) (n .count .given) i ∷ [])) 3 (relink (s .d) (word l 3)))
+    (λ i. set (p .put-three .ensures i) 3 ((reads (k .relinked .result) (k .relinked .ok) ∙ k .relinked .ensures ∙ ap (relink (s .d)) (reads (word l 3) (f .first .given))) i))
+    ∙ (λ i. set (sets (s .result .now) 0 (reads (word l 0) (n .before .before .dim .given) i ∷ reads (word l 1) (n .before .bits .given) i ∷ reads (word l 2) (n .count .given) i ∷ [])) 3 (relink (s .d) (word l 3)))
 
 pub write-header-spec : {M : Type 1} → statement M
 write-header-spec =

@@ -9,7 +9,7 @@ use Rattle.algebra.proofs.Blocks.{append-block}
 use Rattle.scalar.specs.Cells.{cells}
 use Rattle.scalar.proofs.Cell.{fill-block}
 use Rattle.channel.specs.Layout.{word}
-use Rattle.channel.proofs.Words.{reads-back}
+use Rattle.algebra.proofs.Signed.{reads}
 use Rattle.effects.specs.Effects.{effectAt, relink}
 use borrow.Author.Needs.{needs}
 use Rattle.effects.proofs.write_record.Statement.{statement}
@@ -68,8 +68,8 @@ returns c =
     let l = s .s .now in
     let three = p .put-three .ensures
     ∙ (λ i. sets (s .result .now) (s .out)
-    ((reads-back (k .relinked .result) (k .relinked .ok) ∙ k .relinked .ensures ∙ ap (relink (s .d)) (reads-back (word l (s .at)) (h .before .before .next .given))) i
-    ∷ reads-back (word l (s .at + 1)) (h .before .low .given) i ∷ reads-back (word l (s .at + 2)) (h .high .given) i ∷ [])) in
+    ((reads (k .relinked .result) (k .relinked .ok) ∙ k .relinked .ensures ∙ ap (relink (s .d)) (reads (word l (s .at)) (h .before .before .next .given))) i
+    ∷ reads (word l (s .at + 1)) (h .before .low .given) i ∷ reads (word l (s .at + 2)) (h .high .given) i ∷ [])) in
     append-block (s .result .now) (relink (s .d) (word l (s .at)) ∷ word l (s .at + 1) ∷ word l (s .at + 2) ∷ []) (cells (s .d * s .d) (effectAt l (s .at) (s .d))) (s .out) 3 refl three
     (w .write-entries .ensures ∙ fill-block (effectAt l (s .at) (s .d)) _ (s .out + 3) (s .d * s .d))
 

@@ -8,9 +8,9 @@ use lib.Signed.{nonNeg}
 use mir.Syntax.{w64}
 use mir.Val.{Fits, toZ, ofZ}
 use mir.Facts.{toZ-pos}
-use Rattle.algebra.proofs.Signed.{back, cast-ok}
+use Rattle.algebra.proofs.Signed.{back, word-is, cast-ok}
 use Rattle.branches.specs.Store.{withBit}
-use Rattle.branches.proofs.Stores.{word-is, outcome-below, outcome-above, outcome-in, with-bit-below}
+use Rattle.branches.proofs.Stores.{outcome-below, outcome-above, outcome-in, with-bit-below}
 use Rattle.branches.proofs.store.outcome_word.Statement.{statement}
 use Rattle.branches.proofs.store.outcome_word.Tie as tie
 

@@ -6,10 +6,11 @@ use native.Mathlib.Omega.{arith}
 use lib.Arith.{digits-lt}
 use borrow.Author.Tests.{not-true, not-false}
 use Rattle.scalar.specs.declared.Scalar.{Scalar}
+use Rattle.scalar.specs.Exact.{equal}
 use Rattle.scalar.specs.Calls.{value}
 use Rattle.channel.specs.declared.compare.Difference.{Difference}
 use Rattle.channel.specs.declared.compare.Found.the-variants.{Same, Entry}
-use Rattle.channel.specs.Compare.{Both, equal, plain, scan}
+use Rattle.channel.specs.Compare.{Both, plain, scan}
 use Rattle.channel.specs.Walk.{bothAt}
 use Rattle.channel.proofs.Scanning.{agrees, differs, done, next-row}
 use Rattle.channel.proofs.compare.compare_block.Statement.{statement}
@@ -42,9 +43,9 @@ abbrev found : ℕ → ℕ → ℕ → Scalar → Scalar → Difference
 found s r c x y = record { found = Entry (record { store = s; row = r; col = c }); left = x; right = y }
 
 -- the test of the entries
-tested : (q : tie.After-same-scalar Inv-loop μ-loop Inv-rows μ-rows) →
-    (let n = q .before .before .before in q .same-scalar .result ≡ equal (both n .left (n .before .loop .k)) (both n .right (n .before .loop .k)))
-tested q = q .same-scalar .ensures ∙ (λ i. equal (value (q .before .before .entry-or-zero .ensures i)) (value (q .before .entry-or-zero2 .ensures i)))
+tested : (q : tie.After-equals Inv-loop μ-loop Inv-rows μ-rows) →
+    (let n = q .before .before .before in q .equals .result ≡ equal (both n .left (n .before .loop .k)) (both n .right (n .before .loop .k)))
+tested q = q .equals .ensures ∙ (λ i. equal (value (q .before .before .entry-or-zero .ensures i)) (value (q .before .entry-or-zero2 .ensures i)))
 
 -- the entry is one of the block
 inside : (c : tie.In-loop Inv-loop μ-loop Inv-rows μ-rows) → c .before .loop .k < start c .args .w * start c .args .w
@@ -65,8 +66,8 @@ entry-or-zero-requires c κs = start c .pre .1 (c .before .loop .k) (inside c) .
 entry-or-zero-requires-2 : tie.Need-entry-or-zero-requires-2 Inv-loop μ-loop Inv-rows μ-rows
 entry-or-zero-requires-2 c κs = start (c .before) .pre .1 (c .before .before .loop .k) (inside (c .before)) .1
 
-same-scalar-requires : tie.Need-same-scalar-requires Inv-loop μ-loop Inv-rows μ-rows
-same-scalar-requires c κs = tt
+equals-requires : tie.Need-equals-requires Inv-loop μ-loop Inv-rows μ-rows
+equals-requires c κs = tt
 
 add-k : tie.Need-add-k Inv-loop μ-loop Inv-rows μ-rows
 add-k c = let n = c .before .before .before .before in let q = inside n in let r = mul-le-mul (start n .pre .0) (start n .pre .0) in omega arith
@@ -125,7 +126,7 @@ compare-block-spec =
     loop-holds
     entry-or-zero-requires
     entry-or-zero-requires-2
-    same-scalar-requires
+    equals-requires
     add-k
     add-col
     loop-less

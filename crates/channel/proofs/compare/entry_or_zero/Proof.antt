@@ -1,34 +1,23 @@
 -- `compare::entry_or_zero` meets its contract.
 use mathlib.Core.Path.{sym, ap, _∙_}
 use mathlib.Core.Bool.{Bool}
-use native.Mathlib.Omega.{arith}
 use Rattle.scalar.specs.Calls.{scalarOf}
 use Rattle.channel.specs.Walk.{sideAt}
 use Rattle.channel.proofs.compare.entry_or_zero.Statement.{statement}
 use Rattle.channel.proofs.compare.entry_or_zero.Tie as tie
 
-add-read-cell : tie.Need-add-read-cell
-add-read-cell c = let q = c .before .pre .inside (c .if1 .taken) in omega arith
-
-mul-read-cell : tie.Need-mul-read-cell
-mul-read-cell c = let q = c .before .pre .inside (c .if1 .taken) in omega arith
-
-add-read-cell-2 : tie.Need-add-read-cell-2
-add-read-cell-2 c = let q = c .before .pre .inside (c .if1 .taken) in omega arith
-
-read-cell-requires : tie.Need-read-cell-requires
-read-cell-requires c κs = (c .before .pre .inside (c .if1 .taken), c .before .pre .exponent (c .if1 .taken))
+read-entry-requires : tie.Need-read-entry-requires
+read-entry-requires c κs = (c .before .pre .inside (c .if1 .taken), c .before .pre .exponent (c .if1 .taken))
 
 returns : tie.Need-returns
 returns c =
     let t = c .before in
     let s = t .before .args in
-    c .read-cell .ensures ∙ ap (λ (b : Bool). scalarOf (sideAt b (s .s .now) (s .at) (s .k))) (sym (t .if1 .taken))
+    c .read-entry .ensures ∙ ap (λ (b : Bool). scalarOf (sideAt b (s .s .now) (s .at) (s .k))) (sym (t .if1 .taken))
 
 returns-2 : tie.Need-returns-2
 returns-2 c = let s = c .before .args in ap (λ (b : Bool). scalarOf (sideAt b (s .s .now) (s .at) (s .k))) (sym (c .if1 .left))
 
 pub entry-or-zero-spec : {M : Type 1} → statement M
 entry-or-zero-spec =
-    tie.close
-    (tie.spec add-read-cell mul-read-cell add-read-cell-2 read-cell-requires returns returns-2)
+    tie.close (tie.spec read-entry-requires returns returns-2)

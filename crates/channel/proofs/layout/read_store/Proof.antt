@@ -1,48 +1,27 @@
 -- `layout::read_store` meets its contract.
-use mathlib.Core.Path.{_∙_}
-use Prim.Native.Nat.{_+_}
+use mathlib.Core.Path.{_≡_, sym, ap, _∙_, subst}
+use mathlib.Core.Bool.{true}
+use Prim.Native.Nat.{ℕ, _+_, _-_, _^_}
+use native.Mathlib.Omega.{arith}
+use Rattle.algebra.specs.Words.{upTo}
 use Rattle.channel.specs.Layout.{storeFrom, word}
-use Rattle.channel.proofs.Words.{reads-back}
-use borrow.Author.Needs.{needs}
 use Rattle.channel.proofs.layout.read_store.Statement.{statement}
 use Rattle.channel.proofs.layout.read_store.Tie as tie
 
-add-low : tie.Need-add-low
-add-low c = search needs
+next : (at : ℕ) → at + 1 + 1 ≡ at + 2
+next at = omega arith
 
-mul-low : tie.Need-mul-low
-mul-low c = search needs
+add-store-from : tie.Need-add-store-from
+add-store-from c = omega (arith, c .pre .0)
 
-shared-slice-copy-out-low : tie.Need-shared-slice-copy-out-low
-shared-slice-copy-out-low c = search needs
-
-add-high : tie.Need-add-high
-add-high c = search needs
-
-mul-high : tie.Need-mul-high
-mul-high c = search needs
-
-shared-slice-copy-out-high : tie.Need-shared-slice-copy-out-high
-shared-slice-copy-out-high c = search needs
-
-join-requires : tie.Need-join-requires
-join-requires c κs = search needs
+store-from-requires : tie.Need-store-from-requires
+store-from-requires c κs =
+    (omega (arith, c .pre .0), (c .pre .1 .0, subst (λ (k : ℕ). upTo (2 ^ 32 - 1) (word (c .args .s .now) k) ≡ true) (sym (next (c .args .at))) (c .pre .1 .1)))
 
 returns : tie.Need-returns
 returns c =
-    let h = c .before in
-    let s = h .before .before .args in
-    c .join .ensures ∙ (λ i. storeFrom (reads-back (word (s .s .now) (s .at + 1)) (h .before .low .given) i) (reads-back (word (s .s .now) (s .at + 2)) (h .high .given) i))
+    let s = c .before .args in
+    c .store-from .ensures ∙ ap (λ (k : ℕ). storeFrom (word (s .s .now) (s .at + 1)) (word (s .s .now) k)) (next (s .at))
 
 pub read-store-spec : {M : Type 1} → statement M
-read-store-spec =
-    tie.close
-    (tie.spec
-    add-low
-    mul-low
-    shared-slice-copy-out-low
-    add-high
-    mul-high
-    shared-slice-copy-out-high
-    join-requires
-    returns)
+read-store-spec = tie.close (tie.spec add-store-from store-from-requires returns)

@@ -4,12 +4,11 @@ use mathlib.Core.Bool.{true}
 use mathlib.Core.List.{List}
 use Prim.Native.Nat.{ℕ, _+_, _*_, _≤_}
 use native.Mathlib.Omega.{arith}
-use native.Mathlib.Nat.{mul-le-mul}
 use lib.ListN.{length}
 use lib.IntN.{ℤ, natAbs}
 use borrow.Author.Tests.{not-true, not-false}
 use Rattle.channel.specs.declared.Shape.{Shape}
-use Rattle.channel.specs.Layout.{recordSize, word, side, dimAt, bitsAt}
+use Rattle.channel.specs.Layout.{recordHead, blockSize, recordSize, word, side, dimAt, bitsAt}
 use Rattle.channel.specs.WellFormed.{wellFormed, shapeAt}
 use Rattle.channel.specs.Lookup.{storeRight, find, placed, spanOf, lookupOf}
 use Rattle.channel.proofs.Judging.{formed, shape-test, shape-is}
@@ -113,18 +112,15 @@ mul-w c = let q = width (c .before) in omega arith
 add-t10 : tie.Need-add-t10
 add-t10 c = let q = inside (c .before) in omega arith
 
-mul-t11 : tie.Need-mul-t11
-mul-t11 c = let q = width (c .before) in let r = mul-le-mul q q in omega arith
-
-mul-t12 : tie.Need-mul-t12
-mul-t12 c = let q = width (c .before) in let r = mul-le-mul q q in omega arith
+block-size-requires : tie.Need-block-size-requires
+block-size-requires c κs = width (c .before)
 
 returns-4 : tie.Need-returns-4
 returns-4 c =
-    let f = c .before .before in
+    let f = c .before .before .before in
     let t = f .before .before in
     let k = known t in
-    (λ i. record { start = f .find-store .result + 3; size = (is (t .before .before) i .dim * is (t .before .before) i .dim) * (is (t .before .before) i .dim * is (t .before .before) i .dim) * 5 })
+    ap (λ (n : ℕ). record { start = f .find-store .result + recordHead; size = n }) (c .block-size .ensures ∙ ap (λ (h : Shape). blockSize (h .dim * h .dim)) (is (t .before .before)))
     ∙ sym (ap (spanOf (words k)) (look t ∙ ap placed (sym (found-at f)) ∙ placed-found (f .find-store .result) (omega arith)))
 
 pub locate-spec : {M : Type 1} → statement M
@@ -143,6 +139,5 @@ locate-spec =
     returns-3
     mul-w
     add-t10
-    mul-t11
-    mul-t12
+    block-size-requires
     returns-4)

@@ -3,7 +3,7 @@ use mathlib.Core.Path.{_≡_, ap, _∙_}
 use Prim.Native.Nat.{ℕ, _+_, _*_, _-_, _^_, _<_, _≤_}
 use native.Mathlib.Omega.{arith}
 use lib.ListN.{getD, drop}
-use Rattle.channel.specs.Layout.{storeOf}
+use Rattle.algebra.specs.Words.{fromBits}
 use Rattle.channel.proofs.Finding.{Read, read-none, read-more, read-fits, right-length, right-byte}
 use Rattle.channel.proofs.lookup.store_number.Statement.{statement}
 use Rattle.channel.proofs.lookup.store_number.Tie as tie
@@ -58,7 +58,7 @@ returns : tie.Need-returns Inv-loop μ-loop
 returns c =
     let l = c .before in
     let e : l .loop .i ≡ 0 = omega arith in
-    l .loop .inv .is ∙ ap (λ (k : ℕ). storeOf (drop k (l .before .args .bytes .now))) e
+    l .loop .inv .is ∙ ap (λ (k : ℕ). fromBits (drop k (l .before .args .bytes .now))) e
 
 pub store-number-spec : {M : Type 1} → statement M
 store-number-spec =

@@ -12,7 +12,8 @@ use mir.Val.{toZ}
 use borrow.Author.Tests.{not-true, not-false}
 use Rattle.channel.specs.Layout.{recordSize, word}
 use Rattle.channel.specs.WellFormed.{isStart, chainOk}
-use Rattle.channel.proofs.Words.{reads-back, bits-zero, Starts, starts, starts-inside}
+use Rattle.algebra.proofs.Signed.{reads}
+use Rattle.channel.proofs.Words.{bits-zero, Starts, starts, starts-inside}
 use Rattle.channel.proofs.Judging.{good, bad, no-start, no-record, goes-on, chain-end}
 use native.Mathlib.Nat.{le-trans}
 use Rattle.channel.proofs.well_formed.chain_ok.Statement.{statement}
@@ -29,7 +30,7 @@ shared-slice-copy-out-z : tie.Need-shared-slice-copy-out-z Inv-loop μ-loop
 shared-slice-copy-out-z c = omega (arith, c .pre .inside)
 
 loop-holds : tie.Need-loop-holds Inv-loop μ-loop
-loop-holds c = (omega arith, ap (λ (z : ℤ). chainOk (c .before .args .s .now) (c .before .args .w) (c .before .args .m) (c .before .args .count) (c .before .args .count) z true 0) (sym (reads-back (word (c .before .args .s .now) 3) (c .z .given))))
+loop-holds c = (omega arith, ap (λ (z : ℤ). chainOk (c .before .args .s .now) (c .before .args .w) (c .before .args .m) (c .before .args .count) (c .before .args .count) z true 0) (sym (reads (word (c .before .args .s .now) 3) (c .z .given))))
 
 -- the record that comes next
 module _ (c : tie.Else1 Inv-loop μ-loop) where
@@ -91,7 +92,7 @@ loop-again c =
     let g = good _ _ _ (j .judge-record .ensures) (not-false _ (c .before .if2 .left)) in (
       omega arith,
       l .loop .inv .1 ∙ goes-on _ _ _ _ _ _ _ _ (e .before .before .loop-test .taken) (tested e) (g .0)
-          ∙ (λ i. chainOk (s .s .now) (s .w) (s .m) (s .count) (l .loop .left - 1) (sym (reads-back (word (s .s .now) (natAbs (toZ w64 (l .loop .z)))) (c .z2 .given)) i) false (sym (g .1) i)),
+          ∙ (λ i. chainOk (s .s .now) (s .w) (s .m) (s .count) (l .loop .left - 1) (sym (reads (word (s .s .now) (natAbs (toZ w64 (l .loop .z)))) (c .z2 .given)) i) false (sym (g .1) i)),
     )
 
 returns-3 : tie.Need-returns-3 Inv-loop μ-loop

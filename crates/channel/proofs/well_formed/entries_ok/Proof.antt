@@ -5,6 +5,8 @@ use Prim.Native.Nat.{_-_, _≤_}
 use native.Mathlib.Omega.{arith}
 use borrow.Author.Tests.{not-true, not-false}
 use Rattle.algebra.proofs.Tests.{all-step, all-no}
+use Rattle.scalar.specs.Cells.{wellFormedAt}
+use Rattle.channel.specs.Layout.{entryPlace}
 use Rattle.channel.specs.WellFormed.{entriesOk}
 use Rattle.channel.proofs.well_formed.entries_ok.Statement.{statement}
 use Rattle.channel.proofs.well_formed.entries_ok.Tie as tie
@@ -18,14 +20,14 @@ abbrev μ-loop : tie.MeasureT-loop
 loop-holds : tie.Need-loop-holds Inv-loop μ-loop
 loop-holds c = (omega arith, refl)
 
-add-well-formed-at : tie.Need-add-well-formed-at Inv-loop μ-loop
-add-well-formed-at c = omega arith
+-- the entry's test
+tested : (c : tie.After-well-formed-at Inv-loop μ-loop) → (let l = c .before .before .before in let s = l .before .args in c .well-formed-at .result ≡ wellFormedAt (s .s .now) (entryPlace (s .at) (l .loop .k)))
+tested c =
+    let p = c .before in
+    c .well-formed-at .ensures ∙ ap (wellFormedAt (p .before .before .before .args .s .now)) (p .entry-place .ensures)
 
-mul-well-formed-at : tie.Need-mul-well-formed-at Inv-loop μ-loop
-mul-well-formed-at c = omega arith
-
-add-well-formed-at-2 : tie.Need-add-well-formed-at-2 Inv-loop μ-loop
-add-well-formed-at-2 c = omega arith
+entry-place-requires : tie.Need-entry-place-requires Inv-loop μ-loop
+entry-place-requires c κs = omega arith
 
 well-formed-at-requires : tie.Need-well-formed-at-requires Inv-loop μ-loop
 well-formed-at-requires c κs = omega arith
@@ -33,8 +35,9 @@ well-formed-at-requires c κs = omega arith
 returns : tie.Need-returns Inv-loop μ-loop
 returns c =
     let a = c .before in
-    let l = a .before .before in
-    sym (all-no (l .before .args .n) (l .loop .k) _ (a .before .loop-test .taken) (sym (a .well-formed-at .ensures) ∙ not-true _ (c .if1 .taken)))
+    let t = a .before .before in
+    let l = t .before in
+    sym (all-no (l .before .args .n) (l .loop .k) _ (t .loop-test .taken) (sym (tested a) ∙ not-true _ (c .if1 .taken)))
 
 add-k : tie.Need-add-k Inv-loop μ-loop
 add-k c = omega arith
@@ -45,8 +48,8 @@ loop-less c = omega arith
 loop-again : tie.Need-loop-again Inv-loop μ-loop
 loop-again c =
     let a = c .before in
-    let l = a .before .before in
-    (omega arith, all-step (l .loop .k) _ (l .loop .inv .1) (sym (a .well-formed-at .ensures) ∙ not-false _ (c .if1 .left)))
+    let l = a .before .before .before in
+    (omega arith, all-step (l .loop .k) _ (l .loop .inv .1) (sym (tested a) ∙ not-false _ (c .if1 .left)))
 
 returns-2 : tie.Need-returns-2 Inv-loop μ-loop
 returns-2 c =
@@ -61,9 +64,7 @@ entries-ok-spec =
     Inv-loop
     μ-loop
     loop-holds
-    add-well-formed-at
-    mul-well-formed-at
-    add-well-formed-at-2
+    entry-place-requires
     well-formed-at-requires
     returns
     add-k

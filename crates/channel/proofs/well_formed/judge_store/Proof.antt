@@ -3,7 +3,7 @@ use mathlib.Core.Path.{_∙_}
 use Prim.Native.Nat.{_+_}
 use Rattle.channel.specs.Layout.{storeFrom, word}
 use Rattle.channel.specs.WellFormed.{judged, wordsOk}
-use Rattle.channel.proofs.Words.{reads-back}
+use Rattle.algebra.proofs.Signed.{reads}
 use borrow.Author.Needs.{needs}
 use Rattle.channel.proofs.well_formed.judge_store.Statement.{statement}
 use Rattle.channel.proofs.well_formed.judge_store.Tie as tie
@@ -33,8 +33,8 @@ returns : tie.Need-returns
 returns c =
     let h = c .before in
     let s = h .before .before .args in
-    let low = reads-back (word (s .s .now) (s .at + 1)) (h .before .low .given) in
-    let high = reads-back (word (s .s .now) (s .at + 2)) (h .high .given) in
+    let low = reads (word (s .s .now) (s .at + 1)) (h .before .low .given) in
+    let high = reads (word (s .s .now) (s .at + 2)) (h .high .given) in
     c .judge-words .ensures ∙ (λ i. judged (wordsOk (low i) (high i) (s .m)) (storeFrom (low i) (high i)))
 
 pub judge-store-spec : {M : Type 1} → statement M

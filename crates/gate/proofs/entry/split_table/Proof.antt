@@ -5,12 +5,13 @@ use Prim.Native.Nat.{ℕ}
 use native.Mathlib.Omega.{arith}
 use Rattle.gate.specs.Gate.{gate}
 use Rattle.gate.specs.Entries.{tableOf, operatorAt}
-use Rattle.gate.proofs.Kind.{elem-tail, elem-last, each}
+use Rattle.gate.proofs.Gate.{elem-in}
+use Rattle.gate.proofs.Kind.{elem-tail, elem-last}
 use Rattle.gate.proofs.entry.split_table.Statement.{statement}
 use Rattle.gate.proofs.entry.split_table.Tie as tie
 
 returns : tie.Need-returns
-returns c = each (λ (m : ℕ). tableOf (operatorAt (gate 12 0 0 0 0) 0 .small) ≡ tableOf (operatorAt (gate m 0 0 0 0) 0 .small)) (12 ∷ 13 ∷ []) (refl, (refl, tt)) (c .before .args .kind) (c .before .pre .0) ∙ sym (ap (λ (j : ℕ). tableOf (operatorAt (gate (c .before .args .kind) 0 0 0 0) j .small)) (c .if1 .taken))
+returns c = elem-in (λ (m : ℕ). tableOf (operatorAt (gate 12 0 0 0 0) 0 .small) ≡ tableOf (operatorAt (gate m 0 0 0 0) 0 .small)) (12 ∷ 13 ∷ []) (refl, (refl, tt)) (c .before .args .kind) (c .before .pre .0) ∙ sym (ap (λ (j : ℕ). tableOf (operatorAt (gate (c .before .args .kind) 0 0 0 0) j .small)) (c .if1 .taken))
 
 returns-2 : tie.Need-returns-2
 returns-2 c = let e : c .before .before .args .j ≡ 1 = omega arith in sym (ap₂ (λ (m j : ℕ). tableOf (operatorAt (gate m 0 0 0 0) j .small)) (c .if2 .taken) e)

@@ -4,9 +4,11 @@ use mathlib.Core.Path.{ap}
 use lib.ListN.{getD}
 use lib.IntN.{pos}
 use borrow.Author.Needs.{needs}
+use Rattle.algebra.proofs.Signed.{word-is}
+use Rattle.scalar.specs.Exact.{maxExponent}
 use Rattle.listing.specs.Listing.{spaced}
 use Rattle.listing.proofs.Writing.{then, text, none}
-use Rattle.listing.proofs.Listing.{spaced-word, natural}
+use Rattle.listing.proofs.Listing.{spaced-word}
 use Rattle.listing.proofs.lines.put_cell.Statement.{statement}
 use Rattle.listing.proofs.lines.put_cell.Tie as tie
 
@@ -84,7 +86,7 @@ returns c =
     (then (spaced-word (getD l (at + 1) (pos 0)) (two .before .put-spaced-arg4 .given) (two .put-spaced2 .ensures))
     (then (spaced-word (getD l (at + 2) (pos 0)) (three .before .put-spaced-arg6 .given) (three .put-spaced3 .ensures))
     (then (spaced-word (getD l (at + 3) (pos 0)) (four .before .put-spaced-arg8 .given) (four .put-spaced4 .ensures))
-    (then (text (ap spaced (natural 60 (getD l (at + 4) (pos 0)) (s .pre .1))) (spaced-word (getD l (at + 4) (pos 0)) (five .before .put-spaced-arg10 .given) (five .put-spaced5 .ensures))) (none _)))))
+    (then (text (ap spaced (word-is maxExponent (getD l (at + 4) (pos 0)) (s .pre .1) .0)) (spaced-word (getD l (at + 4) (pos 0)) (five .before .put-spaced-arg10 .given) (five .put-spaced5 .ensures))) (none _)))))
 
 pub put-cell-spec : {M : Type 1} → statement M
 put-cell-spec =

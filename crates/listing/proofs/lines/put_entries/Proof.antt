@@ -1,13 +1,15 @@
 -- `lines::put_entries` meets its contract.
-use Prim.Native.Nat.{ℕ, _*_, _-_, _≤_}
-use mathlib.Core.Path.{_≡_, ap}
+use mathlib.Core.Path.{_≡_, sym, ap, subst}
+use mathlib.Core.Bool.{true}
+use Prim.Native.Nat.{ℕ, _+_, _*_, _-_, _/_, _%_, _≤_}
 use native.Mathlib.Nat.{mul-le-mul}
 use native.Mathlib.Omega.{arith}
+use lib.ListN.{length}
 use Rattle.algebra.proofs.Tests.{all-at}
-use Rattle.scalar.specs.Cells.{wellFormedAt}
-use Rattle.channel.specs.Layout.{entryPlace, entryAt}
+use Rattle.scalar.specs.Cells.{cellAt, wellFormedAt}
+use Rattle.channel.specs.Layout.{entrySize, entryPlace, entryAt}
 use Rattle.listing.specs.Page.{page, Written}
-use Rattle.listing.specs.Listing.{entryLines}
+use Rattle.listing.specs.Listing.{entryLine, entryLines}
 use Rattle.listing.proofs.Writing.{then, text, none, long}
 use Rattle.listing.proofs.Listing.{entries-none, entries-more, side-some}
 use Rattle.listing.proofs.lines.put_entries.Statement.{statement}
@@ -25,26 +27,23 @@ mul-n c = let q = c .before .pre .0 in let r = mul-le-mul q q in omega arith
 loop-holds : tie.Need-loop-holds Inv-loop μ-loop
 loop-holds c = let s = c .before in (omega arith, text (entries-none (s .args .w) (entryAt (s .args .s .now) (s .args .place))) (none _))
 
-add-put-entry : tie.Need-add-put-entry Inv-loop μ-loop
-add-put-entry c = omega arith
-
-mul-put-entry : tie.Need-mul-put-entry Inv-loop μ-loop
-mul-put-entry c = omega arith
-
-add-put-entry-2 : tie.Need-add-put-entry-2 Inv-loop μ-loop
-add-put-entry-2 c = omega arith
+entry-place-requires : tie.Need-entry-place-requires Inv-loop μ-loop
+entry-place-requires c κs = omega arith
 
 div-put-entry : tie.Need-div-put-entry Inv-loop μ-loop
-div-put-entry c = let l = c .before .before in let q = side-some (l .before .before .args .w) (l .loop .k) (c .before .loop-test .taken) in omega arith
+div-put-entry c = let t = c .before .before in let l = t .before in let q = side-some (l .before .before .args .w) (l .loop .k) (t .loop-test .taken) in omega arith
 
 rem-put-entry : tie.Need-rem-put-entry Inv-loop μ-loop
-rem-put-entry c = let l = c .before .before in let q = side-some (l .before .before .args .w) (l .loop .k) (c .before .loop-test .taken) in omega arith
+rem-put-entry c = let t = c .before .before in let l = t .before in let q = side-some (l .before .before .args .w) (l .loop .k) (t .loop-test .taken) in omega arith
 
 put-entry-requires : tie.Need-put-entry-requires Inv-loop μ-loop
 put-entry-requires c κs =
-    let l = c .before .before in
+    let t = c .before .before in
+    let l = t .before in
     let s = l .before .before in
-    (omega arith, all-at (s .args .w * s .args .w) (λ (k : ℕ). wellFormedAt (s .args .s .now) (entryPlace (s .args .place) k)) (s .pre .1 .1) (l .loop .k) (c .before .loop-test .taken))
+    let room : entryPlace (s .args .place) (l .loop .k) + entrySize ≤ length (s .args .s .now) = omega arith in
+    subst (λ (p : ℕ). (p + entrySize ≤ length (s .args .s .now)) × (wellFormedAt (s .args .s .now) p ≡ true)) (sym (c .entry-place .ensures))
+    (room, all-at (s .args .w * s .args .w) (λ (k : ℕ). wellFormedAt (s .args .s .now) (entryPlace (s .args .place) k)) (s .pre .1 .1) (l .loop .k) (t .loop-test .taken))
 
 add-k : tie.Need-add-k Inv-loop μ-loop
 add-k c = omega arith
@@ -54,9 +53,11 @@ loop-less c = omega arith
 
 loop-again : tie.Need-loop-again Inv-loop μ-loop
 loop-again c =
-    let l = c .before .before .before .before .before in
+    let e = c .before .before .before in
+    let l = e .before .before .before in
     let s = l .before .before in
-    (omega arith, text (entries-more (s .args .w) (l .loop .k) (entryAt (s .args .s .now) (s .args .place))) (then (l .loop .inv .1) (c .before .before .put-entry .ensures)))
+    let line = ap (λ (p : ℕ). entryLine (l .loop .k / s .args .w) (l .loop .k % s .args .w) (cellAt (s .args .s .now) p)) (e .entry-place .ensures) in
+    (omega arith, text (entries-more (s .args .w) (l .loop .k) (entryAt (s .args .s .now) (s .args .place))) (then (l .loop .inv .1) (text line (c .before .before .put-entry .ensures))))
 
 same-length : tie.Need-same-length Inv-loop μ-loop
 same-length c = long (c .before .loop .inv .1)
@@ -76,9 +77,7 @@ put-entries-spec =
     μ-loop
     mul-n
     loop-holds
-    add-put-entry
-    mul-put-entry
-    add-put-entry-2
+    entry-place-requires
     div-put-entry
     rem-put-entry
     put-entry-requires

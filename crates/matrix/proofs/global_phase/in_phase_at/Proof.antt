@@ -5,9 +5,9 @@ use Prim.Native.Nat.{ℕ}
 use native.Mathlib.Omega.{arith}
 use borrow.Author.Tests.{not-true, not-false}
 use Rattle.scalar.specs.declared.Scalar.{Scalar}
-use Rattle.scalar.specs.Exact.{Exact}
+use Rattle.scalar.specs.Exact.{Exact, equal}
 use Rattle.scalar.specs.Calls.{value}
-use Rattle.matrix.specs.Phase.{same, equalModulus, equalRatios, entryOf}
+use Rattle.matrix.specs.Phase.{equalModulus, equalRatios, entryOf}
 use Rattle.matrix.specs.Operands.{Operand}
 use borrow.Author.Needs.{needs}
 use Rattle.matrix.proofs.global_phase.in_phase_at.Statement.{statement}
@@ -33,13 +33,13 @@ module _ (r : tie.After-read-cell2) where
   abbrev ratios : Bool
   ratios = equalRatios (r .before .before .args .n) left right (left pivot) (right pivot)
 
-moduli-is : (c : tie.After-same-scalar) → c .same-scalar .result ≡ equalModulus (left (c .before .before .before) (pivot (c .before .before .before))) (right (c .before .before .before) (pivot (c .before .before .before)))
+moduli-is : (c : tie.After-equals) → c .equals .result ≡ equalModulus (left (c .before .before .before) (pivot (c .before .before .before))) (right (c .before .before .before) (pivot (c .before .before .before)))
 moduli-is c =
     let q = c .before in
     let p = q .before in
     let r = p .before in
-    c .same-scalar .ensures
-    ∙ (λ i. same (value (p .squared-modulus .ensures i)) (value (q .squared-modulus2 .ensures i)))
+    c .equals .ensures
+    ∙ (λ i. equal (value (p .squared-modulus .ensures i)) (value (q .squared-modulus2 .ensures i)))
     ∙ (λ i. equalModulus (value (r .before .read-cell .ensures i)) (value (r .read-cell2 .ensures i)))
 
 ratios-are : (c : tie.After-ratios-same) → c .ratios-same .result ≡ ratios (c .before .before .before .before .before)
@@ -65,8 +65,8 @@ squared-modulus-requires c κs = a-operand c
 squared-modulus-requires-2 : tie.Need-squared-modulus-requires-2
 squared-modulus-requires-2 c κs = b-operand (c .before)
 
-same-scalar-requires : tie.Need-same-scalar-requires
-same-scalar-requires c κs = search needs
+equals-requires : tie.Need-equals-requires
+equals-requires c κs = search needs
 
 returns : tie.Need-returns
 returns c = sym (ap (λ (b : Bool). b && ratios (c .before .before .before .before)) (sym (moduli-is (c .before)) ∙ not-true _ (c .if1 .taken)))
@@ -91,7 +91,7 @@ in-phase-at-spec =
     read-cell-requires-2
     squared-modulus-requires
     squared-modulus-requires-2
-    same-scalar-requires
+    equals-requires
     returns
     ratios-same-requires
     returns-2)

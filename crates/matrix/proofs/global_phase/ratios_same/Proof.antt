@@ -7,8 +7,9 @@ use native.Mathlib.Omega.{arith}
 use borrow.Author.Tests.{not-true, not-false}
 use Rattle.algebra.proofs.Tests.{all-step, all-no}
 use Rattle.scalar.specs.declared.Scalar.{Scalar}
+use Rattle.scalar.specs.Exact.{equal}
 use Rattle.scalar.specs.Calls.{value}
-use Rattle.matrix.specs.Phase.{_·_, same, equalRatios, entryOf}
+use Rattle.matrix.specs.Phase.{_·_, equalRatios, entryOf}
 use Rattle.matrix.specs.Operands.{Operand}
 use Rattle.matrix.proofs.global_phase.ratios_same.Statement.{statement}
 use Rattle.matrix.proofs.global_phase.ratios_same.Tie as tie
@@ -23,19 +24,19 @@ loop-holds : tie.Need-loop-holds Inv-loop μ-loop
 loop-holds c = (omega arith, refl)
 
 -- the test's answer
-same-is : (c : tie.After-same-scalar Inv-loop μ-loop)
-    → c .same-scalar .result
-    ≡ same (entryOf (c .before .before .before .before .before .before .before .args .left .now) (c .before .before .before .before .before .before .loop .j) · value (c .before .before .before .before .before .before .before .args .b))
+equal-is : (c : tie.After-equals Inv-loop μ-loop)
+    → c .equals .result
+    ≡ equal (entryOf (c .before .before .before .before .before .before .before .args .left .now) (c .before .before .before .before .before .before .loop .j) · value (c .before .before .before .before .before .before .before .args .b))
     (entryOf (c .before .before .before .before .before .before .before .args .right .now) (c .before .before .before .before .before .before .loop .j) · value (c .before .before .before .before .before .before .before .args .a))
-same-is c =
+equal-is c =
     let q = c .before in
     let p = q .before in
     let y = p .before in
     let x = y .before in
     let s = x .before .before .before .args in
-    c .same-scalar .ensures
-    ∙ (λ i. same (value (p .times .ensures i)) (value (q .times2 .ensures i)))
-    ∙ (λ i. same (value (x .read-cell .ensures i) · value (s .b)) (value (y .read-cell2 .ensures i) · value (s .a)))
+    c .equals .ensures
+    ∙ (λ i. equal (value (p .times .ensures i)) (value (q .times2 .ensures i)))
+    ∙ (λ i. equal (value (x .read-cell .ensures i) · value (s .b)) (value (y .read-cell2 .ensures i) · value (s .a)))
 
 mul-read-cell : tie.Need-mul-read-cell Inv-loop μ-loop
 mul-read-cell c = let s = c .before .before in omega (arith, s .pre .0 .0 .room)
@@ -68,14 +69,14 @@ times-requires-2 c κs =
     let s = t .before .before in
     (subst (λ (v : Scalar). Operand (value v)) (sym (y .read-cell2 .ensures)) (s .pre .0 .1 .operand (t .before .loop .j) (t .loop-test .taken)), s .pre .1 .0)
 
-same-scalar-requires : tie.Need-same-scalar-requires Inv-loop μ-loop
-same-scalar-requires c κs = search needs
+equals-requires : tie.Need-equals-requires Inv-loop μ-loop
+equals-requires c κs = search needs
 
 returns : tie.Need-returns Inv-loop μ-loop
 returns c =
     let t = c .before .before .before .before .before .before in
     let l = t .before in
-    sym (all-no (l .before .args .n) (l .loop .j) _ (t .loop-test .taken) (sym (same-is (c .before)) ∙ not-true _ (c .if1 .taken)))
+    sym (all-no (l .before .args .n) (l .loop .j) _ (t .loop-test .taken) (sym (equal-is (c .before)) ∙ not-true _ (c .if1 .taken)))
 
 add-j : tie.Need-add-j Inv-loop μ-loop
 add-j c = omega arith
@@ -86,7 +87,7 @@ loop-less c = omega arith
 loop-again : tie.Need-loop-again Inv-loop μ-loop
 loop-again c =
     let l = c .before .before .before .before .before .before .before in
-    (omega arith, all-step (l .loop .j) _ (l .loop .inv .1) (sym (same-is (c .before)) ∙ not-false _ (c .if1 .left)))
+    (omega arith, all-step (l .loop .j) _ (l .loop .inv .1) (sym (equal-is (c .before)) ∙ not-false _ (c .if1 .left)))
 
 returns-2 : tie.Need-returns-2 Inv-loop μ-loop
 returns-2 c =
@@ -108,7 +109,7 @@ ratios-same-spec =
     read-cell-requires-2
     times-requires
     times-requires-2
-    same-scalar-requires
+    equals-requires
     returns
     add-j
     loop-less

@@ -1,11 +1,22 @@
--- `matrix::global_phase::same_scalar` meets its contract.
+-- `Scalar::equals` meets its contract.
+use mathlib.Core.Path.{_≡_}
 use mathlib.Core.Bool.{_&&_}
+use Prim.Native.Nat.{_^_, _<_}
 use lib.Dec.{eqb}
+use lib.IntN.{ℤ}
+use lib.Signed.{mag}
+use mir.Syntax.{w64}
+use mir.Val.{ofZ}
+use Rattle.algebra.specs.Words.{eqℤ}
+use Rattle.algebra.proofs.Signed.{eq-words}
 use Rattle.scalar.specs.Calls.{numberOf}
-use Rattle.matrix.proofs.Operands.{eq-word}
 use borrow.Author.Needs.{needs}
-use Rattle.matrix.proofs.global_phase.same_scalar.Statement.{statement}
-use Rattle.matrix.proofs.global_phase.same_scalar.Tie as tie
+use Rattle.scalar.proofs.Scalar.equals.Statement.{statement}
+use Rattle.scalar.proofs.Scalar.equals.Tie as tie
+
+-- `x == y` of two words that are read
+eq-word : (x y : ℤ) → mag x < 2 ^ 63 → mag y < 2 ^ 63 → eqb (ofZ w64 x) (ofZ w64 y) ≡ eqℤ x y
+eq-word x y h k = eq-words x y (record { sfits = h }) (record { sfits = k })
 
 array-copy-out-result : tie.Need-array-copy-out-result
 array-copy-out-result c = search needs
@@ -33,8 +44,7 @@ array-copy-out-result-8 c = search needs
 
 returns : tie.Need-returns
 returns c =
-    let c8 = c .before .before in
-    let c7 = c8 .before in
+    let c7 = c .before in
     let c6 = c7 .before in
     let c5 = c6 .before in
     let c4 = c5 .before in
@@ -42,12 +52,12 @@ returns c =
     let c2 = c3 .before in
     let c1 = c2 .before in
     let s = c1 .before .before .before .args in
-    let x = numberOf (s .x .n) in
-    let y = numberOf (s .y .n) in
-    λ i. ((eq-word (x .re .re) (y .re .re) (c1 .result .given) (c2 .result2 .given) i && eq-word (x .re .im) (y .re .im) (c3 .result3 .given) (c4 .result4 .given) i) && (eq-word (x .im .re) (y .im .re) (c5 .result5 .given) (c6 .result6 .given) i && eq-word (x .im .im) (y .im .im) (c7 .result7 .given) (c8 .result8 .given) i)) && eqb (s .x .e) (s .y .e)
+    let x = numberOf (s .self .n) in
+    let y = numberOf (s .other .n) in
+    λ i. ((eq-word (x .re .re) (y .re .re) (c1 .result .given) (c2 .result2 .given) i && eq-word (x .re .im) (y .re .im) (c3 .result3 .given) (c4 .result4 .given) i) && (eq-word (x .im .re) (y .im .re) (c5 .result5 .given) (c6 .result6 .given) i && eq-word (x .im .im) (y .im .im) (c7 .result7 .given) (c .result8 .given) i)) && eqb (s .self .e) (s .other .e)
 
-pub same-scalar-spec : {M : Type 1} → statement M
-same-scalar-spec =
+pub equals-spec : {M : Type 1} → statement M
+equals-spec =
     tie.close
     (tie.spec
     array-copy-out-result
