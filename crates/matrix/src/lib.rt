@@ -2,6 +2,7 @@ use scalar::Verdict;
 
 pub mod global_phase;
 pub mod products;
+pub mod rows;
 pub mod words;
 
 pub enum Phase {
