@@ -199,9 +199,10 @@ module _ (n j r : ℕ) (few : n ≤ 5) (hr : r < 2 ^ n) (a b c k : ℕ) where
         (control-two n b (c ∷ []) (targetOf m) hr (on2 .first) (or-false (eqb b c) ∙ on2 .other) (one-two n c r few (on2 .second) hr (targetOf m)))
 
     three-pair : (m : ℕ) → elem m (26 ∷ 10 ∷ 11 ∷ []) ≡ true → Asked m
-    three-pair = each Asked (26 ∷ 10 ∷ 11 ∷ [])
-        ((λ w. two-same (λ s. controlled-swap-entry n j r s a b c k 26 refl w) (control-two n a (b ∷ c ∷ []) swapped hr (on .first) (on .other) (swap-two n b c r few (on .others) hr))),
-        ((λ w. two-same (λ s. twice-controlled-entry n j r s a b c k 10 refl w) (twice-pair 10)), ((λ w. two-same (λ s. twice-controlled-entry n j r s a b c k 11 refl w) (twice-pair 11)), tt)))
+    three-pair = each Asked (26 ∷ 10 ∷ 11 ∷ []) (
+      (λ w. two-same (λ s. controlled-swap-entry n j r s a b c k 26 refl w) (control-two n a (b ∷ c ∷ []) swapped hr (on .first) (on .other) (swap-two n b c r few (on .others) hr))),
+      ((λ w. two-same (λ s. twice-controlled-entry n j r s a b c k 10 refl w) (twice-pair 10)), ((λ w. two-same (λ s. twice-controlled-entry n j r s a b c k 11 refl w) (twice-pair 11)), tt)),
+    )
 
 -- a row of operator j of a gate that passes the questions
 pub row-two : {n : ℕ} {g : Gate} {j : ℕ} → Ready n g j → n ≤ 5 → (r : ℕ) → r < 2 ^ n → Two (2 ^ n) (gateEntry n g j r) r (partner n g r)
