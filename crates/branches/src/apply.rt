@@ -1,7 +1,7 @@
 // A gate's operator applied to the matrix of a branch.
 use gate::entry::gate_entry;
 use gate::judge::GateWords;
-use matrix::rows::combine_rows;
+use matrix::linear::combine_rows;
 ghost use mathlib.Core.Path.{_≡_};
 ghost use Rattle.gate.specs.Entries.{flips};
 ghost use Rattle.gate.specs.Verdict.{gateOf};

@@ -1,6 +1,6 @@
 pub mod Terms
 pub mod Witness
 pub mod GlobalPhase
-pub mod Scaled
+pub mod Rows
 pub mod Operands
 pub mod Questions

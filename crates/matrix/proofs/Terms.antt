@@ -11,10 +11,10 @@ use Rattle.algebra.proofs.Ring.{semi}
 use Rattle.algebra.proofs.Quadratic.{ℤ√2i}
 use Rattle.algebra.proofs.Dyadic.{low-zero}
 use Rattle.algebra.proofs.Blocks.{Same}
-use Rattle.scalar.specs.Exact.{Exact, exact, Number, numbers, lowest}
+use Rattle.scalar.specs.Exact.{Exact, exact, Number, numbers, lowest, isLowest}
 use Rattle.scalar.specs.Cells.{isZero}
 use Rattle.scalar.specs.Inner.{Coords}
-use Rattle.scalar.proofs.Exact.{exacts, exactHalving, zero-plus, plus-zero, mul-lowest}
+use Rattle.scalar.proofs.Exact.{exacts, exactHalving, plus-zero}
 use Rattle.scalar.proofs.Cell.{zero-is, cell-same, exponent-same}
 use Rattle.matrix.specs.Factors.{Factor}
 
@@ -27,13 +27,16 @@ zero-by x y e =
 pub by-zero : (x y : Exact) → isZero (y .num) ≡ true → exact ._⊗_ x y ≡ exact .𝟘
 by-zero x y e = exacts .mul-comm x y ∙ zero-by y x e
 
--- a sum of two products of which one is zero
-module _ (x p y q : Exact) where
-  pub left-only : exact ._⊗_ y q ≡ exact .𝟘 → exact ._⊕_ (exact ._⊗_ x p) (exact ._⊗_ y q) ≡ exact ._⊗_ x p
-  left-only e = ap (exact ._⊕_ (exact ._⊗_ x p)) e ∙ plus-zero (exact ._⊗_ x p) (mul-lowest x p)
+-- it adds nothing
+module _ (s x y : Exact) (low : isLowest s ≡ true) where
+  pub zero-left : isZero (x .num) ≡ true → exact ._⊕_ s (exact ._⊗_ x y) ≡ s
+  zero-left z = ap (exact ._⊕_ s) (zero-by x y z) ∙ plus-zero s low
 
-  pub right-only : exact ._⊗_ x p ≡ exact .𝟘 → exact ._⊕_ (exact ._⊗_ x p) (exact ._⊗_ y q) ≡ exact ._⊗_ y q
-  right-only e = ap (λ (z : Exact). exact ._⊕_ z (exact ._⊗_ y q)) e ∙ zero-plus (exact ._⊗_ y q) (mul-lowest y q)
+  pub zero-right : isZero (y .num) ≡ true → exact ._⊕_ s (exact ._⊗_ x y) ≡ s
+  zero-right z = ap (exact ._⊕_ s) (by-zero x y z) ∙ plus-zero s low
+
+pub zero-first : (x p y q : Exact) → exact ._⊗_ x p ≡ exact .𝟘 → exact ._⊕_ (exact ._⊗_ x p) (exact ._⊗_ y q) ≡ exact ._⊗_ y q
+zero-first x p y q e = ap (λ (z : Exact). exact ._⊕_ z (exact ._⊗_ y q)) e ∙ exacts .zero-add y q
 
 -- ---- rows and columns of a place
 pub dim-pos : (i d : ℕ) → i < d * d → 0 < d

@@ -1,8 +1,8 @@
 use scalar::Verdict;
 
 pub mod global_phase;
+pub mod linear;
 pub mod products;
-pub mod rows;
 pub mod words;
 
 pub enum Phase {

@@ -1,10 +1,10 @@
--- `matrix::rows::combine_rows` meets its contract.
+-- `matrix::linear::combine_rows` meets its contract.
 use mathlib.Core.Path.{sym, _∙_}
 use Rattle.scalar.specs.Calls.{value}
-use Rattle.matrix.proofs.Scaled.{left-row, right-row}
+use Rattle.matrix.proofs.Rows.{left-row, right-row}
 use borrow.Author.Needs.{needs}
-use Rattle.matrix.proofs.rows.combine_rows.Statement.{statement}
-use Rattle.matrix.proofs.rows.combine_rows.Tie as tie
+use Rattle.matrix.proofs.linear.combine_rows.Statement.{statement}
+use Rattle.matrix.proofs.linear.combine_rows.Tie as tie
 
 is-zero-requires : tie.Need-is-zero-requires
 is-zero-requires c κs = search needs

@@ -1,4 +1,4 @@
--- `matrix::rows::scaled_entry` meets its contract.
+-- `matrix::linear::scaled_entry` meets its contract.
 use mathlib.Core.Path.{sym, ap, _∙_, subst}
 use Rattle.scalar.specs.declared.Scalar.{Scalar}
 use Rattle.scalar.specs.Exact.{exact}
@@ -7,8 +7,8 @@ use Rattle.scalar.specs.Cells.{cellAt}
 use Rattle.scalar.specs.Inner.{Coords}
 use Rattle.matrix.proofs.Terms.{by-zero}
 use borrow.Author.Needs.{needs}
-use Rattle.matrix.proofs.rows.scaled_entry.Statement.{statement}
-use Rattle.matrix.proofs.rows.scaled_entry.Tie as tie
+use Rattle.matrix.proofs.linear.scaled_entry.Statement.{statement}
+use Rattle.matrix.proofs.linear.scaled_entry.Tie as tie
 
 zero-at-requires : tie.Need-zero-at-requires
 zero-at-requires c κs = search needs

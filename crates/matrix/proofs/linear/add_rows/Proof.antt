@@ -1,4 +1,4 @@
--- `matrix::rows::add_rows` meets its contract.
+-- `matrix::linear::add_rows` meets its contract.
 use mathlib.Core.Path.{ap, _∙_}
 use Prim.Native.Nat.{ℕ, _+_, _*_, _-_, _≤_}
 use native.Mathlib.Nat.{le-refl}
@@ -11,8 +11,8 @@ use Rattle.scalar.specs.Cells.{cellWords}
 use Rattle.scalar.proofs.Cell.{cell-same}
 use Rattle.matrix.specs.Factors.{combinedRow}
 use Rattle.matrix.proofs.Terms.{factor-same}
-use Rattle.matrix.proofs.rows.add_rows.Statement.{statement}
-use Rattle.matrix.proofs.rows.add_rows.Tie as tie
+use Rattle.matrix.proofs.linear.add_rows.Statement.{statement}
+use Rattle.matrix.proofs.linear.add_rows.Tie as tie
 
 abbrev Inv-loop : tie.InvT-loop
 Inv-loop buf₀ x p y q to d c₀ buf c = Writing 5 buf₀ to d (λ (k : ℕ). cellWords (combinedRow buf₀ (value x) p (value y) q k)) buf c

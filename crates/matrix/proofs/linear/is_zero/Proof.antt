@@ -1,9 +1,9 @@
--- `matrix::rows::is_zero` meets its contract.
+-- `matrix::linear::is_zero` meets its contract.
 use Rattle.scalar.specs.Calls.{numberOf}
 use Rattle.scalar.proofs.Cell.{union-zero}
 use borrow.Author.Needs.{needs}
-use Rattle.matrix.proofs.rows.is_zero.Statement.{statement}
-use Rattle.matrix.proofs.rows.is_zero.Tie as tie
+use Rattle.matrix.proofs.linear.is_zero.Statement.{statement}
+use Rattle.matrix.proofs.linear.is_zero.Tie as tie
 
 array-copy-out-result : tie.Need-array-copy-out-result
 array-copy-out-result c = search needs

@@ -1,12 +1,12 @@
--- `matrix::rows::is_one` meets its contract.
+-- `matrix::linear::is_one` meets its contract.
 use mathlib.Core.Bool.{_&&_}
 use lib.Dec.{eqb, lit≤}
 use lib.IntN.{pos}
 use Rattle.scalar.specs.Calls.{numberOf}
 use Rattle.matrix.proofs.Operands.{eq-word}
 use borrow.Author.Needs.{needs}
-use Rattle.matrix.proofs.rows.is_one.Statement.{statement}
-use Rattle.matrix.proofs.rows.is_one.Tie as tie
+use Rattle.matrix.proofs.linear.is_one.Statement.{statement}
+use Rattle.matrix.proofs.linear.is_one.Tie as tie
 
 array-copy-out-result : tie.Need-array-copy-out-result
 array-copy-out-result c = search needs

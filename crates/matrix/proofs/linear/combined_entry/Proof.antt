@@ -1,14 +1,15 @@
--- `matrix::rows::combined_entry` meets its contract.
+-- `matrix::linear::combined_entry` meets its contract.
 use mathlib.Core.Path.{sym, ap, _∙_, subst}
 use Rattle.scalar.specs.declared.Scalar.{Scalar}
 use Rattle.scalar.specs.Exact.{Exact, exact}
 use Rattle.scalar.specs.Calls.{value}
 use Rattle.scalar.specs.Cells.{cellAt}
 use Rattle.scalar.specs.Inner.{Coords}
-use Rattle.matrix.proofs.Terms.{by-zero, left-only, right-only}
+use Rattle.scalar.proofs.Exact.{mul-lowest}
+use Rattle.matrix.proofs.Terms.{by-zero, zero-right, zero-first}
 use borrow.Author.Needs.{needs}
-use Rattle.matrix.proofs.rows.combined_entry.Statement.{statement}
-use Rattle.matrix.proofs.rows.combined_entry.Tie as tie
+use Rattle.matrix.proofs.linear.combined_entry.Statement.{statement}
+use Rattle.matrix.proofs.linear.combined_entry.Tie as tie
 
 -- the factors
 abbrev x : tie.Start → Exact
@@ -34,7 +35,7 @@ returns c =
     let t = c .before in
     let z = t .before in
     let s = z .before in
-    c .scaled-entry .ensures ∙ sym (right-only (x s) (p s) (y s) (q s) (by-zero (x s) (p s) (sym (z .zero-at .ensures) ∙ t .if1 .taken)))
+    c .scaled-entry .ensures ∙ sym (zero-first (x s) (p s) (y s) (q s) (by-zero (x s) (p s) (sym (z .zero-at .ensures) ∙ t .if1 .taken)))
 
 read-cell-requires : tie.Need-read-cell-requires
 read-cell-requires c κs = search needs
@@ -55,7 +56,7 @@ returns-2 c =
     let r = z .before in
     let s = r .before .before .before in
     ap value (c .times .ensures) ∙ (λ i. exact ._⊗_ (x s) (value (r .read-cell .ensures i)))
-    ∙ sym (left-only (x s) (p s) (y s) (q s) (by-zero (y s) (q s) (sym (z .zero-at2 .ensures) ∙ t .if2 .taken)))
+    ∙ sym (zero-right (exact ._⊗_ (x s) (p s)) (y s) (q s) (mul-lowest (x s) (p s)) (sym (z .zero-at2 .ensures) ∙ t .if2 .taken))
 
 read-cell-requires-2 : tie.Need-read-cell-requires-2
 read-cell-requires-2 c κs = search needs

@@ -12,14 +12,14 @@ use Rattle.algebra.specs.Words.{upTo, fillWords, joined}
 use Rattle.algebra.proofs.Blocks.{blocks-joined, blocks-same, joined-rows, joined-same}
 use Rattle.scalar.specs.Exact.{Exact, exact}
 use Rattle.scalar.specs.Cells.{cellAt, cellWords, exponentAt, isZero, fill}
-use Rattle.scalar.proofs.Exact.{one-by}
+use Rattle.scalar.proofs.Exact.{one-by, mul-lowest}
 use Rattle.matrix.specs.Phase.{same}
 use Rattle.matrix.specs.Factors.{Scaling, scaledRow, combinedRow}
-use Rattle.matrix.proofs.Terms.{zero-by, left-only, right-only}
+use Rattle.matrix.proofs.Terms.{zero-by, zero-left, zero-first}
 use Rattle.matrix.proofs.GlobalPhase.{same-true}
 
 -- zero words are zero numbers
-zero-cells : (l : List ℤ) (at n : ℕ) → fillWords l at (n * 5) (λ (i : ℕ). pos 0) ≡ fill l at n (λ (i : ℕ). exact .𝟘)
+pub zero-cells : (l : List ℤ) (at n : ℕ) → fillWords l at (n * 5) (λ (i : ℕ). pos 0) ≡ fill l at n (λ (i : ℕ). exact .𝟘)
 unfolding joined
 zero-cells l at n =
     blocks-joined 1 (λ (i : ℕ). pos 0 ∷ []) (λ i. refl) l at (n * 5)
@@ -64,7 +64,7 @@ module _ {l : List ℤ} {x : Exact} {from to d : ℕ} (s : Scaling l x from to d
 
 module _ (l : List ℤ) (x : Exact) (p : ℕ) (y : Exact) (q to d : ℕ) {b : List ℤ} where
   pub left-row : isZero (y .num) ≡ true → b ≡ fill l to d (scaledRow l x p) → b ≡ fill l to d (combinedRow l x p y q)
-  left-row z e = e ∙ blocks-same 5 l to d _ _ (λ c h. ap cellWords (sym (left-only x (cellAt l (p + c * 5)) y (cellAt l (q + c * 5)) (zero-by y (cellAt l (q + c * 5)) z))))
+  left-row z e = e ∙ blocks-same 5 l to d _ _ (λ c h. ap cellWords (sym (zero-left (scaledRow l x p c) y (cellAt l (q + c * 5)) (mul-lowest x (cellAt l (p + c * 5))) z)))
 
   pub right-row : isZero (x .num) ≡ true → b ≡ fill l to d (scaledRow l y q) → b ≡ fill l to d (combinedRow l x p y q)
-  right-row z e = e ∙ blocks-same 5 l to d _ _ (λ c h. ap cellWords (sym (right-only x (cellAt l (p + c * 5)) y (cellAt l (q + c * 5)) (zero-by x (cellAt l (p + c * 5)) z))))
+  right-row z e = e ∙ blocks-same 5 l to d _ _ (λ c h. ap cellWords (sym (zero-first x (cellAt l (p + c * 5)) y (cellAt l (q + c * 5)) (zero-by x (cellAt l (p + c * 5)) z))))

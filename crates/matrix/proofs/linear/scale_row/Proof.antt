@@ -1,9 +1,9 @@
--- `matrix::rows::scale_row` meets its contract.
+-- `matrix::linear::scale_row` meets its contract.
 use mathlib.Core.Path.{sym, _∙_}
-use Rattle.matrix.proofs.Scaled.{zero-row, copied-row}
+use Rattle.matrix.proofs.Rows.{zero-row, copied-row}
 use borrow.Author.Needs.{needs}
-use Rattle.matrix.proofs.rows.scale_row.Statement.{statement}
-use Rattle.matrix.proofs.rows.scale_row.Tie as tie
+use Rattle.matrix.proofs.linear.scale_row.Statement.{statement}
+use Rattle.matrix.proofs.linear.scale_row.Tie as tie
 
 is-zero-requires : tie.Need-is-zero-requires
 is-zero-requires c κs = search needs

@@ -1,4 +1,4 @@
--- `matrix::rows::multiply_row` meets its contract.
+-- `matrix::linear::multiply_row` meets its contract.
 use mathlib.Core.Path.{ap, _∙_}
 use Prim.Native.Nat.{ℕ, _+_, _*_, _-_, _≤_}
 use native.Mathlib.Nat.{le-refl}
@@ -11,8 +11,8 @@ use Rattle.scalar.specs.Cells.{cellWords}
 use Rattle.scalar.proofs.Cell.{cell-same}
 use Rattle.matrix.specs.Factors.{scaledRow}
 use Rattle.matrix.proofs.Terms.{factor-same}
-use Rattle.matrix.proofs.rows.multiply_row.Statement.{statement}
-use Rattle.matrix.proofs.rows.multiply_row.Tie as tie
+use Rattle.matrix.proofs.linear.multiply_row.Statement.{statement}
+use Rattle.matrix.proofs.linear.multiply_row.Tie as tie
 
 abbrev Inv-loop : tie.InvT-loop
 Inv-loop buf₀ x from to d c₀ buf c = Writing 5 buf₀ to d (λ (k : ℕ). cellWords (scaledRow buf₀ (value x) from k)) buf c
