@@ -35,6 +35,21 @@ module _ (𝓡 : Semi) where
           ap₂ _⊕_ (sum-zero n (λ (k : ℕ). f k ⊗ g k) (λ k j. h k (omega arith) (omega arith))) (ap (λ (k : ℕ). f k ⊗ g k) (sym e)) ∙ zero-add (f i) (g i)
       go (no e) r = ap₂ _⊕_ (r (omega arith)) (h n (omega arith) (λ x. e (sym x))) ∙ add-zero 𝓡 (f i) (g i)
 
+  -- and with two
+  pub sum-two : (n i j : ℕ) (f g : ℕ → R) → i < n → j < n → i ≢ j → ((k : ℕ) → k < n → k ≢ i → k ≢ j → f k ⊗ g k ≡ 𝟘) → sum ops n (λ (k : ℕ). f k ⊗ g k) ≡ f i ⊗ g i ⊕ f j ⊗ g j
+  sum-two zero i j f g l m e h = absurd (omega arith)
+  sum-two (suc n) i j f g l m e h = go (ℕ-discrete i n) (ℕ-discrete j n) (λ l m. sum-two n i j f g l m e (λ k p. h k (omega arith)))
+    where
+      go : Dec (i ≡ n) → Dec (j ≡ n) → (i < n → j < n → sum ops n (λ (k : ℕ). f k ⊗ g k) ≡ f i ⊗ g i ⊕ f j ⊗ g j)
+          → sum ops n (λ (k : ℕ). f k ⊗ g k) ⊕ f n ⊗ g n ≡ f i ⊗ g i ⊕ f j ⊗ g j
+      go (yes p) (yes q) r = absurd (e (p ∙ sym q))
+      go (yes p) (no q) r =
+          ap₂ _⊕_ (sum-one n j f g (omega arith) (λ k a b. h k (omega arith) (omega arith) b)) (ap (λ (k : ℕ). f k ⊗ g k) (sym p)) ∙ add-comm (f j ⊗ g j) (f i ⊗ g i)
+      go (no p) (yes q) r = ap₂ _⊕_ (sum-one n i f g (omega arith) (λ k a b. h k (omega arith) b (omega arith))) (ap (λ (k : ℕ). f k ⊗ g k) (sym q))
+      go (no p) (no q) r =
+          ap₂ _⊕_ (r (omega arith) (omega arith)) (h n (omega arith) (λ x. p (sym x)) (λ x. q (sym x)))
+          ∙ add-assoc (f i ⊗ g i) (f j ⊗ g j) 𝟘 ∙ ap (λ (x : R). f i ⊗ g i ⊕ x) (add-zero 𝓡 (f j) (g j))
+
   pub sum-add : (n : ℕ) (f g : ℕ → R) → sum ops n (λ (k : ℕ). f k ⊕ g k) ≡ sum ops n f ⊕ sum ops n g
   sum-add zero f g = sym (zero-zero 𝓡)
   sum-add (suc n) f g = ap (λ (x : R). x ⊕ (f n ⊕ g n)) (sum-add n f g) ∙ add-four 𝓡 (sum ops n f) (sum ops n g) (f n) (g n)

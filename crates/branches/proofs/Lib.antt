@@ -1,6 +1,7 @@
 pub mod Stores
 pub mod Banks
+pub mod Products
+pub mod Gates
 pub mod Steps
 pub mod Link
-pub mod Gates
 pub mod Runs

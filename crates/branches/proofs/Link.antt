@@ -1,68 +1,47 @@
--- From the sizes of a circuit's numbers to what a product in words asks; and a step of a bank is the step of its branches.
-use mathlib.Core.Path.{_≡_, refl, sym, ap, ap₂, _∙_, subst₂}
+-- From the sizes of a circuit's numbers to what a step in words asks; and a step of a bank is the step of its branches.
+use mathlib.Core.Path.{_≡_, refl, sym, ap, ap₂, _∙_}
 use mathlib.Core.Bool.{true}
 use mathlib.Core.List.{List, [], _∷_, _++_, map}
 use Prim.Native.Nat.{ℕ, zero, suc, _+_, _*_, _/_, _%_, _^_, _≤_, _<_}
 use native.Mathlib.Nat.{not-suc-le-zero, div-add-mod', div-lt-iff-lt-mul, mod-lt, le-of-eq}
 use native.Mathlib.Omega.{arith}
-use lib.Arith.{digits-lt, digits-div, digits-mod}
+use lib.Arith.{digits-lt}
 use lib.ListN.{length, getD, length-map}
 use lib.IntN.{ℤ}
-use Rattle.algebra.specs.Sum.{sum, times}
+use Rattle.algebra.specs.Sum.{times}
 use Rattle.algebra.specs.Lists.{All}
 use Rattle.algebra.specs.Words.{blocks}
 use Rattle.algebra.proofs.Lists.{all-getD, concat-length, concat-at}
-use Rattle.algebra.proofs.Sum.{sum-same, times-same}
-use Rattle.scalar.specs.Exact.{Exact, exact}
-use Rattle.scalar.specs.Inner.{Room}
+use Rattle.algebra.proofs.Sum.{times-same}
+use Rattle.scalar.specs.Exact.{Exact, exact, isLowest}
+use Rattle.scalar.specs.Cells.{cellAt}
+use Rattle.scalar.specs.Inner.{Coords}
 use Rattle.scalar.proofs.Exact.{exacts}
+use Rattle.scalar.proofs.Sizes.{well-lowest}
 use Rattle.scalar.proofs.Cell.{cells-same}
 use Rattle.matrix.specs.Matrix as matrix
-use Rattle.matrix.specs.Factors.{Factors}
-use Rattle.matrix.proofs.Terms.{row-lt, column-lt}
+use Rattle.matrix.specs.Factors.{Factor}
+use Rattle.matrix.proofs.Terms.{column-lt}
 use Rattle.gate.specs.Gate.{Gate, valid}
-use Rattle.gate.specs.Operators.{Operator, operators}
+use Rattle.gate.specs.Operators.{Operator, operator, operators, noUnitary}
+use Rattle.gate.specs.Entries.{gateEntry}
 use Rattle.gate.proofs.Bits.{Word}
 use Rattle.kraus.specs.Dense.{cell}
 use Rattle.kraus.specs.Branch.{Branch, apply, step}
-use Rattle.kraus.proofs.Enough.{Matrix, Everywhere, Along}
-use Rattle.kraus.proofs.Limits.{Kraus, Fitting, Enough, matrixOf, gate-entries}
+use Rattle.kraus.proofs.Enough.{Everywhere}
+use Rattle.kraus.proofs.Limits.{Kraus, Enough, matrixOf, gate-entries}
 use Rattle.branches.specs.Store.{StoreAt, outcomePair, outcomeBit}
 use Rattle.branches.specs.Bank.{matrixSize, branchSize, branchWords, bankWords, Holds}
-use Rattle.branches.specs.Step.{stepWords}
+use Rattle.branches.specs.Step.{product, stepWords}
 use Rattle.branches.proofs.Stores.{outcome-store}
-use Rattle.branches.proofs.Banks.{Read, read-factor, bank-read, bank-low, bank-high, store-at, held-blocks, table-cells}
+use Rattle.branches.proofs.Banks.{read-factor, bank-read, bank-low, bank-high, store-at, held-blocks, table-cells}
 use Rattle.branches.proofs.Steps.{factor-pos, length-product}
 
--- an operator M in words, and the matrix of a branch
-module _ {l : List ℤ} {op old : ℕ} (n : ℕ) (M : Matrix) (m : List Exact)
-    (left : Read l op (2 ^ n * 2 ^ n) (λ (i : ℕ). M (i / 2 ^ n) (i % 2 ^ n))) (right : Read l old (2 ^ n * 2 ^ n) (λ (i : ℕ). getD m i (exact .𝟘))) where
-  abbrev d : ℕ
-  d = 2 ^ n
+-- ---- a step of a bank is the step of its branches; z is read past the end of a list
+module _ (n m : ℕ) (g : Gate) (ok : valid n m g ≡ true) (z : Branch) (bs : List Branch) where
+  abbrev o : Operator
+  o = operator noUnitary 0
 
-  left-is : (r k : ℕ) → r < d → k < d → matrix.cell l op d r k ≡ M r k
-  left-is r k p q = left .number (r * d + k) (digits-lt p q) ∙ ap₂ M (digits-div r q) (digits-mod r q)
-
-  right-is : (k c : ℕ) → k < d → c < d → matrix.cell l old d k c ≡ cell exact d m k c
-  right-is k c p q = right .number (k * d + c) (digits-lt p q)
-
-  -- the product of the words is that of the matrices
-  pub product-is : (r c : ℕ) → r < 2 ^ n → c < 2 ^ n → times exact (2 ^ n) (matrix.cell l op (2 ^ n)) (matrix.cell l old (2 ^ n)) r c ≡ times exact (2 ^ n) M (cell exact (2 ^ n) m) r c
-  product-is r c p q = times-same exacts d (matrix.cell l op d) M (matrix.cell l old d) (cell exact d m) r c (λ k h. left-is r k p h) (λ k h. right-is k c h q)
-
-  pub linked : (E : ℕ) → E ≤ 28 → Everywhere (Kraus 1) n M → ((i : ℕ) → i < 2 ^ n * 2 ^ n → Kraus E (getD m i (exact .𝟘)))
-      → ((c : ℕ) → c < 2 ^ n → (r k : ℕ) → r < 2 ^ n → k ≤ 2 ^ n → Fitting (1 + E) (sum exact k (λ (j : ℕ). exact ._⊗_ (M r j) (cell exact (2 ^ n) m j c))))
-      → Factors l op old (2 ^ n)
-  linked E small unit kraus sums = record {
-    left = λ i h. read-factor left 1 (omega arith) i h (unit (i % d) (column-lt i d h) (i / d) (row-lt i d h));
-    right = λ i h. read-factor right E small i h (kraus i h);
-    sums = λ r c k hr hc hk. subst₂ Room (sym (λ i. left-is r k hr hk i .exp + right-is k c hk hc i .exp))
-        (sym (sum-same exacts k _ _ (λ j h. ap₂ (exact ._⊗_) (left-is r j hr (omega arith)) (right-is j c (omega arith) hc))))
-        (sums c hc r k hr (omega arith) .room (M r k .exp + cell exact d m k c .exp) (omega (arith, unit k hk r hr .coords .exponent, kraus (k * d + c) (digits-lt hk hc) .coords .exponent)));
-  }
-
--- ---- a step of a bank is the step of its branches; o and z are read past the ends of lists
-module _ (n m : ℕ) (g : Gate) (ok : valid n m g ≡ true) (o : Operator) (z : Branch) (bs : List Branch) where
   abbrev os : List Operator
   os = operators g
 
@@ -84,18 +63,35 @@ module _ (n m : ℕ) (g : Gate) (ok : valid n m g ≡ true) (o : Operator) (z : 
       past b zero (x ∷ xs) h = refl
       past b (suc k) (x ∷ xs) h = past b k xs (omega arith)
 
-  module _ {l : List ℤ} {from : ℕ} (slots : ℕ) (held : Holds l from (bankWords (2 ^ n) bs))
-      (operators-read : (k : ℕ) → k < length (operators g) → Read l (slots + k * branchSize (2 ^ n)) (2 ^ n * 2 ^ n) (λ (i : ℕ). matrixOf n g (getD (operators g) k o) (i / 2 ^ n) (i % 2 ^ n))) where
-    -- its factors are small
-    pub step-factors : (E : ℕ) → E ≤ 28 → Enough E n bs → (j : ℕ) → j < length bs * length (operators g)
-        → Factors l (slots + j % length (operators g) * branchSize (2 ^ n)) (from + j / length (operators g) * branchSize (2 ^ n)) (2 ^ n)
-    step-factors E small enough j h =
-        let p = factor-pos j (length bs) ops h in
-        let b = div-lt-iff-lt-mul p .1 h in
-        linked n (matrixOf n g (getD os (j % ops) o)) (getD bs (j / ops) z .matrix) (operators-read (j % ops) (mod-lt j p)) (bank-read (2 ^ n) bs held z (j / ops) b) E small
-        (all-getD (λ (o : Operator). Everywhere (Kraus 1) n (matrixOf n g o)) os (gate-entries n m g ok) (j % ops) (mod-lt j p) o)
-        (all-getD (λ (b : Branch). (i : ℕ) → i < 2 ^ n * 2 ^ n → Kraus E (getD (b .matrix) i (exact .𝟘))) bs (enough .entries) (j / ops) b z)
-        (all-getD (Along (Fitting (1 + E)) n (matrixOf n g (getD os (j % ops) o))) bs (all-getD (λ (o : Operator). All (Along (Fitting (1 + E)) n (matrixOf n g o)) bs) os (enough .products m g ok) (j % ops) (mod-lt j p) o) (j / ops) b z)
+  -- the entries of its operators are small
+  pub step-small : (v r c : ℕ) → v < length (operators g) → r < 2 ^ n → c < 2 ^ n → Coords 1 28 (gateEntry n g v r c)
+  step-small v r c hv hr hc =
+      let k = all-getD (λ (o : Operator). Everywhere (Kraus 1) n (matrixOf n g o)) os (gate-entries n m g ok) v hv o c hc r hr in
+      record { exponent = omega (arith, k .coords .exponent); size = k .coords .size }
+
+  module _ {l : List ℤ} {from : ℕ} (held : Holds l from (bankWords (2 ^ n) bs)) where
+    -- and so are those of its branches
+    module _ (E : ℕ) (small : E ≤ 28) (enough : Enough E n bs) (j i : ℕ) (h : j < length bs) (hi : i < 2 ^ n * 2 ^ n) where
+      abbrev x : Exact
+      x = getD (getD bs j z .matrix) i (exact .𝟘)
+
+      kraus : Kraus E x
+      kraus = all-getD (λ (b : Branch). (i : ℕ) → i < 2 ^ n * 2 ^ n → Kraus E (getD (b .matrix) i (exact .𝟘))) bs (enough .entries) j h z i hi
+
+      cell-is : cellAt l (from + j * branchSize (2 ^ n) + i * 5) ≡ x
+      cell-is = bank-read (2 ^ n) bs held z j h .number i hi
+
+      pub step-factor : Factor l (from + j * branchSize (2 ^ n) + i * 5)
+      step-factor = read-factor (bank-read (2 ^ n) bs held z j h) E small i hi kraus
+
+      pub step-lowest : isLowest (cellAt l (from + j * branchSize (2 ^ n) + i * 5)) ≡ true
+      step-lowest = ap isLowest cell-is ∙ well-lowest x (kraus .well-formed)
+
+    -- the product with a branch in words is that with its matrix
+    product-is : (j : ℕ) → j < length bs → (v r c : ℕ) → c < 2 ^ n
+        → product l n g v (from + j * branchSize (2 ^ n)) (2 ^ n) r c ≡ times exact (2 ^ n) (matrixOf n g (getD os v o)) (cell exact (2 ^ n) (getD bs j z .matrix)) r c
+    product-is j h v r c q = times-same exacts (2 ^ n) (gateEntry n g v) (gateEntry n g v) (matrix.cell l (from + j * branchSize (2 ^ n)) (2 ^ n)) (cell exact (2 ^ n) (getD bs j z .matrix)) r c
+        (λ k hk. refl) (λ k hk. bank-read (2 ^ n) bs held z j h .number (k * 2 ^ n + c) (digits-lt hk q))
 
     module _ (words : All (λ (b : Branch). Word m (b .store)) bs) (few : m ≤ 64) where
       -- its stores are two words below 2^32 each
@@ -104,21 +100,21 @@ module _ (n m : ℕ) (g : Gate) (ok : valid n m g ≡ true) (o : Operator) (z : 
           let (e, b) = all-getD (λ (b : Branch). Word m (b .store)) bs words j h z in
           store-at (2 ^ n) bs held z j h b (omega arith)
 
-      step-words : (j : ℕ) → j < length bs * ops → stepWords l slots ops from (2 ^ n) (outcomeBit g) j ≡ branchWords (2 ^ n) (getD (step n bs g) j (apply n g z o))
+      step-words : (j : ℕ) → j < length bs * ops → stepWords l n g ops from (2 ^ n) (outcomeBit g) j ≡ branchWords (2 ^ n) (getD (step n bs g) j (apply n g z o))
       step-words j h =
           let p = factor-pos j (length bs) ops h in
           let b = div-lt-iff-lt-mul p .1 h in
           let M = matrixOf n g (getD os (j % ops) o) in
           let x = getD bs (j / ops) z in
-          (λ i. (cells-same (2 ^ n * 2 ^ n) _ _ (λ k hk. product-is n M (x .matrix) (operators-read (j % ops) (mod-lt j p)) (bank-read (2 ^ n) bs held z (j / ops) b) (k / 2 ^ n) (k % 2 ^ n) (row-lt k (2 ^ n) hk) (column-lt k (2 ^ n) hk))
+          (λ i. (cells-same (2 ^ n * 2 ^ n) _ _ (λ k hk. product-is (j / ops) b (j % ops) (k / 2 ^ n) (k % 2 ^ n) (column-lt k (2 ^ n) hk))
           ∙ table-cells (2 ^ n) (times exact (2 ^ n) M (cell exact (2 ^ n) (x .matrix)))) i
           ++ (ap₂ (outcomePair (outcomeBit g) (j % ops)) (bank-low (2 ^ n) bs held z (j / ops) b) (bank-high (2 ^ n) bs held z (j / ops) b)
           ∙ outcome-store n m g o (x .store) (j % ops) ok (all-getD (λ (b : Branch). Word m (b .store)) bs words (j / ops) b z) few (mod-lt j p)) i)
           ∙ ap (branchWords (2 ^ n)) (sym (step-at j h))
 
-      pub step-held : {to : ℕ} {q : List ℤ} → q ≡ blocks (branchSize (2 ^ n)) l to (length bs * length (operators g)) (stepWords l slots (length (operators g)) from (2 ^ n) (outcomeBit g))
+      pub step-held : {to : ℕ} {q : List ℤ} → q ≡ blocks (branchSize (2 ^ n)) l to (length bs * length (operators g)) (stepWords l n g (length (operators g)) from (2 ^ n) (outcomeBit g))
           → to + length bs * length (operators g) * branchSize (2 ^ n) ≤ length l → Holds q to (bankWords (2 ^ n) (step n bs g))
       step-held {to} e room =
-          let f = stepWords l slots ops from (2 ^ n) (outcomeBit g) in
+          let f = stepWords l n g ops from (2 ^ n) (outcomeBit g) in
           held-blocks l to (2 ^ n) f (apply n g z o) (step n bs g) (e ∙ ap (λ (k : ℕ). blocks (branchSize (2 ^ n)) l to k f) (sym step-length))
-          (λ j. le-of-eq (length-product l _ _ (2 ^ n) (outcomeBit g) (j % ops))) (omega (arith, ap (λ (k : ℕ). k * branchSize (2 ^ n)) step-length)) (λ j h. step-words j (omega (arith, step-length)))
+          (λ j. le-of-eq (length-product l n g _ (2 ^ n) (outcomeBit g) (j % ops))) (omega (arith, ap (λ (k : ℕ). k * branchSize (2 ^ n)) step-length)) (λ j h. step-words j (omega (arith, step-length)))

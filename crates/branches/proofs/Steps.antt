@@ -1,24 +1,30 @@
--- One turn of a step's loop: the operator and the branch are as they were, their product may be taken, and one branch more is written.
-use mathlib.Core.Path.{_≡_, ap, _∙_}
+-- One turn of a step's loop: the branch is as it was, its product may be taken, and one branch more is written.
+use mathlib.Core.Path.{_≡_, refl, ap, _∙_}
 use mathlib.Core.List.{List, _++_}
 use Prim.Native.Nat.{ℕ, zero, suc, _+_, _*_, _-_, _/_, _%_, _^_, _≤_, _<_}
 use native.Mathlib.Nat.{mod-lt, div-lt-iff-lt-mul, mul-le-mul, le-refl}
 use native.Mathlib.Omega.{arith}
+use lib.Arith.{digits-lt}
+use lib.Bits.{bitAnd, and-mask}
 use lib.ListN.{length, length-append}
 use lib.Seq.{sets}
 use lib.IntN.{ℤ}
-use Rattle.algebra.specs.Sum.{times}
+use lib.Pow.{pow-mono}
 use Rattle.algebra.specs.Words.{Apart, upTo}
-use Rattle.algebra.proofs.Blocks.{Writing, again, kept, wrote, long, Same, same-trans, part, narrow, block-in, append-block}
-use Rattle.scalar.specs.Exact.{Exact, exact}
+use Rattle.algebra.proofs.Sum.{times-same}
+use Rattle.algebra.proofs.Blocks.{Writing, again, kept, wrote, Same, same-trans, part, cut, narrow, block-in, append-block}
+use Rattle.scalar.specs.Exact.{Exact, isLowest}
 use Rattle.scalar.specs.Cells.{cells}
-use Rattle.scalar.proofs.Cell.{fill-block, length-cells, cells-same}
-use Rattle.matrix.specs.Matrix.{cell, multiplied}
-use Rattle.matrix.specs.Factors.{Places}
-use Rattle.matrix.proofs.Terms.{row-lt, column-lt, row-same, places-same}
+use Rattle.scalar.proofs.Exact.{exacts}
+use Rattle.scalar.proofs.Cell.{fill-block, length-cells, cell-same, cells-same}
+use Rattle.gate.specs.Gate.{Gate}
+use Rattle.gate.specs.Entries.{gateEntry}
+use Rattle.matrix.specs.Matrix.{cell, written}
+use Rattle.matrix.proofs.Terms.{column-lt, factor-same}
 use Rattle.branches.specs.Store.{StoreAt, outcomePair, outcomeWords}
 use Rattle.branches.specs.Bank.{matrixSize, branchSize}
-use Rattle.branches.specs.Step.{Step, productWords, stepWords}
+use Rattle.branches.specs.Step.{product, Applying, productWords, stepWords, Step}
+use Rattle.branches.proofs.Gates.{two-operators, operators-some}
 
 pub dim-square : (d : ℕ) → d ≤ 32 → d * d ≤ 1024
 dim-square d h = mul-le-mul h h
@@ -27,90 +33,126 @@ pub factor-pos : (j n k : ℕ) → j < n * k → 0 < k
 factor-pos j n zero h = absurd (omega arith)
 factor-pos j n (suc k) h = omega arith
 
-pub length-product : (l : List ℤ) (op old d bit v : ℕ) → length (productWords l op old d bit v) ≡ branchSize d
-length-product l op old d bit v =
+pub length-product : (l : List ℤ) (n : ℕ) (g : Gate) (old d bit v : ℕ) → length (productWords l n g old d bit v) ≡ branchSize d
+length-product l n g old d bit v =
     length-append (cells (d * d) entry) (outcomeWords l (old + matrixSize d) bit v) ∙ ap (λ (k : ℕ). k + 2) (length-cells entry (d * d))
   where
     entry : ℕ → Exact
-    entry i = times exact d (cell l op d) (cell l old d) (i / d) (i % d)
+    entry i = product l n g v old d (i / d) (i % d)
 
-module _ {l : List ℤ} {slots ops from to d n : ℕ} (p : Step l slots ops from to d n) {j : ℕ} (h : j < n * ops) where
-  abbrev op : ℕ
-  op = slots + j % ops * branchSize d
+-- ---- the numbers of operator and branch, by a mask and a shift
+number-by : (j ops : ℕ) → 1 ≤ ops → ops ≤ 2 → bitAnd j (ops - 1) ≡ j % ops
+number-by j zero h k = absurd (omega arith)
+number-by j (suc zero) h k = and-mask j 0
+number-by j (suc (suc zero)) h k = and-mask j 1
+number-by j (suc (suc (suc ops))) h k = absurd (omega arith)
 
-  abbrev old : ℕ
-  old = from + j / ops * branchSize d
+branch-by : (j ops : ℕ) → 1 ≤ ops → ops ≤ 2 → j / 2 ^ (ops - 1) ≡ j / ops
+branch-by j zero h k = absurd (omega arith)
+branch-by j (suc zero) h k = refl
+branch-by j (suc (suc zero)) h k = refl
+branch-by j (suc (suc (suc ops))) h k = absurd (omega arith)
 
-  abbrev new : ℕ
-  new = to + j * branchSize d
+-- what a step asks of its sizes
+module _ {l : List ℤ} {n : ℕ} {g : Gate} {ops from to d count : ℕ} (p : Step l n g ops from to d count) where
+  pub some-op : 1 ≤ ops
+  some-op = omega (arith, p .ops-are, operators-some g)
 
-  abbrev size : ℕ
-  size = branchSize d
+  pub few-ops : ops ≤ 2
+  few-ops = omega (arith, p .ops-are, two-operators g)
 
-  pub some-op : 0 < ops
-  some-op = factor-pos j n ops h
+  pub number-is : (j : ℕ) → bitAnd j (ops - 1) ≡ j % ops
+  number-is j = number-by j ops some-op few-ops
 
-  pub op-in : j % ops * size + size ≤ ops * size
-  op-in = block-in (mod-lt j some-op) size
+  pub branch-is : (j : ℕ) → j / 2 ^ (ops - 1) ≡ j / ops
+  branch-is j = branch-by j ops some-op few-ops
 
-  old-lt : j / ops < n
-  old-lt = div-lt-iff-lt-mul some-op .1 h
+  pub step-square : d * d ≤ 1024
+  step-square = dim-square d (omega (arith, p .dim, pow-mono {i = n} {j = 5} (p .few)))
 
-  pub old-in : j / ops * size + size ≤ n * size
-  old-in = block-in old-lt size
+  pub total-le : count * ops ≤ length l
+  total-le = let h : 1 ≤ branchSize d = omega arith in omega (arith, p .to-room, mul-le-mul (le-refl (count * ops)) h)
 
-  pub new-in : j * size + size ≤ n * ops * size
-  new-in = block-in h size
+  module _ {j : ℕ} (h : j < count * ops) where
+    abbrev old : ℕ
+    old = from + j / ops * branchSize d
 
-  module _ (bit : ℕ) {b : List ℤ} (w : Writing (branchSize d) l to (n * ops) (stepWords l slots ops from d bit) b j) where
-    operator : Same b l op (d * d * 5)
-    operator = part (kept w slots (ops * size) (p .ops-apart)) op (d * d * 5) (omega arith) (omega (arith, op-in))
+    abbrev new : ℕ
+    new = to + j * branchSize d
 
-    branch : Same b l old size
-    branch = part (kept w from (n * size) (p .from-apart)) old size (omega arith) (omega (arith, old-in))
+    abbrev size : ℕ
+    size = branchSize d
 
-    matrix : Same b l old (d * d * 5)
-    matrix = part branch old (d * d * 5) (omega arith) (omega arith)
+    number-lt : j % ops < ops
+    number-lt = mod-lt j some-op
 
-    -- the branch lies apart from the place of its product
-    old-apart : Apart old size new size
-    old-apart = narrow from (n * size) to (n * ops * size) old size new size (p .from-apart) (omega arith) (omega (arith, old-in)) (omega arith) (omega (arith, new-in))
+    old-lt : j / ops < count
+    old-lt = div-lt-iff-lt-mul some-op .1 h
 
-    pub turn-places : Places b op old new d
-    turn-places = places-same operator matrix (record {
-      factors = p .factors j h;
-      room = omega (arith, new-in, p .to-room);
-      left-apart = narrow slots (ops * size) to (n * ops * size) op (d * d * 5) new (d * d * 5) (p .ops-apart) (omega arith) (omega (arith, op-in)) (omega arith) (omega (arith, new-in));
-      right-apart = narrow old size new size old (d * d * 5) new (d * d * 5) old-apart (omega arith) (omega arith) (omega arith) (omega arith);
-    })
+    pub old-in : j / ops * branchSize d + branchSize d ≤ count * branchSize d
+    old-in = block-in old-lt size
 
-    -- after the product
-    module _ {m : List ℤ} (e : m ≡ multiplied b op old new d) where
-      abbrev entry : ℕ → Exact
-      entry i = times exact d (cell b op d) (cell b old d) (i / d) (i % d)
+    pub new-in : j * branchSize d + branchSize d ≤ count * ops * branchSize d
+    new-in = block-in h size
 
-      store : Same m l (old + matrixSize d) 2
-      store =
-          same-trans
-          (kept (wrote (λ k. le-refl 5) e) (old + matrixSize d) 2 (narrow old size new size (old + matrixSize d) 2 new (d * d * 5) old-apart (omega arith) (omega arith) (omega arith) (omega arith)))
-          (part branch (old + matrixSize d) 2 (omega arith) (omega arith))
+    module _ (bit : ℕ) {b : List ℤ} (w : Writing (branchSize d) l to (count * ops) (stepWords l n g ops from d bit) b j) where
+      branch : Same b l old size
+      branch = part (kept w from (count * size) (p .from-apart)) old size (omega arith) (omega (arith, old-in))
 
-      pub turn-store : StoreAt m (old + matrixSize d)
-      turn-store =
-          let s = p .stores (j / ops) old-lt in
-          record {
-            room = omega (arith, store .long, s .room);
-            low = ap (upTo (2 ^ 32 - 1)) (store .word (old + matrixSize d) (omega arith) (omega arith)) ∙ s .low;
-            high = ap (upTo (2 ^ 32 - 1)) (store .word (old + matrixSize d + 1) (omega arith) (omega arith)) ∙ s .high;
-          }
+      matrix : Same b l old (d * d * 5)
+      matrix = part branch old (d * d * 5) (omega arith) (omega arith)
 
-      pub turn-room : new + matrixSize d + 2 ≤ length m
-      turn-room = omega (arith, store .long, new-in, p .to-room)
+      same-at : (i : ℕ) → i < d * d → Same b l (old + i * 5) 5
+      same-at i hi = cut matrix 5 i (block-in hi 5)
 
-      pub turn-more : {q : List ℤ} → q ≡ sets m (new + matrixSize d) (outcomeWords m (old + matrixSize d) bit (j % ops))
-          → Writing (branchSize d) l to (n * ops) (stepWords l slots ops from d bit) q (j + 1)
-      turn-more f =
-          again w h
-          (append-block b (cells (d * d) entry) (outcomeWords m (old + matrixSize d) bit (j % ops)) new (matrixSize d) (length-cells entry (d * d)) (e ∙ fill-block entry b new (d * d)) f)
-          (λ i. cells-same (d * d) entry _ (λ k hk. row-same operator matrix (k / d) (k % d) (row-lt k d hk) (column-lt k d hk)) i
-          ++ outcomePair bit (j % ops) (store .word (old + matrixSize d) (omega arith) (omega arith) i) (store .word (old + matrixSize d + 1) (omega arith) (omega arith) i))
+      -- the branch lies apart from the place of its product
+      old-apart : Apart old size new size
+      old-apart = narrow from (count * size) to (count * ops * size) old size new size (p .from-apart) (omega arith) (omega (arith, old-in)) (omega arith) (omega (arith, new-in))
+
+      pub turn-applying : Applying b n g (j % ops) (from + j / ops * branchSize d) (to + j * branchSize d) d
+      turn-applying = record {
+        few = p .few;
+        dim = p .dim;
+        ready = record { known = p .ready .known; on = p .ready .on; able = p .ready .able; which = omega (arith, number-lt, p .ops-are) };
+        small = λ r c hr hc. p .small (j % ops) r c number-lt hr hc;
+        old-room = omega (arith, branch .long, old-in, p .from-room);
+        factor = λ i hi. factor-same (same-at i hi) (p .factor (j / ops) i old-lt hi);
+        lowest = λ i hi. ap isLowest (cell-same (same-at i hi)) ∙ p .lowest (j / ops) i old-lt hi;
+        new-room = omega (arith, branch .long, new-in, p .to-room);
+        apart = narrow old size new size old (d * d * 5) new (d * d * 5) old-apart (omega arith) (omega arith) (omega arith) (omega arith);
+      }
+
+      -- after the product
+      module _ {m : List ℤ} (e : m ≡ written b (to + j * branchSize d) d (product b n g (j % ops) (from + j / ops * branchSize d) d)) where
+        abbrev entry : ℕ → Exact
+        entry i = product b n g (j % ops) old d (i / d) (i % d)
+
+        store : Same m l (old + matrixSize d) 2
+        store =
+            same-trans
+            (kept (wrote (λ k. le-refl 5) e) (old + matrixSize d) 2 (narrow old size new size (old + matrixSize d) 2 new (d * d * 5) old-apart (omega arith) (omega arith) (omega arith) (omega arith)))
+            (part branch (old + matrixSize d) 2 (omega arith) (omega arith))
+
+        pub turn-store : StoreAt m (from + j / ops * branchSize d + matrixSize d)
+        turn-store =
+            let s = p .stores (j / ops) old-lt in
+            record {
+              room = omega (arith, store .long, s .room);
+              low = ap (upTo (2 ^ 32 - 1)) (store .word (old + matrixSize d) (omega arith) (omega arith)) ∙ s .low;
+              high = ap (upTo (2 ^ 32 - 1)) (store .word (old + matrixSize d + 1) (omega arith) (omega arith)) ∙ s .high;
+            }
+
+        pub turn-room : to + j * branchSize d + matrixSize d + 2 ≤ length m
+        turn-room = omega (arith, store .long, new-in, p .to-room)
+
+        entry-same : (k : ℕ) → k < d * d → entry k ≡ product l n g (j % ops) old d (k / d) (k % d)
+        entry-same k hk = times-same exacts d (gateEntry n g (j % ops)) (gateEntry n g (j % ops)) (cell b old d) (cell l old d) (k / d) (k % d) (λ i q. refl)
+            (λ i q. cell-same (same-at (i * d + k % d) (digits-lt q (column-lt k d hk))))
+
+        pub turn-more : {q : List ℤ} → q ≡ sets m (to + j * branchSize d + matrixSize d) (outcomeWords m (from + j / ops * branchSize d + matrixSize d) bit (j % ops))
+            → Writing (branchSize d) l to (count * ops) (stepWords l n g ops from d bit) q (j + 1)
+        turn-more f =
+            again w h
+            (append-block b (cells (d * d) entry) (outcomeWords m (old + matrixSize d) bit (j % ops)) new (matrixSize d) (length-cells entry (d * d)) (e ∙ fill-block entry b new (d * d)) f)
+            (λ i. cells-same (d * d) entry _ entry-same i
+            ++ outcomePair bit (j % ops) (store .word (old + matrixSize d) (omega arith) (omega arith) i) (store .word (old + matrixSize d + 1) (omega arith) (omega arith) i))

@@ -1,12 +1,15 @@
+use super::apply::apply_operator;
 use super::store::pack;
 use super::store::write_store;
+use gate::entry::flips;
+use gate::judge::GateWords;
 use matrix::products::identity_into;
-use matrix::products::mul_into;
 ghost use mathlib.Core.Path.{_≡_};
 ghost use Prim.Native.Nat.{_+_, _*_, _≤_, min};
 ghost use lib.ListN.{length};
 ghost use lib.Seq.{sets};
 ghost use Rattle.algebra.specs.Words.{blocks};
+ghost use Rattle.gate.specs.Verdict.{gateOf};
 ghost use Rattle.branches.specs.Store.{Bits};
 ghost use Rattle.branches.specs.Bank.{branchSize, branchWords, identityBranch};
 ghost use Rattle.branches.specs.Step.{Step, stepWords};
@@ -39,30 +42,32 @@ pub fn start_branch(work: &mut [i64], at: usize, d: usize, store: &[u8])
     work[s + 1] = high as i64;
 }
 
-// Send each of n branches to its products with each of `ops` operators, in order, and write the operator's number to the store's bit `bit`.
+// Send each of `count` branches to its products with each of the gate's `ops` operators, in order, and write the operator's number to the store's bit `bit`.
 pub fn step(
     work: &mut [i64],
-    slots: usize,
+    g: GateWords,
+    n: u32,
     ops: usize,
     from: usize,
     to: usize,
     d: usize,
-    n: usize,
+    count: usize,
     bit: u32,
 )
-    requires { ⌜ Step (now work) slots ops from to d n ⌝ }
-    ensures { λ _. ⌜ now (work .exit) ≡ blocks (branchSize d) (now (work .entry)) to (n * ops) (stepWords (now (work .entry)) slots ops from d bit) ⌝ }
+    requires { ⌜ Step (now work) n (gateOf g) ops from to d count ⌝ }
+    ensures { λ _. ⌜ now (work .exit) ≡ blocks (branchSize d) (now (work .entry)) to (count * ops) (stepWords (now (work .entry)) n (gateOf g) ops from d bit) ⌝ }
 {
     let matrix = d * d * 5;
     let size = matrix + 2;
-    let total = n * ops;
+    let total = count * ops;
+    let last = ops - 1;
+    let m = flips(g, n);
     let mut j = 0;
     while j < total {
-        let v = j % ops;
-        let op = slots + v * size;
-        let old = from + j / ops * size;
+        let v = j & last;
+        let old = from + (j >> last) * size;
         let new = to + j * size;
-        mul_into(work, op, old, new, d);
+        apply_operator(work, g, n, v, m, old, new, d);
         write_store(work, old + matrix, new + matrix, bit, v as u64);
         j += 1;
     }

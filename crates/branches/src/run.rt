@@ -1,32 +1,22 @@
 use super::bank::branch_size;
 use super::bank::start_branch;
 use super::bank::step;
-use gate::entry::write_operator;
 use gate::judge::GateWords;
 use gate::judge::read_gate;
 ghost use mathlib.Core.Path.{_≡_};
-ghost use Prim.Native.Nat.{_+_, _*_, _/_, _<_, _≤_, _^_};
+ghost use Prim.Native.Nat.{_*_};
 ghost use lib.ListN.{length};
 ghost use Rattle.gate.specs.Gate.{gateAt};
 ghost use Rattle.gate.specs.Operators.{operators};
-ghost use Rattle.gate.specs.Entries.{Ready};
 ghost use Rattle.gate.specs.Verdict.{gateOf};
 ghost use Rattle.branches.specs.Store.{outcomeBit};
-ghost use Rattle.branches.specs.Bank.{branchSize};
-ghost use Rattle.branches.specs.Run.{withOperators, gateStepped, GateStep, Runs, Ran};
+ghost use Rattle.branches.specs.Run.{gateStepped, GateStep, Runs, Ran};
 
-// Write the operators of a gate to the two slots; answers how many they are.
-fn write_operators(work: &mut [i64], slots: usize, n: u32, d: usize, g: GateWords) -> usize
-    requires { ⌜ (slots + 2 * branchSize d ≤ length (now work)) × ((n ≤ 5) × ((d ≡ 2 ^ n) × Ready n (gateOf g) 0)) ⌝ }
-    ensures { λ r. ⌜ (r ≡ length (operators (gateOf g))) × (now (work .exit) ≡ withOperators (now (work .entry)) slots n d (gateOf g)) ⌝ }
+// How many operators a gate has.
+fn operator_count(g: GateWords) -> usize
+    ensures { λ r. ⌜ r ≡ length (operators (gateOf g)) ⌝ }
 {
-    write_operator(work, slots, n, d, g, 0);
-    if g.splits() == 0 {
-        return 1;
-    }
-    let second = slots + branch_size(d);
-    write_operator(work, second, n, d, g, 1);
-    2
+    if g.splits() == 0 { 1 } else { 2 }
 }
 
 // The classical bit that a gate writes; 64, which no store has, where it writes none.
@@ -36,25 +26,24 @@ fn outcome_bit(g: GateWords) -> u32
     if g.kind == 12 { g.b } else { 64 }
 }
 
-// Send the `count` branches at `from` to their products with the operators of the gate at `at`, written to the two slots; answers how many they are.
+// Send the `count` branches at `from` to their products with the operators of the gate at `at`; answers how many they are.
 pub fn step_gate(
     work: &mut [i64],
     gates: &[u32],
     at: usize,
-    slots: usize,
     n: u32,
     d: usize,
     from: usize,
     to: usize,
     count: usize,
 ) -> usize
-    requires { ⌜ GateStep (now work) (now gates) at slots n d from to count ⌝ }
-    ensures { λ r. ⌜ (r ≡ count * length (operators (gateAt (now (gates .entry)) at))) × (now (work .exit) ≡ gateStepped (now (work .entry)) slots n d from to count (gateAt (now (gates .entry)) at)) ⌝ }
+    requires { ⌜ GateStep (now work) (now gates) at n d from to count ⌝ }
+    ensures { λ r. ⌜ (r ≡ count * length (operators (gateAt (now (gates .entry)) at))) × (now (work .exit) ≡ gateStepped (now (work .entry)) n d from to count (gateAt (now (gates .entry)) at)) ⌝ }
 {
     let g = read_gate(gates, at);
-    let ops = write_operators(work, slots, n, d, g);
+    let ops = operator_count(g);
     let bit = outcome_bit(g);
-    step(work, slots, ops, from, to, d, count, bit);
+    step(work, g, n, ops, from, to, d, count, bit);
     count * ops
 }
 
@@ -71,7 +60,6 @@ pub fn run_gates(
     ensures { λ r. ⌜ Ran (now (work .entry)) (now (work .exit)) (now (gates .entry)) (now (store .entry)) n d banks r ⌝ }
 {
     let bank = banks * branch_size(d);
-    let slots = 2 * bank;
     let total = gates.len() / 5;
     start_branch(work, 0, d, store);
     let mut from = 0;
@@ -79,7 +67,7 @@ pub fn run_gates(
     let mut i = 0;
     while i < total {
         let to = bank - from;
-        count = step_gate(work, gates, i * 5, slots, n, d, from, to, count);
+        count = step_gate(work, gates, i * 5, n, d, from, to, count);
         from = to;
         i += 1;
     }

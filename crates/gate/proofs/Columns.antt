@@ -45,7 +45,7 @@ columns w r c hw hr hc =
     (exhaust (λ (w : ℕ). allBelow 32 (λ (r : ℕ). allBelow 32 (λ (c : ℕ). eqb (by-column w r c) (by-bits w r c)))) 5 computed w hw) r hr) c hc)
 
 module _ (n q r c : ℕ) (few : n ≤ 5) (l : q < n) (hr : r < 2 ^ n) (hc : c < 2 ^ n) where
-  agree-one : agree n (q ∷ []) r c ≡ eqb (cleared n q r) (cleared n q c)
+  pub agree-one : agree n (q ∷ []) r c ≡ eqb (cleared n q r) (cleared n q c)
   unfolding Bits.cleared low
   agree-one = agree-clear n (q ∷ []) r c hr hc (l, tt)
 

@@ -11,3 +11,4 @@ pub mod Masked
 pub mod Columns
 pub mod Kind
 pub mod Dispatch
+pub mod Partner

@@ -3,12 +3,13 @@ use mathlib.Core.Path.{_≡_}
 use mathlib.Core.Bool.{cond, true, false}
 use mathlib.Core.List.{List, [], _∷_}
 use Prim.Native.Nat.{ℕ, _+_, _-_, _*_, _^_, _≤_, _<_}
+use lib.Bits.{bitXor}
 use lib.Dec.{eqb}
 use lib.ListN.{length, getD}
 use Rattle.scalar.specs.declared.Scalar.{Scalar}
 use Rattle.scalar.specs.Exact.{Exact, exact}
 use Rattle.scalar.specs.Calls.{value, scalarOf}
-use Rattle.gate.specs.Gate.{Gate, elem, qubits, formed, supported}
+use Rattle.gate.specs.Gate.{Gate, arity, elem, qubits, formed, supported}
 use Rattle.gate.specs.Verdict.{onQubits}
 use Rattle.gate.specs.Operators.{Small, Operator, operator, operators, unitaries, noUnitary, one, none, sameBits}
 use Rattle.gate.specs.Embed.{bit, embed}
@@ -60,6 +61,19 @@ operatorAt g j = getD (operators g) j (operator noUnitary 0)
 abbrev pub gateEntry : ℕ → Gate → ℕ → ℕ → ℕ → Exact
 gateEntry n g j r c = embed exact n (qubits g) (operatorAt g j .small) r c
 
+-- ---- the columns of a row
+-- the bits of a row number that a gate may change: its target's, or those of the two qubits that change places
+abbrev pub flips : ℕ → Gate → ℕ
+flips n g =
+    cond (eqb (g .kind) 19) (2 ^ (n - 1 - g .a) + 2 ^ (n - 1 - g .b))
+    (cond (eqb (g .kind) 26) (2 ^ (n - 1 - g .b) + 2 ^ (n - 1 - g .c))
+    (2 ^ (n - 1 - getD (g .a ∷ g .b ∷ g .c ∷ []) (arity (g .kind) - 1) 0)))
+
+-- row r has entries in column r and in this one, and zeros in all others
+abbrev pub partner : ℕ → Gate → ℕ → ℕ
+partner n g r = bitXor r (flips n g)
+
+-- ---- what is asked
 -- a gate that passes the questions, with one of its operators
 pub record Ready (n : ℕ) (g : Gate) (j : ℕ) : Type 0 where
   pub known : formed g ≡ true

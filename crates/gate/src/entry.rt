@@ -3,6 +3,7 @@ use super::judge::GateWords;
 use super::judge::qubit_count;
 use super::masks::bit_of;
 use super::masks::clear_bit;
+use super::masks::mask;
 use super::masks::set_bit;
 use scalar::Scalar;
 use scalar::cells::write_cell;
@@ -20,7 +21,7 @@ ghost use Rattle.scalar.specs.Calls.{value, scalarOf};
 ghost use Rattle.gate.specs.Operators.{one, none, phase, controlled, swapped};
 ghost use Rattle.gate.specs.Embed.{embed};
 ghost use Rattle.gate.specs.Verdict.{gateOf};
-ghost use Rattle.gate.specs.Entries.{gateEntry, Ready, unitaryOf, targetOf, operatorAt, cleared, tableOf, pick, smallOf, identity, Spot, Apart2, Apart3};
+ghost use Rattle.gate.specs.Entries.{gateEntry, flips, Ready, unitaryOf, targetOf, operatorAt, cleared, tableOf, pick, smallOf, identity, Spot, Apart2, Apart3};
 
 fn zero() -> Scalar
     ensures { λ r. ⌜ r ≡ scalarOf none ⌝ }
@@ -297,6 +298,31 @@ pub fn gate_entry(g: GateWords, n: u32, j: usize, row: usize, col: usize) -> Sca
         return two_qubit_entry(g, n, j, row, col);
     }
     three_qubit_entry(g, n, j, row, col)
+}
+
+// The bits of a row number that a gate may change: row r has entries in columns r and r ^ flips alone.
+pub fn flips(g: GateWords, n: u32) -> usize
+    requires { ⌜ (n ≤ 5) × Ready n (gateOf g) 0 ⌝ }
+    ensures { λ m. ⌜ m ≡ flips n (gateOf g) ⌝ }
+{
+    if g.kind == 19 {
+        let a = mask(n, g.a);
+        let b = mask(n, g.b);
+        return a + b;
+    }
+    if g.kind == 26 {
+        let b = mask(n, g.b);
+        let c = mask(n, g.c);
+        return b + c;
+    }
+    let used = qubit_count(g.kind);
+    if used == 1 {
+        return mask(n, g.a);
+    }
+    if used == 2 {
+        return mask(n, g.b);
+    }
+    mask(n, g.c)
 }
 
 // Write the matrix of operator j, on n qubits with d rows and columns, to `at` on.

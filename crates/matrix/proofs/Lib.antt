@@ -1,6 +1,6 @@
 pub mod Terms
-pub mod Rows
 pub mod Witness
 pub mod GlobalPhase
+pub mod Rows
 pub mod Operands
 pub mod Questions

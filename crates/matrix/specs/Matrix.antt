@@ -4,7 +4,7 @@ use mathlib.Core.List.{List}
 use Prim.Native.Nat.{ℕ, _+_, _*_, _/_, _%_}
 use lib.IntN.{ℤ}
 use Rattle.algebra.specs.Lists.{allBelow}
-use Rattle.algebra.specs.Sum.{times, δ}
+use Rattle.algebra.specs.Sum.{δ}
 use Rattle.scalar.specs.Exact.{Exact, exact}
 use Rattle.scalar.specs.Cells.{cellSize, cellAt, zeroAt, fill}
 
@@ -19,10 +19,6 @@ cell l at d r c = entry l at (r * d + c)
 -- the words, with a matrix of d rows and columns written from `at` on
 abbrev pub written : List ℤ → ℕ → ℕ → (ℕ → ℕ → Exact) → List ℤ
 written l at d M = fill l at (d * d) (λ (i : ℕ). M (i / d) (i % d))
-
--- the product of the matrices at g and h, written to `out`
-abbrev pub multiplied : List ℤ → ℕ → ℕ → ℕ → ℕ → List ℤ
-multiplied l g h out d = written l out d (times exact d (cell l g d) (cell l h d))
 
 -- the identity, written to `at`
 abbrev pub identified : List ℤ → ℕ → ℕ → List ℤ

@@ -1,6 +1,7 @@
 use scalar::Verdict;
 
 pub mod global_phase;
+pub mod linear;
 pub mod products;
 pub mod words;
 

@@ -18,7 +18,7 @@ use Rattle.algebra.proofs.Bound as Bound
 use Rattle.algebra.proofs.Dyadic.{power-int, align, late-right, plus-comm, plus-up}
 use Rattle.scalar.specs.Exact.{Number, number, numbers, Exact, exact, lowest}
 use Rattle.scalar.specs.Inner.{Within, scaled, Coords, Room}
-use Rattle.scalar.proofs.Exact.{exactHalving}
+use Rattle.scalar.proofs.Exact.{exactHalving, exacts}
 use Rattle.scalar.proofs.Coordinates.{formulas, x, xy, eight, bounds, bounded}
 
 -- ---- numerators times a power of two
@@ -44,6 +44,9 @@ aligned x y h = ap (λ (z : Number). lowest (numbers ._⊕_ z (y .num)) (y .exp)
 -- a sum with a product: the product need not be put into lowest form first
 pub fused : (a x y : Exact) → exact ._⊕_ a (exact ._⊗_ x y) ≡ exact ._⊕_ a (by numbers x y)
 fused a x y = late-right ℤ√2i exactHalving (plus numbers) (plus-comm ℤ√2i exactHalving) (plus-up ℤ√2i exactHalving) a (by numbers x y)
+
+pub fused-both : (x p y q : Exact) → exact ._⊕_ (exact ._⊗_ x p) (exact ._⊗_ y q) ≡ exact ._⊕_ (by numbers x p) (by numbers y q)
+fused-both x p y q = fused (exact ._⊗_ x p) y q ∙ exacts .add-comm (exact ._⊗_ x p) (by numbers y q) ∙ fused (by numbers y q) x p ∙ exacts .add-comm (by numbers y q) (by numbers x p)
 
 -- ---- sizes
 pub widen : (m n : ℕ) (z : Number) → m ≤ n → Within m z → Within n z
@@ -80,6 +83,10 @@ product-within x y h k = widen (6 * (1 * 2 ^ x .exp * (1 * 2 ^ y .exp))) (8 * 2 
 
     le : 6 * (1 * 2 ^ x .exp * (1 * 2 ^ y .exp)) ≤ 8 * 2 ^ (x .exp + y .exp)
     le = omega (arith, one)
+
+-- a factor that `product` takes
+pub factor-within : (x : Exact) → Coords 1 28 x → Within (2 ^ 29) (x .num)
+factor-within x b = widen (1 * 2 ^ 28) (2 ^ 29) (x .num) (lit≤ tt) (power-within 1 (x .exp) 28 (x .num) (b .exponent) (b .size))
 
 -- coordinates from −8 to 8 over at most 2^56
 pub small : (e : ℕ) (z : Number) → e ≤ 56 → Within (8 * 2 ^ e) z → Within (2 ^ 61) z

@@ -110,3 +110,35 @@ pub fn fma(acc: Scalar, x: Scalar, y: Scalar) -> Scalar
         aligned_sum(z, f, a, e)
     }
 }
+
+// x·y, in lowest form.
+pub fn times(x: Scalar, y: Scalar) -> Scalar
+    requires { ⌜ Coords 1 28 (value x) × Coords 1 28 (value y) ⌝ }
+    ensures { λ r. ⌜ r ≡ scalarOf (exact ._⊗_ (value x) (value y)) ⌝ }
+{
+    let u = x.n;
+    let v = y.n;
+    let f = x.e + y.e;
+    let z = product(u, v);
+    reduce(z[0], z[1], z[2], z[3], f)
+}
+
+// x·p + y·q, put into lowest form once.
+pub fn sum_of_products(x: Scalar, p: Scalar, y: Scalar, q: Scalar) -> Scalar
+    requires { ⌜ (Coords 1 28 (value x) × Coords 1 28 (value p)) × (Coords 1 28 (value y) × Coords 1 28 (value q)) ⌝ }
+    ensures { λ r. ⌜ r ≡ scalarOf (exact ._⊕_ (exact ._⊗_ (value x) (value p)) (exact ._⊗_ (value y) (value q))) ⌝ }
+{
+    let a = x.n;
+    let b = p.n;
+    let c = y.n;
+    let d = q.n;
+    let e = x.e + p.e;
+    let f = y.e + q.e;
+    let u = product(a, b);
+    let v = product(c, d);
+    if e < f {
+        aligned_sum(u, e, v, f)
+    } else {
+        aligned_sum(v, f, u, e)
+    }
+}

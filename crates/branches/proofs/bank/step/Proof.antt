@@ -1,94 +1,137 @@
 -- `step` meets its contract.
-use Prim.Native.Nat.{_*_, _-_, _%_, _≤_}
-use native.Mathlib.Nat.{mul-le-mul, le-refl, le-of-eq, mod-lt}
+use mathlib.Core.Path.{_≡_, sym, _∙_, subst, subst₂}
+use mathlib.Core.List.{List}
+use Prim.Native.Nat.{ℕ, _+_, _*_, _-_, _/_, _%_, _^_, _≤_}
+use native.Mathlib.Nat.{le-of-eq, mod-lt}
 use native.Mathlib.Omega.{arith}
+use lib.Bits.{bitAnd}
+use lib.ListN.{length}
+use lib.Seq.{sets}
+use lib.IntN.{ℤ}
 use Rattle.algebra.proofs.Blocks.{Writing, begin, done, long}
-use Rattle.branches.specs.Bank.{branchSize}
-use Rattle.branches.specs.Step.{stepWords}
-use Rattle.branches.proofs.Steps.{dim-square, length-product, some-op, op-in, old-in, new-in, turn-places, turn-store, turn-room, turn-more}
+use Rattle.gate.specs.Verdict.{gateOf}
+use Rattle.matrix.specs.Matrix.{written}
+use Rattle.branches.specs.Store.{StoreAt, outcomeWords}
+use Rattle.branches.specs.Bank.{matrixSize, branchSize}
+use Rattle.branches.specs.Step.{product, Applying, stepWords}
+use Rattle.branches.proofs.Steps.{step-square, total-le, length-product, some-op, few-ops, number-is, branch-is, old-in, new-in, turn-applying, turn-store, turn-room, turn-more}
 use Rattle.branches.proofs.bank.step.Statement.{statement}
 use Rattle.branches.proofs.bank.step.Tie as tie
 
 abbrev Inv-loop : tie.InvT-loop
-Inv-loop work₀ slots ops from to d n bit matrix size total j₀ work j = Writing (branchSize d) work₀ to (n * ops) (stepWords work₀ slots ops from d bit) work j
+Inv-loop work₀ g n ops from to d count bit matrix size total last m j₀ work j = Writing (branchSize d) work₀ to (count * ops) (stepWords work₀ n (gateOf g) ops from d bit) work j
 
 abbrev μ-loop : tie.MeasureT-loop
-μ-loop work₀ slots ops from to d n bit matrix size total j₀ work j = n * ops - j
+μ-loop work₀ g n ops from to d count bit matrix size total last m j₀ work j = count * ops - j
 
 mul-matrix : tie.Need-mul-matrix Inv-loop μ-loop
-mul-matrix c = omega (arith, dim-square (c .args .d) (c .pre .dim))
+mul-matrix c = omega (arith, step-square (c .pre))
 
 mul-matrix-2 : tie.Need-mul-matrix-2 Inv-loop μ-loop
-mul-matrix-2 c = omega (arith, dim-square (c .args .d) (c .pre .dim))
+mul-matrix-2 c = omega (arith, step-square (c .pre))
 
 add-size : tie.Need-add-size Inv-loop μ-loop
-add-size c = omega (arith, dim-square (c .args .d) (c .pre .dim))
-
-total-le : (c : tie.Start Inv-loop μ-loop) → c .args .n * c .args .ops * 1 ≤ c .args .n * c .args .ops * branchSize (c .args .d)
-total-le c = mul-le-mul (le-refl (c .args .n * c .args .ops)) (omega arith)
+add-size c = omega (arith, step-square (c .pre))
 
 mul-total : tie.Need-mul-total Inv-loop μ-loop
-mul-total c = omega (arith, c .pre .to-room, total-le c)
+mul-total c = omega (arith, total-le (c .pre))
+
+sub-last : tie.Need-sub-last Inv-loop μ-loop
+sub-last c = omega (arith, some-op (c .pre))
+
+flips-requires : tie.Need-flips-requires Inv-loop μ-loop
+flips-requires c κs = (c .pre .few, c .pre .ready)
 
 loop-holds : tie.Need-loop-holds Inv-loop μ-loop
-loop-holds c = begin (λ j. le-of-eq (length-product (c .args .work .now) _ _ (c .args .d) (c .args .bit) (j % c .args .ops)))
+loop-holds c = let a = c .before .args in begin (λ j. le-of-eq (length-product (a .work .now) (a .n) (gateOf (a .g)) _ (a .d) (a .bit) (j % a .ops)))
 
-rem-v : tie.Need-rem-v Inv-loop μ-loop
-rem-v c = some-op (c .before .before .pre) (c .loop-test .taken)
+-- one turn: j, and the branch and the operator by its shift and its mask
+module _ (t : tie.In-loop Inv-loop μ-loop) where
+  abbrev s : tie.Start Inv-loop μ-loop
+  s = t .before .before .before
 
-mul-op : tie.Need-mul-op Inv-loop μ-loop
-mul-op c = let s = c .before .before in omega (arith, op-in (s .pre) (c .loop-test .taken), s .pre .ops-room)
+  abbrev j : ℕ
+  j = t .before .loop .j
 
-add-op : tie.Need-add-op Inv-loop μ-loop
-add-op c = let s = c .before .before in omega (arith, op-in (s .pre) (c .loop-test .taken), s .pre .ops-room)
+  old-at : s .args .from + j / 2 ^ (s .args .ops - 1) * branchSize (s .args .d) + branchSize (s .args .d) ≤ length (s .args .work .now)
+  old-at = subst (λ (k : ℕ). s .args .from + k * branchSize (s .args .d) + branchSize (s .args .d) ≤ length (s .args .work .now)) (sym (branch-is (s .pre) j)) (omega (arith, old-in (s .pre) (t .loop-test .taken), s .pre .from-room))
 
-div-old : tie.Need-div-old Inv-loop μ-loop
-div-old c = some-op (c .before .before .pre) (c .loop-test .taken)
+  new-at : s .args .to + j * branchSize (s .args .d) + branchSize (s .args .d) ≤ length (s .args .work .now)
+  new-at = omega (arith, new-in (s .pre) (t .loop-test .taken), s .pre .to-room)
+
+shr-old : tie.Need-shr-old Inv-loop μ-loop
+shr-old c = omega (arith, few-ops (s c .pre))
 
 mul-old : tie.Need-mul-old Inv-loop μ-loop
-mul-old c = let s = c .before .before in omega (arith, old-in (s .pre) (c .loop-test .taken), s .pre .from-room)
+mul-old c = omega (arith, old-at c)
 
 add-old : tie.Need-add-old Inv-loop μ-loop
-add-old c = let s = c .before .before in omega (arith, old-in (s .pre) (c .loop-test .taken), s .pre .from-room)
+add-old c = omega (arith, old-at c)
 
 mul-new : tie.Need-mul-new Inv-loop μ-loop
-mul-new c = let s = c .before .before in omega (arith, new-in (s .pre) (c .loop-test .taken), s .pre .to-room)
+mul-new c = omega (arith, new-at c)
 
 add-new : tie.Need-add-new Inv-loop μ-loop
-add-new c = let s = c .before .before in omega (arith, new-in (s .pre) (c .loop-test .taken), s .pre .to-room)
+add-new c = omega (arith, new-at c)
 
-mul-into-requires : tie.Need-mul-into-requires Inv-loop μ-loop
-mul-into-requires c κs = let a = c .before .before in turn-places (a .before .pre) (c .before .loop-test .taken) (a .before .args .bit) (a .loop .inv)
+apply-operator-requires : tie.Need-apply-operator-requires Inv-loop μ-loop
+apply-operator-requires c κs =
+    let t = c .before in
+    let a = s t .args in (
+      t .before .before .flips .ensures,
+      subst₂ (λ (v k : ℕ). Applying (t .before .loop .work) (a .n) (gateOf (a .g)) v (a .from + k * branchSize (a .d)) (a .to + j t * branchSize (a .d)) (a .d)) (sym (number-is (s t .pre) (j t))) (sym (branch-is (s t .pre) (j t)))
+          (turn-applying (s t .pre) (t .loop-test .taken) (a .bit) (t .before .loop .inv)),
+    )
+
+-- after the product: m are the words
+module _ (t : tie.In-loop Inv-loop μ-loop) where
+  abbrev given : tie.Start Inv-loop μ-loop
+  given = s t
+
+  abbrev size : ℕ
+  size = branchSize (given .args .d)
+
+  abbrev wrote : ℕ → ℕ → List ℤ
+  wrote v k = written (t .before .loop .work) (given .args .to + j t * size) (given .args .d) (product (t .before .loop .work) (given .args .n) (gateOf (given .args .g)) v (given .args .from + k * size) (given .args .d))
+
+  abbrev v : ℕ
+  v = bitAnd (j t) (given .args .ops - 1)
+
+  abbrev k : ℕ
+  k = j t / 2 ^ (given .args .ops - 1)
+
+  module _ {m : List ℤ} (e : m ≡ wrote v k) where
+    applied : m ≡ wrote (j t % given .args .ops) (j t / given .args .ops)
+    applied = e ∙ (λ i. wrote (number-is (given .pre) (j t) i) (branch-is (given .pre) (j t) i))
+
+    store-at : StoreAt m (given .args .from + j t / given .args .ops * size + matrixSize (given .args .d)) → StoreAt m (given .args .from + k * size + matrixSize (given .args .d))
+    store-at = subst (λ (k : ℕ). StoreAt m (given .args .from + k * size + matrixSize (given .args .d))) (sym (branch-is (given .pre) (j t)))
+
+    outcome-is : {q : List ℤ} → q ≡ sets m (given .args .to + j t * size + matrixSize (given .args .d)) (outcomeWords m (given .args .from + k * size + matrixSize (given .args .d)) (given .args .bit) v)
+        → q ≡ sets m (given .args .to + j t * size + matrixSize (given .args .d)) (outcomeWords m (given .args .from + j t / given .args .ops * size + matrixSize (given .args .d)) (given .args .bit) (j t % given .args .ops))
+    outcome-is f =
+        f ∙ (λ i. sets m (given .args .to + j t * size + matrixSize (given .args .d)) (outcomeWords m (given .args .from + branch-is (given .pre) (j t) i * size + matrixSize (given .args .d)) (given .args .bit) (number-is (given .pre) (j t) i)))
 
 add-write-store : tie.Need-add-write-store Inv-loop μ-loop
-add-write-store c =
-    let t = c .before .before .before .before in
-    let s = t .before .before in
-    omega (arith, old-in (s .pre) (t .loop-test .taken), new-in (s .pre) (t .loop-test .taken), s .pre .from-room, s .pre .to-room)
+add-write-store c = let t = c .before .before .before .before in omega (arith, old-at t)
 
 add-write-store-2 : tie.Need-add-write-store-2 Inv-loop μ-loop
-add-write-store-2 c =
-    let t = c .before .before .before .before in
-    let s = t .before .before in
-    omega (arith, old-in (s .pre) (t .loop-test .taken), new-in (s .pre) (t .loop-test .taken), s .pre .from-room, s .pre .to-room)
+add-write-store-2 c = let t = c .before .before .before .before in omega (arith, new-at t)
 
 write-store-requires : tie.Need-write-store-requires Inv-loop μ-loop
 write-store-requires c κs =
     let q = c .before .before in
     let t = q .before .before in
-    let s = t .before .before in
-    let m = q .mul-into .ensures in (
-      omega (arith, s .pre .few, mod-lt (t .before .loop .j) (some-op (s .pre) (t .loop-test .taken))),
+    let a = s t .args in (
+      omega (arith, number-is (s t .pre) (j t), few-ops (s t .pre), mod-lt (j t) (some-op (s t .pre))),
       (
-        turn-room (s .pre) (t .loop-test .taken) (s .args .bit) (t .before .loop .inv) m,
-        turn-store (s .pre) (t .loop-test .taken) (s .args .bit) (t .before .loop .inv) m,
+        turn-room (s t .pre) (t .loop-test .taken) (a .bit) (t .before .loop .inv) (applied t (q .apply-operator .ensures)),
+        store-at t (q .apply-operator .ensures) (turn-store (s t .pre) (t .loop-test .taken) (a .bit) (t .before .loop .inv) (applied t (q .apply-operator .ensures))),
       ),
     )
 
 add-j : tie.Need-add-j Inv-loop μ-loop
-add-j c =
-    let t = c .before .before .before .before .before .before in
-    omega (arith, t .loop-test .taken, t .before .before .pre .to-room, total-le (t .before .before))
+add-j c = let t = c .before .before .before .before .before .before in omega (arith, t .loop-test .taken, total-le (s t .pre))
 
 loop-less : tie.Need-loop-less Inv-loop μ-loop
 loop-less c = omega arith
@@ -97,8 +140,8 @@ loop-again : tie.Need-loop-again Inv-loop μ-loop
 loop-again c =
     let q = c .before .before .before .before in
     let t = q .before .before in
-    let s = t .before .before in
-    turn-more (s .pre) (t .loop-test .taken) (s .args .bit) (t .before .loop .inv) (q .mul-into .ensures) (c .before .write-store .ensures)
+    let a = s t .args in
+    turn-more (s t .pre) (t .loop-test .taken) (a .bit) (t .before .loop .inv) (applied t (q .apply-operator .ensures)) (outcome-is t (q .apply-operator .ensures) (c .before .write-store .ensures))
 
 same-length : tie.Need-same-length Inv-loop μ-loop
 same-length c = long (c .before .loop .inv)
@@ -116,16 +159,15 @@ step-spec =
     mul-matrix-2
     add-size
     mul-total
+    sub-last
+    flips-requires
     loop-holds
-    rem-v
-    mul-op
-    add-op
-    div-old
+    shr-old
     mul-old
     add-old
     mul-new
     add-new
-    mul-into-requires
+    apply-operator-requires
     add-write-store
     add-write-store-2
     write-store-requires

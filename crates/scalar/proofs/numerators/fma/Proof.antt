@@ -3,23 +3,19 @@ use mathlib.Core.Path.{_≡_, ap, sym, subst, _∙_}
 use mathlib.Core.List.{List}
 use Prim.Native.Nat.{_+_, _*_, _-_, _^_}
 use native.Mathlib.Omega.{arith}
-use lib.Dec.{lit≤}
 use lib.IntN.{ℤ}
 use Rattle.algebra.specs.Dyadic.{frac, by}
-use Rattle.scalar.specs.Exact.{numbers, Exact, exact}
+use Rattle.scalar.specs.Exact.{numbers, exact}
 use Rattle.scalar.specs.Calls.{numberOf, value, scalarOf}
-use Rattle.scalar.specs.Inner.{Within, Coords}
+use Rattle.scalar.specs.Inner.{Within}
 use Rattle.scalar.proofs.Exact.{exacts}
-use Rattle.scalar.proofs.Align.{widen, power-within, raised, scaled-none, product-within, small, fused}
+use Rattle.scalar.proofs.Align.{raised, scaled-none, product-within, factor-within, small, fused}
 use borrow.Author.Needs.{needs}
 use Rattle.scalar.proofs.numerators.fma.Statement.{statement}
 use Rattle.scalar.proofs.numerators.fma.Tie as tie
 
 abbrev start : tie.After-struct-known2 → tie.Start
 start c = c .before .before .before .before
-
-narrow : (x : Exact) → Coords 1 28 x → Within (2 ^ 29) (x .num)
-narrow x b = widen (1 * 2 ^ 28) (2 ^ 29) (x .num) (lit≤ tt) (power-within 1 (x .exp) 28 (x .num) (b .exponent) (b .size))
 
 -- the product's numerators
 term : (m : tie.After-product) → Within (8 * 2 ^ (start (m .before) .args .x .e + start (m .before) .args .y .e)) (numberOf (m .product .result))
@@ -29,7 +25,7 @@ add-f : tie.Need-add-f
 add-f c = search needs
 
 product-requires : tie.Need-product-requires
-product-requires c κs = let s = start c in (narrow (value (s .args .x)) (s .pre .1 .0), narrow (value (s .args .y)) (s .pre .1 .1))
+product-requires c κs = let s = start c in (factor-within (value (s .args .x)) (s .pre .1 .0), factor-within (value (s .args .y)) (s .pre .1 .1))
 
 aligned-sum-requires : tie.Need-aligned-sum-requires
 aligned-sum-requires c κs =

@@ -1,0 +1,234 @@
+-- A row of a gate's matrix has entries in two columns alone: its own, and the one with the bits flipped that the gate may change.
+use mathlib.Core.Path.{_≡_, refl, sym, ap, _∙_, subst}
+use mathlib.Core.Logic.{_≢_}
+use mathlib.Core.Bool.{Bool, true, false, cond, not, _&&_, _||_, or-false, true≢false}
+use mathlib.Core.List.{List, [], _∷_}
+use Prim.Native.Nat.{ℕ, _+_, _-_, _*_, _/_, _%_, _^_, _≤_, _<_}
+use native.Mathlib.Decide.{ℕ-discrete}
+use native.Mathlib.Omega.{arith}
+use lib.Bits.{bitXor}
+use lib.Dec.{T, eqb, ltb}
+use lib.ListN.{length, getD}
+use lib.Pow.{pow-mono}
+use borrow.Author.Tests.{ltb-true, eqb-false, ne-eqb, not-true}
+use Rattle.algebra.specs.Lists.{allBelow}
+use Rattle.algebra.proofs.Tests.{exhaust, holds-true}
+use Rattle.scalar.specs.Exact.{Exact, exact}
+use Rattle.gate.specs.Gate.{Gate, gate, arity, elem}
+use Rattle.gate.specs.Operators.{Small, one, none, operators, controlled, swapped}
+use Rattle.gate.specs.Embed.{bit, bitsOf, embed}
+use Rattle.gate.specs.Entries.{operatorAt, targetOf, gateEntry, flips, partner, Ready, Apart2, Apart3}
+use Rattle.gate.proofs.Embedding.{respects-identity}
+use Rattle.gate.proofs.Columns.{agree-one, embed-controlled, embed-swap}
+use Rattle.gate.proofs.Gate.{elem-in}
+use Rattle.gate.proofs.Dispatch.{one-kinds, two-kinds, three-kinds, three-else, one-on, two-on, three-on, controlled-entry, swap-entry, twice-controlled-entry, controlled-swap-entry}
+
+-- row r has entries in columns r and s alone, below d
+pub record Two (d : ℕ) (row : ℕ → Exact) (r s : ℕ) : Type 0 where
+  pub below : s < d
+  pub other : s ≢ r
+  pub zeros : (c : ℕ) → c < d → c ≢ r → c ≢ s → row c ≡ none
+
+two-same : {d : ℕ} {row row′ : ℕ → Exact} {r s : ℕ} → ((c : ℕ) → row c ≡ row′ c) → Two d row r s → Two d row′ r s
+two-same e t = record { below = t .below; other = t .other; zeros = λ c h p q. sym (e c) ∙ t .zeros c h p q }
+
+-- a test by computation, at different numbers
+ruled : (a b c : Bool) → (a || (b || not c)) ≡ true → a ≡ false → b ≡ false → c ≡ false
+ruled true b c h p q = absurd (true≢false p)
+ruled false true c h p q = absurd (true≢false q)
+ruled false false c h p q = not-true c h
+
+small : {n : ℕ} → n ≤ 5 → (r : ℕ) → r < 2 ^ n → r < 32
+small few r h = omega (arith, pow-mono {i = _} {j = 5} few)
+
+-- ---- one bit
+abbrev clr : ℕ → ℕ → ℕ
+clr w r = r - r / 2 ^ w % 2 * 2 ^ w
+
+abbrev one-below : ℕ → ℕ → ℕ → Bool
+one-below n w r = ltb (bitXor r (2 ^ w)) (2 ^ n)
+
+abbrev one-other : ℕ → ℕ → Bool
+one-other w r = not (eqb (bitXor r (2 ^ w)) r)
+
+abbrev one-alone : ℕ → ℕ → ℕ → Bool
+one-alone w r c = eqb c r || (eqb c (bitXor r (2 ^ w)) || not (eqb (clr w r) (clr w c)))
+
+one-computed : T (allBelow 6 (λ (n : ℕ). allBelow n (λ (w : ℕ). allBelow (2 ^ n) (one-below n w))))
+one-computed = tt
+
+other-computed : T (allBelow 5 (λ (w : ℕ). allBelow 32 (one-other w)))
+other-computed = tt
+
+alone-computed : T (allBelow 5 (λ (w : ℕ). allBelow 32 (λ (r : ℕ). allBelow 32 (one-alone w r))))
+alone-computed = tt
+
+one-two : (n q r : ℕ) → n ≤ 5 → q < n → r < 2 ^ n → (u : Small) → Two (2 ^ n) (embed exact n (q ∷ []) u r) r (bitXor r (2 ^ (n - 1 - q)))
+one-two n q r few l hr u =
+    record {
+      below = ltb-true (bitXor r (2 ^ w)) (2 ^ n) (holds-true (exhaust (one-below n w) (2 ^ n) (exhaust (λ (w : ℕ). allBelow (2 ^ n) (one-below n w)) n (exhaust (λ (n : ℕ). allBelow n (λ (w : ℕ). allBelow (2 ^ n) (one-below n w))) 6 one-computed n (omega arith)) w lw) r hr));
+      other = eqb-false (bitXor r (2 ^ w)) r (not-true _ (holds-true (exhaust (one-other w) 32 (exhaust (λ (w : ℕ). allBelow 32 (one-other w)) 5 other-computed w lw5) r (small few r hr))));
+      zeros = λ c hc p e.
+          ap (λ (t : Bool). cond t (u (bitsOf n (q ∷ []) r) (bitsOf n (q ∷ []) c)) none)
+          (agree-one n q r c few l hr hc ∙ ruled (eqb c r) (eqb c (bitXor r (2 ^ w))) (eqb (clr w r) (clr w c))
+          (holds-true (exhaust (one-alone w r) 32 (exhaust (λ (r : ℕ). allBelow 32 (one-alone w r)) 32 (exhaust (λ (w : ℕ). allBelow 32 (λ (r : ℕ). allBelow 32 (one-alone w r))) 5 alone-computed w lw5) r (small few r hr)) c (small few c hc)))
+          (ne-eqb c r p) (ne-eqb c (bitXor r (2 ^ w)) e));
+    }
+  where
+    w : ℕ
+    w = n - 1 - q
+
+    lw : w < n
+    lw = omega arith
+
+    lw5 : w < 5
+    lw5 = omega arith
+
+-- ---- a control
+control-two : (n q : ℕ) (qs : List ℕ) (u : Small) {r s : ℕ} → r < 2 ^ n → q < n → elem q qs ≡ false → Two (2 ^ n) (embed exact n qs u r) r s → Two (2 ^ n) (embed exact n (q ∷ qs) (controlled u) r) r s
+control-two n q qs u {r} hr l other t =
+    record {
+      below = t .below;
+      other = t .other;
+      zeros = λ c hc p e.
+          embed-controlled n q qs r c l other u
+          ∙ both (eqb (bit n q r) 1) (t .zeros c hc p e) (respects-identity n qs r c hr hc ∙ ap (λ (b : Bool). cond b one none) (ne-eqb r c (λ x. p (sym x))));
+    }
+  where
+    both : (b : Bool) {x y : Exact} → x ≡ none → y ≡ none → cond b x y ≡ none
+    both true e f = e
+    both false e f = f
+
+-- ---- two bits
+abbrev both-below : ℕ → ℕ → ℕ → ℕ → Bool
+both-below n w v r = eqb w v || ltb (bitXor r (2 ^ w + 2 ^ v)) (2 ^ n)
+
+abbrev both-other : ℕ → ℕ → ℕ → Bool
+both-other w v r = not (eqb (bitXor r (2 ^ w + 2 ^ v)) r)
+
+abbrev changed : ℕ → ℕ → ℕ → ℕ → Bool
+changed w v r c = eqb (clr w (clr v r)) (clr w (clr v c)) && (eqb (r / 2 ^ w % 2) (c / 2 ^ v % 2) && eqb (r / 2 ^ v % 2) (c / 2 ^ w % 2))
+
+abbrev both-alone : ℕ → ℕ → ℕ → ℕ → Bool
+both-alone w v r c = eqb c r || (eqb c (bitXor r (2 ^ w + 2 ^ v)) || not (changed w v r c))
+
+both-computed : T (allBelow 6 (λ (n : ℕ). allBelow n (λ (w : ℕ). allBelow n (λ (v : ℕ). allBelow (2 ^ n) (both-below n w v)))))
+both-computed = tt
+
+differ-computed : T (allBelow 5 (λ (w : ℕ). allBelow 5 (λ (v : ℕ). allBelow 32 (both-other w v))))
+differ-computed = tt
+
+swap-computed : T (allBelow 5 (λ (w : ℕ). allBelow 5 (λ (v : ℕ). allBelow 32 (λ (r : ℕ). allBelow 32 (both-alone w v r)))))
+swap-computed = tt
+
+swap-two : (n a b r : ℕ) → n ≤ 5 → Apart2 n a b → r < 2 ^ n → Two (2 ^ n) (embed exact n (a ∷ b ∷ []) swapped r) r (bitXor r (2 ^ (n - 1 - a) + 2 ^ (n - 1 - b)))
+swap-two n a b r few h hr =
+    record {
+      below = ltb-true s (2 ^ n) (unequal (eqb w v) (ltb s (2 ^ n)) (holds-true
+          (exhaust (both-below n w v) (2 ^ n)
+          (exhaust (λ (v : ℕ). allBelow (2 ^ n) (both-below n w v)) n
+          (exhaust (λ (w : ℕ). allBelow n (λ (v : ℕ). allBelow (2 ^ n) (both-below n w v))) n
+          (exhaust (λ (n : ℕ). allBelow n (λ (w : ℕ). allBelow n (λ (v : ℕ). allBelow (2 ^ n) (both-below n w v)))) 6 both-computed n (omega arith)) w lw) v lv) r hr)) (ne-eqb w v apart));
+      other = eqb-false s r (not-true (eqb s r) (holds-true
+          (exhaust (both-other w v) 32 (exhaust (λ (v : ℕ). allBelow 32 (both-other w v)) 5 (exhaust (λ (w : ℕ). allBelow 5 (λ (v : ℕ). allBelow 32 (both-other w v))) 5 differ-computed w (omega arith)) v (omega arith)) r (small few r hr))));
+      zeros = λ c hc p e.
+          embed-swap n a b r c (h .first) (h .second) hr hc
+          ∙ ap (λ (t : Bool). cond t one none) (ruled (eqb c r) (eqb c s) (changed w v r c) (holds-true
+          (exhaust (both-alone w v r) 32
+          (exhaust (λ (r : ℕ). allBelow 32 (both-alone w v r)) 32
+          (exhaust (λ (v : ℕ). allBelow 32 (λ (r : ℕ). allBelow 32 (both-alone w v r))) 5
+          (exhaust (λ (w : ℕ). allBelow 5 (λ (v : ℕ). allBelow 32 (λ (r : ℕ). allBelow 32 (both-alone w v r)))) 5 swap-computed w (omega arith)) v (omega arith)) r (small few r hr)) c (small few c hc)))
+          (ne-eqb c r p) (ne-eqb c s e));
+    }
+  where
+    w : ℕ
+    w = n - 1 - a
+
+    v : ℕ
+    v = n - 1 - b
+
+    s : ℕ
+    s = bitXor r (2 ^ w + 2 ^ v)
+
+    lw : w < n
+    lw = omega (arith, h .first)
+
+    lv : v < n
+    lv = omega (arith, h .second)
+
+    apart : w ≢ v
+    apart e = eqb-false a b (h .other) (omega (arith, e, h .first, h .second))
+
+    unequal : (x y : Bool) → (x || y) ≡ true → x ≡ false → y ≡ true
+    unequal true y e f = absurd (true≢false f)
+    unequal false y e f = e
+
+-- ---- gates
+module _ (n j r : ℕ) (few : n ≤ 5) (hr : r < 2 ^ n) (a b c k : ℕ) where
+  abbrev Pair : ℕ → Type 0
+  Pair m = Two (2 ^ n) (gateEntry n (gate m a b c k) j r) r (partner n (gate m a b c k) r)
+
+  abbrev Asked : ℕ → Type 0
+  Asked m = j < length (operators (gate m a b c k)) → Pair m
+
+  one-pair : a < n → (m : ℕ) → elem m (12 ∷ 13 ∷ 2 ∷ 3 ∷ 4 ∷ 5 ∷ 6 ∷ 7 ∷ 0 ∷ 1 ∷ 15 ∷ 16 ∷ []) ≡ true → Pair m
+  one-pair l = elem-in Pair (12 ∷ 13 ∷ 2 ∷ 3 ∷ 4 ∷ 5 ∷ 6 ∷ 7 ∷ 0 ∷ 1 ∷ 15 ∷ 16 ∷ [])
+      (o 12, (o 13, (o 2, (o 3, (o 4, (o 5, (o 6, (o 7, (o 0, (o 1, (o 15, (o 16, tt))))))))))))
+    where
+      o : (m : ℕ) → Two (2 ^ n) (embed exact n (a ∷ []) (operatorAt (gate m a b c k) j .small) r) r (bitXor r (2 ^ (n - 1 - a)))
+      o m = one-two n a r few l hr (operatorAt (gate m a b c k) j .small)
+
+  module _ (on : Apart2 n a b) where
+    controlled-pair : (m : ℕ) → elem m (8 ∷ 9 ∷ 20 ∷ 25 ∷ []) ≡ true → Asked m
+    controlled-pair m e w = go m e (two-same (λ s. controlled-entry n j r s a b c k m e w) (control-two n a (b ∷ []) (targetOf m) hr (on .first) (or-false (eqb a b) ∙ on .other) (one-two n b r few (on .second) hr (targetOf m))))
+      where
+        go : (m : ℕ) → elem m (8 ∷ 9 ∷ 20 ∷ 25 ∷ []) ≡ true → Two (2 ^ n) (gateEntry n (gate m a b c k) j r) r (bitXor r (2 ^ (n - 1 - b))) → Pair m
+        go = elem-in (λ (m : ℕ). Two (2 ^ n) (gateEntry n (gate m a b c k) j r) r (bitXor r (2 ^ (n - 1 - b))) → Pair m) (8 ∷ 9 ∷ 20 ∷ 25 ∷ []) ((λ t. t), ((λ t. t), ((λ t. t), ((λ t. t), tt))))
+
+    swap-pair : Asked 19
+    swap-pair w = two-same (λ s. swap-entry n j r s a b c k 19 refl w) (swap-two n a b r few on hr)
+
+    two-pair : (m : ℕ) → elem m (19 ∷ 8 ∷ 9 ∷ 20 ∷ 25 ∷ []) ≡ true → Asked m
+    two-pair = elem-in Asked (19 ∷ 8 ∷ 9 ∷ 20 ∷ 25 ∷ []) (swap-pair, (controlled-pair 8 refl, (controlled-pair 9 refl, (controlled-pair 20 refl, (controlled-pair 25 refl, tt)))))
+
+  module _ (on : Apart3 n a b c) where
+    twice-pair : (m : ℕ) → Two (2 ^ n) (embed exact n (a ∷ b ∷ c ∷ []) (controlled (controlled (targetOf m))) r) r (bitXor r (2 ^ (n - 1 - c)))
+    twice-pair m =
+        let on2 = on .others in
+        control-two n a (b ∷ c ∷ []) (controlled (targetOf m)) hr (on .first) (on .other)
+        (control-two n b (c ∷ []) (targetOf m) hr (on2 .first) (or-false (eqb b c) ∙ on2 .other) (one-two n c r few (on2 .second) hr (targetOf m)))
+
+    three-pair : (m : ℕ) → elem m (26 ∷ 10 ∷ 11 ∷ []) ≡ true → Asked m
+    three-pair = elem-in Asked (26 ∷ 10 ∷ 11 ∷ []) (
+      (λ w. two-same (λ s. controlled-swap-entry n j r s a b c k 26 refl w) (control-two n a (b ∷ c ∷ []) swapped hr (on .first) (on .other) (swap-two n b c r few (on .others) hr))),
+      ((λ w. two-same (λ s. twice-controlled-entry n j r s a b c k 10 refl w) (twice-pair 10)), ((λ w. two-same (λ s. twice-controlled-entry n j r s a b c k 11 refl w) (twice-pair 11)), tt)),
+    )
+
+-- a row of operator j of a gate that passes the questions
+pub row-two : {n : ℕ} {g : Gate} {j : ℕ} → Ready n g j → n ≤ 5 → (r : ℕ) → r < 2 ^ n → Two (2 ^ n) (gateEntry n g j r) r (partner n g r)
+row-two {n} {g} {j} ready few r hr = go (ℕ-discrete (arity (g .kind)) 1) (ℕ-discrete (arity (g .kind)) 2)
+  where
+    go : Dec (arity (g .kind) ≡ 1) → Dec (arity (g .kind) ≡ 2) → Two (2 ^ n) (gateEntry n g j r) r (partner n g r)
+    go (yes p) q = one-pair n j r few hr (g .a) (g .b) (g .c) (g .k) (one-on ready p) (g .kind) (one-kinds ready p)
+    go (no p) (yes q) = two-pair n j r few hr (g .a) (g .b) (g .c) (g .k) (two-on ready q) (g .kind) (two-kinds ready q) (ready .which)
+    go (no p) (no q) = let e = three-else ready (arity (g .kind)) refl p q in three-pair n j r few hr (g .a) (g .b) (g .c) (g .k) (three-on ready e) (g .kind) (three-kinds ready e) (ready .which)
+
+-- ---- the bits that a gate may change, as the code finds them
+module _ (n a b c k : ℕ) where
+  abbrev weight : ℕ → ℕ
+  weight q = 2 ^ (n - 1 - q)
+
+  pub flips-swap : (m : ℕ) → m ≡ 19 → weight a + weight b ≡ flips n (gate m a b c k)
+  flips-swap m e = subst (λ (m : ℕ). weight a + weight b ≡ flips n (gate m a b c k)) (sym e) refl
+
+  pub flips-controlled-swap : (m : ℕ) → m ≡ 26 → weight b + weight c ≡ flips n (gate m a b c k)
+  flips-controlled-swap m e = subst (λ (m : ℕ). weight b + weight c ≡ flips n (gate m a b c k)) (sym e) refl
+
+  pub flips-target : (m : ℕ) → (m ≡ 19 → ⊥) → (m ≡ 26 → ⊥) → (u v : ℕ) → u ≡ arity m → u ≡ v → weight (getD (a ∷ b ∷ c ∷ []) (v - 1) 0) ≡ flips n (gate m a b c k)
+  flips-target m p q u v e f =
+      ap (λ (u : ℕ). weight (getD (a ∷ b ∷ c ∷ []) (u - 1) 0)) (sym f ∙ e)
+      ∙ sym (λ i. cond (ne-eqb m 19 p i) (weight a + weight b) (cond (ne-eqb m 26 q i) (weight b + weight c) (weight (getD (a ∷ b ∷ c ∷ []) (arity m - 1) 0))))
+
+-- the weight of a qubit
+pub weight-small : (n q m : ℕ) → n ≤ 5 → m ≡ 2 ^ (n - 1 - q) → m ≤ 16
+weight-small n q m few e = omega (arith, e, pow-mono {i = n - 1 - q} {j = 4} (omega arith))

@@ -1,0 +1,110 @@
+-- `matrix::linear::add_rows` meets its contract.
+use mathlib.Core.Path.{ap, _∙_}
+use Prim.Native.Nat.{ℕ, _+_, _*_, _-_, _≤_}
+use native.Mathlib.Nat.{le-refl}
+use native.Mathlib.Omega.{arith}
+use lib.ListN.{length}
+use Rattle.algebra.proofs.Blocks.{Writing, begin, again, done, long, kept, Same, cut, block-in}
+use Rattle.scalar.specs.Exact.{exact}
+use Rattle.scalar.specs.Calls.{value}
+use Rattle.scalar.specs.Cells.{cellWords}
+use Rattle.scalar.proofs.Cell.{cell-same}
+use Rattle.matrix.specs.Factors.{combinedRow}
+use Rattle.matrix.proofs.Terms.{factor-same}
+use Rattle.matrix.proofs.linear.add_rows.Statement.{statement}
+use Rattle.matrix.proofs.linear.add_rows.Tie as tie
+
+abbrev Inv-loop : tie.InvT-loop
+Inv-loop buf₀ x p y q to d c₀ buf c = Writing 5 buf₀ to d (λ (k : ℕ). cellWords (combinedRow buf₀ (value x) p (value y) q k)) buf c
+
+abbrev μ-loop : tie.MeasureT-loop
+μ-loop buf₀ x p y q to d c₀ buf c = d - c
+
+loop-holds : tie.Need-loop-holds Inv-loop μ-loop
+loop-holds c = begin (λ k. le-refl 5)
+
+module _ (t : tie.In-loop Inv-loop μ-loop) where
+  abbrev s : tie.Start Inv-loop μ-loop
+  s = t .before .before
+
+  p-in : s .args .p + t .before .loop .c * 5 + 5 ≤ length (s .args .buf .now)
+  p-in = s .pre .0 .factor (t .before .loop .c) (t .loop-test .taken) .room
+
+  q-in : s .args .q + t .before .loop .c * 5 + 5 ≤ length (s .args .buf .now)
+  q-in = s .pre .1 .factor (t .before .loop .c) (t .loop-test .taken) .room
+
+  left : Same (t .before .loop .buf) (s .args .buf .now) (s .args .p + t .before .loop .c * 5) 5
+  left = cut (kept (t .before .loop .inv) (s .args .p) (s .args .d * 5) (s .pre .0 .apart)) 5 (t .before .loop .c) (block-in (t .loop-test .taken) 5)
+
+  right : Same (t .before .loop .buf) (s .args .buf .now) (s .args .q + t .before .loop .c * 5) 5
+  right = cut (kept (t .before .loop .inv) (s .args .q) (s .args .d * 5) (s .pre .1 .apart)) 5 (t .before .loop .c) (block-in (t .loop-test .taken) 5)
+
+mul-a : tie.Need-mul-a Inv-loop μ-loop
+mul-a c = omega (arith, p-in c)
+
+add-a : tie.Need-add-a Inv-loop μ-loop
+add-a c = omega (arith, p-in c)
+
+mul-b : tie.Need-mul-b Inv-loop μ-loop
+mul-b c = omega (arith, q-in c)
+
+add-b : tie.Need-add-b Inv-loop μ-loop
+add-b c = omega (arith, q-in c)
+
+combined-entry-requires : tie.Need-combined-entry-requires Inv-loop μ-loop
+combined-entry-requires c κs =
+    let t = c .before in (
+      (s t .pre .0 .scale, factor-same (left t) (s t .pre .0 .factor (t .before .loop .c) (t .loop-test .taken))),
+      (s t .pre .1 .scale, factor-same (right t) (s t .pre .1 .factor (t .before .loop .c) (t .loop-test .taken))),
+    )
+
+mul-at : tie.Need-mul-at Inv-loop μ-loop
+mul-at c = let t = c .before .before in omega (arith, s t .pre .0 .to-room, t .loop-test .taken)
+
+add-at : tie.Need-add-at Inv-loop μ-loop
+add-at c = let t = c .before .before in omega (arith, s t .pre .0 .to-room, t .loop-test .taken)
+
+write-cell-requires : tie.Need-write-cell-requires Inv-loop μ-loop
+write-cell-requires c κs = let t = c .before .before .before in omega (arith, s t .pre .0 .to-room, t .loop-test .taken, long (t .before .loop .inv))
+
+add-c : tie.Need-add-c Inv-loop μ-loop
+add-c c = omega arith
+
+loop-less : tie.Need-loop-less Inv-loop μ-loop
+loop-less c = omega arith
+
+loop-again : tie.Need-loop-again Inv-loop μ-loop
+loop-again c =
+    let w = c .before in
+    let v = w .before .before in
+    let t = v .before .before in
+    let a = s t .args in
+    again (t .before .loop .inv) (t .loop-test .taken) (w .write-cell .ensures)
+    (ap cellWords (v .combined-entry .ensures ∙ (λ i. exact ._⊕_ (exact ._⊗_ (value (a .x)) (cell-same (left t) i)) (exact ._⊗_ (value (a .y)) (cell-same (right t) i)))))
+
+same-length : tie.Need-same-length Inv-loop μ-loop
+same-length c = long (c .before .loop .inv)
+
+returns : tie.Need-returns Inv-loop μ-loop
+returns c = done (c .before .loop .inv) (c .loop-test .left)
+
+pub add-rows-spec : {M : Type 1} → statement M
+add-rows-spec =
+    tie.close
+    (tie.spec
+    Inv-loop
+    μ-loop
+    loop-holds
+    mul-a
+    add-a
+    mul-b
+    add-b
+    combined-entry-requires
+    mul-at
+    add-at
+    write-cell-requires
+    add-c
+    loop-less
+    loop-again
+    same-length
+    returns)

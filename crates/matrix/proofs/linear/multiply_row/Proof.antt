@@ -1,0 +1,92 @@
+-- `matrix::linear::multiply_row` meets its contract.
+use mathlib.Core.Path.{ap, _∙_}
+use Prim.Native.Nat.{ℕ, _+_, _*_, _-_, _≤_}
+use native.Mathlib.Nat.{le-refl}
+use native.Mathlib.Omega.{arith}
+use lib.ListN.{length}
+use Rattle.algebra.proofs.Blocks.{Writing, begin, again, done, long, kept, Same, cut, block-in}
+use Rattle.scalar.specs.Exact.{exact}
+use Rattle.scalar.specs.Calls.{value}
+use Rattle.scalar.specs.Cells.{cellWords}
+use Rattle.scalar.proofs.Cell.{cell-same}
+use Rattle.matrix.specs.Factors.{scaledRow}
+use Rattle.matrix.proofs.Terms.{factor-same}
+use Rattle.matrix.proofs.linear.multiply_row.Statement.{statement}
+use Rattle.matrix.proofs.linear.multiply_row.Tie as tie
+
+abbrev Inv-loop : tie.InvT-loop
+Inv-loop buf₀ x from to d c₀ buf c = Writing 5 buf₀ to d (λ (k : ℕ). cellWords (scaledRow buf₀ (value x) from k)) buf c
+
+abbrev μ-loop : tie.MeasureT-loop
+μ-loop buf₀ x from to d c₀ buf c = d - c
+
+loop-holds : tie.Need-loop-holds Inv-loop μ-loop
+loop-holds c = begin (λ k. le-refl 5)
+
+module _ (t : tie.In-loop Inv-loop μ-loop) where
+  abbrev s : tie.Start Inv-loop μ-loop
+  s = t .before .before
+
+  q-in : s .args .from + t .before .loop .c * 5 + 5 ≤ length (s .args .buf .now)
+  q-in = s .pre .factor (t .before .loop .c) (t .loop-test .taken) .room
+
+  src : Same (t .before .loop .buf) (s .args .buf .now) (s .args .from + t .before .loop .c * 5) 5
+  src = cut (kept (t .before .loop .inv) (s .args .from) (s .args .d * 5) (s .pre .apart)) 5 (t .before .loop .c) (block-in (t .loop-test .taken) 5)
+
+mul-q : tie.Need-mul-q Inv-loop μ-loop
+mul-q c = omega (arith, q-in c)
+
+add-q : tie.Need-add-q Inv-loop μ-loop
+add-q c = omega (arith, q-in c)
+
+scaled-entry-requires : tie.Need-scaled-entry-requires Inv-loop μ-loop
+scaled-entry-requires c κs =
+    let t = c .before in
+    (s t .pre .scale, factor-same (src t) (s t .pre .factor (t .before .loop .c) (t .loop-test .taken)))
+
+mul-at : tie.Need-mul-at Inv-loop μ-loop
+mul-at c = let t = c .before .before in omega (arith, s t .pre .to-room, t .loop-test .taken)
+
+add-at : tie.Need-add-at Inv-loop μ-loop
+add-at c = let t = c .before .before in omega (arith, s t .pre .to-room, t .loop-test .taken)
+
+write-cell-requires : tie.Need-write-cell-requires Inv-loop μ-loop
+write-cell-requires c κs = let t = c .before .before .before in omega (arith, s t .pre .to-room, t .loop-test .taken, long (t .before .loop .inv))
+
+add-c : tie.Need-add-c Inv-loop μ-loop
+add-c c = omega arith
+
+loop-less : tie.Need-loop-less Inv-loop μ-loop
+loop-less c = omega arith
+
+loop-again : tie.Need-loop-again Inv-loop μ-loop
+loop-again c =
+    let w = c .before in
+    let v = w .before .before in
+    let t = v .before .before in
+    again (t .before .loop .inv) (t .loop-test .taken) (w .write-cell .ensures) (ap cellWords (v .scaled-entry .ensures ∙ ap (exact ._⊗_ (value (s t .args .x))) (cell-same (src t))))
+
+same-length : tie.Need-same-length Inv-loop μ-loop
+same-length c = long (c .before .loop .inv)
+
+returns : tie.Need-returns Inv-loop μ-loop
+returns c = done (c .before .loop .inv) (c .loop-test .left)
+
+pub multiply-row-spec : {M : Type 1} → statement M
+multiply-row-spec =
+    tie.close
+    (tie.spec
+    Inv-loop
+    μ-loop
+    loop-holds
+    mul-q
+    add-q
+    scaled-entry-requires
+    mul-at
+    add-at
+    write-cell-requires
+    add-c
+    loop-less
+    loop-again
+    same-length
+    returns)

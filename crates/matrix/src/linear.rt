@@ -1,0 +1,122 @@
+// Rows of numbers in words: one multiplied, or two multiplied and added.
+use super::words::clear;
+use super::words::copy;
+use scalar::Scalar;
+use scalar::cells::read_cell;
+use scalar::cells::write_cell;
+use scalar::cells::zero_at;
+use scalar::numerators::sum_of_products;
+use scalar::numerators::times;
+ghost use mathlib.Core.Path.{_≡_};
+ghost use Rattle.scalar.specs.Exact.{exact, equal};
+ghost use Rattle.scalar.specs.Calls.{value};
+ghost use Rattle.scalar.specs.Cells.{cellAt, isZero, fill};
+ghost use Rattle.scalar.specs.Inner.{Coords};
+ghost use Rattle.matrix.specs.Factors.{Factor, Scaling, scaledRow, combinedRow};
+
+fn is_zero(x: Scalar) -> bool
+    ensures { λ r. ⌜ r ≡ isZero (value x .num) ⌝ }
+{
+    let a = x.n;
+    (a[0] | a[1] | a[2] | a[3]) == 0
+}
+
+fn is_one(x: Scalar) -> bool
+    ensures { λ r. ⌜ r ≡ equal (value x) (exact .𝟙) ⌝ }
+{
+    x.equals(Scalar {
+        n: [1, 0, 0, 0],
+        e: 0,
+    })
+}
+
+// x times the number at q; a zero is passed over.
+fn scaled_entry(buf: &[i64], x: Scalar, q: usize) -> Scalar
+    requires { ⌜ Coords 1 28 (value x) × Factor (now buf) q ⌝ }
+    ensures { λ v. ⌜ value v ≡ exact ._⊗_ (value x) (cellAt (now (buf .entry)) q) ⌝ }
+{
+    if zero_at(buf, q) {
+        return Scalar { n: [0; 4], e: 0 };
+    }
+    let b = read_cell(buf, q);
+    times(x, b)
+}
+
+// x times the number at p plus y times the number at q; zeros are passed over.
+fn combined_entry(buf: &[i64], x: Scalar, p: usize, y: Scalar, q: usize) -> Scalar
+    requires { ⌜ (Coords 1 28 (value x) × Factor (now buf) p) × (Coords 1 28 (value y) × Factor (now buf) q) ⌝ }
+    ensures { λ v. ⌜ value v ≡ exact ._⊕_ (exact ._⊗_ (value x) (cellAt (now (buf .entry)) p)) (exact ._⊗_ (value y) (cellAt (now (buf .entry)) q)) ⌝ }
+{
+    if zero_at(buf, p) {
+        return scaled_entry(buf, y, q);
+    }
+    let a = read_cell(buf, p);
+    if zero_at(buf, q) {
+        return times(x, a);
+    }
+    let b = read_cell(buf, q);
+    sum_of_products(x, a, y, b)
+}
+
+// Write x times the d numbers from `from` on to `to` on.
+fn multiply_row(buf: &mut [i64], x: Scalar, from: usize, to: usize, d: usize)
+    requires { ⌜ Scaling (now buf) (value x) from to d ⌝ }
+    ensures { λ _. ⌜ now (buf .exit) ≡ fill (now (buf .entry)) to d (scaledRow (now (buf .entry)) (value x) from) ⌝ }
+{
+    let mut c = 0;
+    while c < d {
+        let q = from + c * 5;
+        let v = scaled_entry(buf, x, q);
+        let at = to + c * 5;
+        write_cell(buf, at, v);
+        c += 1;
+    }
+}
+
+// The same; zeros are written and ones copied.
+fn scale_row(buf: &mut [i64], x: Scalar, from: usize, to: usize, d: usize)
+    requires { ⌜ Scaling (now buf) (value x) from to d ⌝ }
+    ensures { λ _. ⌜ now (buf .exit) ≡ fill (now (buf .entry)) to d (scaledRow (now (buf .entry)) (value x) from) ⌝ }
+{
+    if is_zero(x) {
+        clear(buf, to, d * 5);
+        return;
+    }
+    if is_one(x) {
+        copy(buf, from, to, d * 5);
+        return;
+    }
+    multiply_row(buf, x, from, to, d);
+}
+
+// Write x times the d numbers from p on plus y times the d numbers from q on to `to` on.
+fn add_rows(buf: &mut [i64], x: Scalar, p: usize, y: Scalar, q: usize, to: usize, d: usize)
+    requires { ⌜ Scaling (now buf) (value x) p to d × Scaling (now buf) (value y) q to d ⌝ }
+    ensures { λ _. ⌜ now (buf .exit) ≡ fill (now (buf .entry)) to d (combinedRow (now (buf .entry)) (value x) p (value y) q) ⌝ }
+{
+    let mut c = 0;
+    while c < d {
+        let a = p + c * 5;
+        let b = q + c * 5;
+        let v = combined_entry(buf, x, a, y, b);
+        let at = to + c * 5;
+        write_cell(buf, at, v);
+        c += 1;
+    }
+}
+
+// The same; a row that is multiplied by zero is not read.
+pub fn combine_rows(buf: &mut [i64], x: Scalar, p: usize, y: Scalar, q: usize, to: usize, d: usize)
+    requires { ⌜ Scaling (now buf) (value x) p to d × Scaling (now buf) (value y) q to d ⌝ }
+    ensures { λ _. ⌜ now (buf .exit) ≡ fill (now (buf .entry)) to d (combinedRow (now (buf .entry)) (value x) p (value y) q) ⌝ }
+{
+    if is_zero(y) {
+        scale_row(buf, x, p, to, d);
+        return;
+    }
+    if is_zero(x) {
+        scale_row(buf, y, q, to, d);
+        return;
+    }
+    add_rows(buf, x, p, y, q, to, d);
+}
