@@ -6,6 +6,7 @@ use Prim.Native.Nat.{ℕ, zero, suc, _+_, _*_, _/_, _%_, _^_, _≤_, _<_}
 use native.Mathlib.Nat.{not-suc-le-zero, div-add-mod', div-lt-iff-lt-mul, mod-lt, le-of-eq}
 use native.Mathlib.Omega.{arith}
 use lib.Arith.{digits-lt}
+use lib.Bits.{bitXor}
 use lib.ListN.{length, getD, length-map}
 use lib.IntN.{ℤ}
 use Rattle.algebra.specs.Sum.{times}
@@ -21,20 +22,23 @@ use Rattle.scalar.proofs.Sizes.{well-lowest}
 use Rattle.scalar.proofs.Cell.{cells-same}
 use Rattle.matrix.specs.Matrix as matrix
 use Rattle.matrix.specs.Factors.{Factor}
-use Rattle.matrix.proofs.Terms.{column-lt}
+use Rattle.matrix.proofs.Terms.{row-lt, column-lt}
 use Rattle.gate.specs.Gate.{Gate, valid}
 use Rattle.gate.specs.Operators.{Operator, operator, operators, noUnitary}
-use Rattle.gate.specs.Entries.{gateEntry}
+use Rattle.gate.specs.Entries.{gateEntry, flips, Ready}
 use Rattle.gate.proofs.Bits.{Word}
+use Rattle.gate.proofs.Dispatch.{valid-ready}
 use Rattle.kraus.specs.Dense.{cell}
 use Rattle.kraus.specs.Branch.{Branch, apply, step}
 use Rattle.kraus.proofs.Enough.{Everywhere}
 use Rattle.kraus.proofs.Limits.{Kraus, Enough, matrixOf, gate-entries}
 use Rattle.branches.specs.Store.{StoreAt, outcomePair, outcomeBit}
 use Rattle.branches.specs.Bank.{matrixSize, branchSize, branchWords, bankWords, Holds}
-use Rattle.branches.specs.Step.{product, stepWords}
+use Rattle.branches.specs.Step.{rowSum, product, RowsAt, stepWords}
 use Rattle.branches.proofs.Stores.{outcome-store}
 use Rattle.branches.proofs.Banks.{read-factor, bank-read, bank-low, bank-high, store-at, held-blocks, table-cells}
+use Rattle.branches.proofs.Gates.{operators-some}
+use Rattle.branches.proofs.Products.{partner-lt, own-factor, other-factor, sum-is}
 use Rattle.branches.proofs.Steps.{factor-pos, length-product}
 
 -- ---- a step of a bank is the step of its branches; z is read past the end of a list
@@ -93,6 +97,24 @@ module _ (n m : ℕ) (g : Gate) (ok : valid n m g ≡ true) (z : Branch) (bs : L
     product-is j h v r c q = times-same exacts (2 ^ n) (gateEntry n g v) (gateEntry n g v) (matrix.cell l (from + j * branchSize (2 ^ n)) (2 ^ n)) (cell exact (2 ^ n) (getD bs j z .matrix)) r c
         (λ k hk. refl) (λ k hk. bank-read (2 ^ n) bs held z j h .number (k * 2 ^ n + c) (digits-lt hk q))
 
+    -- and so is the sum of two rows, where the rows of the operators lie in slots
+    module _ (slots : ℕ) (few-qubits : n ≤ 5) (rows : (v : ℕ) → v < length (operators g) → RowsAt l (slots + v * branchSize (2 ^ n)) n g v (2 ^ n)) where
+      operable : (v : ℕ) → v < ops → Ready n g v
+      operable v hv = valid-ready n m g v ok hv
+
+      pub step-below : (r : ℕ) → r < 2 ^ n → bitXor r (flips n g) < 2 ^ n
+      step-below r hr = partner-lt (operable 0 (operators-some g)) few-qubits refl hr
+
+      pub step-own : (v r : ℕ) → v < length (operators g) → r < 2 ^ n → Factor l (slots + v * branchSize (2 ^ n) + r * 10)
+      step-own v r hv hr = own-factor (operable v hv) few-qubits refl refl (rows v hv) (λ r c hr hc. step-small v r c hv hr hc) r hr
+
+      pub step-other : (v r : ℕ) → v < length (operators g) → r < 2 ^ n → Factor l (slots + v * branchSize (2 ^ n) + r * 10 + 5)
+      step-other v r hv hr = other-factor (operable v hv) few-qubits refl refl (rows v hv) (λ r c hr hc. step-small v r c hv hr hc) r hr
+
+      row-sums : (j : ℕ) → j < length bs → (v r c : ℕ) → v < ops → r < 2 ^ n → c < 2 ^ n
+          → rowSum l (flips n g) (slots + v * branchSize (2 ^ n)) (from + j * branchSize (2 ^ n)) (2 ^ n) r c ≡ times exact (2 ^ n) (matrixOf n g (getD os v o)) (cell exact (2 ^ n) (getD bs j z .matrix)) r c
+      row-sums j h v r c hv hr hc = sum-is (operable v hv) few-qubits refl refl (rows v hv) (λ r c hr hc. step-small v r c hv hr hc) (from + j * branchSize (2 ^ n)) r c hr ∙ product-is j h v r c hc
+
     module _ (words : All (λ (b : Branch). Word m (b .store)) bs) (few : m ≤ 64) where
       -- its stores are two words below 2^32 each
       pub step-store : (j : ℕ) → j < length bs → StoreAt l (from + j * branchSize (2 ^ n) + matrixSize (2 ^ n))
@@ -100,21 +122,22 @@ module _ (n m : ℕ) (g : Gate) (ok : valid n m g ≡ true) (z : Branch) (bs : L
           let (e, b) = all-getD (λ (b : Branch). Word m (b .store)) bs words j h z in
           store-at (2 ^ n) bs held z j h b (omega arith)
 
-      step-words : (j : ℕ) → j < length bs * ops → stepWords l n g ops from (2 ^ n) (outcomeBit g) j ≡ branchWords (2 ^ n) (getD (step n bs g) j (apply n g z o))
-      step-words j h =
-          let p = factor-pos j (length bs) ops h in
-          let b = div-lt-iff-lt-mul p .1 h in
-          let M = matrixOf n g (getD os (j % ops) o) in
-          let x = getD bs (j / ops) z in
-          (λ i. (cells-same (2 ^ n * 2 ^ n) _ _ (λ k hk. product-is (j / ops) b (j % ops) (k / 2 ^ n) (k % 2 ^ n) (column-lt k (2 ^ n) hk))
-          ∙ table-cells (2 ^ n) (times exact (2 ^ n) M (cell exact (2 ^ n) (x .matrix)))) i
-          ++ (ap₂ (outcomePair (outcomeBit g) (j % ops)) (bank-low (2 ^ n) bs held z (j / ops) b) (bank-high (2 ^ n) bs held z (j / ops) b)
-          ∙ outcome-store n m g o (x .store) (j % ops) ok (all-getD (λ (b : Branch). Word m (b .store)) bs words (j / ops) b z) few (mod-lt j p)) i)
-          ∙ ap (branchWords (2 ^ n)) (sym (step-at j h))
+      module _ (slots : ℕ) (few-qubits : n ≤ 5) (rows : (v : ℕ) → v < length (operators g) → RowsAt l (slots + v * branchSize (2 ^ n)) n g v (2 ^ n)) where
+        step-words : (j : ℕ) → j < length bs * ops → stepWords l (flips n g) slots ops from (2 ^ n) (outcomeBit g) j ≡ branchWords (2 ^ n) (getD (step n bs g) j (apply n g z o))
+        step-words j h =
+            let p = factor-pos j (length bs) ops h in
+            let b = div-lt-iff-lt-mul p .1 h in
+            let M = matrixOf n g (getD os (j % ops) o) in
+            let x = getD bs (j / ops) z in
+            (λ i. (cells-same (2 ^ n * 2 ^ n) _ _ (λ k hk. row-sums slots few-qubits rows (j / ops) b (j % ops) (k / 2 ^ n) (k % 2 ^ n) (mod-lt j p) (row-lt k (2 ^ n) hk) (column-lt k (2 ^ n) hk))
+            ∙ table-cells (2 ^ n) (times exact (2 ^ n) M (cell exact (2 ^ n) (x .matrix)))) i
+            ++ (ap₂ (outcomePair (outcomeBit g) (j % ops)) (bank-low (2 ^ n) bs held z (j / ops) b) (bank-high (2 ^ n) bs held z (j / ops) b)
+            ∙ outcome-store n m g o (x .store) (j % ops) ok (all-getD (λ (b : Branch). Word m (b .store)) bs words (j / ops) b z) few (mod-lt j p)) i)
+            ∙ ap (branchWords (2 ^ n)) (sym (step-at j h))
 
-      pub step-held : {to : ℕ} {q : List ℤ} → q ≡ blocks (branchSize (2 ^ n)) l to (length bs * length (operators g)) (stepWords l n g (length (operators g)) from (2 ^ n) (outcomeBit g))
-          → to + length bs * length (operators g) * branchSize (2 ^ n) ≤ length l → Holds q to (bankWords (2 ^ n) (step n bs g))
-      step-held {to} e room =
-          let f = stepWords l n g ops from (2 ^ n) (outcomeBit g) in
-          held-blocks l to (2 ^ n) f (apply n g z o) (step n bs g) (e ∙ ap (λ (k : ℕ). blocks (branchSize (2 ^ n)) l to k f) (sym step-length))
-          (λ j. le-of-eq (length-product l n g _ (2 ^ n) (outcomeBit g) (j % ops))) (omega (arith, ap (λ (k : ℕ). k * branchSize (2 ^ n)) step-length)) (λ j h. step-words j (omega (arith, step-length)))
+        pub step-held : {to : ℕ} {q : List ℤ} → q ≡ blocks (branchSize (2 ^ n)) l to (length bs * length (operators g)) (stepWords l (flips n g) slots (length (operators g)) from (2 ^ n) (outcomeBit g))
+            → to + length bs * length (operators g) * branchSize (2 ^ n) ≤ length l → Holds q to (bankWords (2 ^ n) (step n bs g))
+        step-held {to} e room =
+            let f = stepWords l (flips n g) slots ops from (2 ^ n) (outcomeBit g) in
+            held-blocks l to (2 ^ n) f (apply n g z o) (step n bs g) (e ∙ ap (λ (k : ℕ). blocks (branchSize (2 ^ n)) l to k f) (sym step-length))
+            (λ j. le-of-eq (length-product l (flips n g) _ _ (2 ^ n) (outcomeBit g) (j % ops))) (omega (arith, ap (λ (k : ℕ). k * branchSize (2 ^ n)) step-length)) (λ j h. step-words j (omega (arith, step-length)))

@@ -1,105 +1,175 @@
 -- An operator of a gate times a matrix in words, row by row: a row of the product is a sum of two rows.
 use mathlib.Core.Path.{_≡_, sym, ap, _∙_, subst}
+use mathlib.Core.Bool.{cond}
 use mathlib.Core.List.{List}
-use Prim.Native.Nat.{ℕ, _+_, _*_, _/_, _%_, _^_, _<_}
+use Prim.Native.Nat.{ℕ, _+_, _*_, _/_, _%_, _^_, _<_, _≤_}
 use native.Mathlib.Nat.{le-refl, zero-mul}
 use native.Mathlib.Omega.{arith}
 use lib.Arith.{digits-lt, digits-div, digits-mod}
+use lib.Bits.{bitXor}
+use lib.Dec.{eqb, leb}
+use lib.ListN.{length}
 use lib.IntN.{ℤ}
+use borrow.Author.Tests.{le-leb}
+use Rattle.algebra.specs.Sum.{times}
 use Rattle.algebra.specs.Words.{blocks}
 use Rattle.algebra.proofs.Semi as semi
 use Rattle.algebra.proofs.Sum.{sum-two}
-use Rattle.algebra.proofs.Blocks.{Writing, begin, long, kept, Same, cut, narrow, block-in, blocks-same, blocks-more}
-use Rattle.scalar.specs.Exact.{Exact, exact, isLowest}
-use Rattle.scalar.specs.Cells.{cellAt, cellWords, fill}
+use Rattle.algebra.proofs.Blocks.{Writing, begin, long, kept, Same, part, cut, narrow, block-in, blocks-same, blocks-more}
+use Rattle.scalar.specs.Exact.{Exact, exact, isLowest, maxExponent}
+use Rattle.scalar.specs.Cells.{cellAt, cellWords, exponentAt, fill}
 use Rattle.scalar.specs.Inner.{Coords}
 use Rattle.scalar.proofs.Exact.{exacts}
-use Rattle.scalar.proofs.Cell.{cell-same}
+use Rattle.scalar.proofs.Cell.{cell-same, exponent-same}
 use Rattle.gate.specs.Gate.{Gate}
-use Rattle.gate.specs.Entries.{gateEntry, partner, Spot}
+use Rattle.gate.specs.Entries.{gateEntry, flips, partner, rowEntry, Ready}
 use Rattle.gate.proofs.Partner.{Two, row-two}
 use Rattle.matrix.specs.Matrix.{cell}
 use Rattle.matrix.specs.Factors.{Factor, Scaling, combinedRow}
 use Rattle.matrix.proofs.Terms.{factor-same}
-use Rattle.branches.specs.Step.{Applying, product}
+use Rattle.branches.specs.Step.{rowSum, Applying, product, RowsAt}
 
--- b is l with r rows of the product written
-abbrev pub Applied : List ℤ → ℕ → Gate → ℕ → ℕ → ℕ → ℕ → List ℤ → ℕ → Type 0
-Applied l n g j old new d b r = Writing 5 l new (d * d) (λ (i : ℕ). cellWords (product l n g j old d (i / d) (i % d))) b (r * d)
+-- the rows of an operator, from cells that hold its entries
+rows-own : (n : ℕ) (g : Gate) (j r : ℕ) → rowEntry n g j (r * 2) ≡ gateEntry n g j r r
+rows-own n g j r =
+    let e : r * 2 / 2 ≡ r = omega arith in
+    let f : r * 2 % 2 ≡ 0 = omega arith in
+    λ i. gateEntry n g j (e i) (cond (eqb (f i) 0) (e i) (partner n g (e i)))
 
-pub none-applied : (l : List ℤ) (n : ℕ) (g : Gate) (j old new d : ℕ) → Applied l n g j old new d l 0
-none-applied l n g j old new d = subst (Writing 5 l new (d * d) (λ (i : ℕ). cellWords (product l n g j old d (i / d) (i % d))) l) (sym (zero-mul d)) (begin (λ k. le-refl 5))
+rows-other : (n : ℕ) (g : Gate) (j r : ℕ) → rowEntry n g j (r * 2 + 1) ≡ gateEntry n g j r (partner n g r)
+rows-other n g j r =
+    let e : (r * 2 + 1) / 2 ≡ r = omega arith in
+    let f : (r * 2 + 1) % 2 ≡ 1 = omega arith in
+    λ i. gateEntry n g j (e i) (cond (eqb (f i) 0) (e i) (partner n g (e i)))
 
-module _ {l : List ℤ} {n : ℕ} {g : Gate} {j old new d : ℕ} (p : Applying l n g j old new d) {r : ℕ} (hr : r < d) where
-  -- the columns of row r
-  below : (k : ℕ) → k < d → k < 2 ^ n
-  below k h = subst (λ (e : ℕ). k < e) (p .dim) h
+pub rows-at : {l : List ℤ} {at n : ℕ} {g : Gate} {j d : ℕ} → at + d * 10 ≤ length l → ((i : ℕ) → i < d * 2 → cellAt l (at + i * 5) ≡ rowEntry n g j i)
+    → ((i : ℕ) → i < d * 2 → exponentAt l (at + i * 5) ≡ leb (rowEntry n g j i .exp) maxExponent)
+    → ((r c : ℕ) → r < d → c < d → gateEntry n g j r c .exp ≤ 28) → ((r : ℕ) → r < d → partner n g r < d) → RowsAt l at n g j d
+rows-at {l} {at} {n} {g} {j} {d} room cells exponents small below = record {
+  room = room;
+  own = λ r hr. ap (cellAt l) (own-place r) ∙ cells (r * 2) (omega arith) ∙ rows-own n g j r;
+  own-exponent = λ r hr. ap (exponentAt l) (own-place r) ∙ exponents (r * 2) (omega arith) ∙ ap (λ (x : Exact). leb (x .exp) maxExponent) (rows-own n g j r) ∙ le-leb (gateEntry n g j r r .exp) maxExponent (omega (arith, small r r hr hr));
+  other = λ r hr. ap (cellAt l) (other-place r) ∙ cells (r * 2 + 1) (omega arith) ∙ rows-other n g j r;
+  other-exponent = λ r hr. ap (exponentAt l) (other-place r) ∙ exponents (r * 2 + 1) (omega arith) ∙ ap (λ (x : Exact). leb (x .exp) maxExponent) (rows-other n g j r) ∙ le-leb (gateEntry n g j r (partner n g r) .exp) maxExponent (omega (arith, small r (partner n g r) hr (below r hr)));
+}
+  where
+    own-place : (r : ℕ) → at + r * 10 ≡ at + r * 2 * 5
+    own-place r = omega arith
 
-  abbrev s : ℕ
-  s = partner n g r
+    other-place : (r : ℕ) → at + r * 10 + 5 ≡ at + (r * 2 + 1) * 5
+    other-place r = omega arith
+
+-- row r of a product with an operator of a gate
+module _ {n : ℕ} {g : Gate} {j d r : ℕ} (ready : Ready n g j) (few : n ≤ 5) (dim : d ≡ 2 ^ n) (hr : r < d) where
+  in-dim : (k : ℕ) → k < d → k < 2 ^ n
+  in-dim k h = subst (λ (e : ℕ). k < e) dim h
 
   columns : Two (2 ^ n) (gateEntry n g j r) r (partner n g r)
-  columns = row-two (p .ready) (p .few) r (below r hr)
+  columns = row-two ready few r (in-dim r hr)
 
   pub partner-lt : partner n g r < d
-  partner-lt = subst (λ (e : ℕ). partner n g r < e) (sym (p .dim)) (columns .below)
+  partner-lt = subst (λ (e : ℕ). partner n g r < e) (sym dim) (columns .below)
 
-  pub spot : (c : ℕ) → c < d → Spot n r c
-  spot c h = record { few = p .few; row-in = below r hr; col-in = below c h }
+  pub row-is : (H : ℕ → ℕ → Exact) (c : ℕ) → times exact d (gateEntry n g j) H r c ≡ exact ._⊕_ (exact ._⊗_ (gateEntry n g j r r) (H r c)) (exact ._⊗_ (gateEntry n g j r (partner n g r)) (H (partner n g r) c))
+  row-is H c =
+      sum-two exacts d r (partner n g r) (gateEntry n g j r) (λ (k : ℕ). H k c) hr partner-lt (λ e. columns .other (sym e))
+      (λ k h a b. ap (λ (x : Exact). exact ._⊗_ x (H k c)) (columns .zeros k (in-dim k h) a b) ∙ semi.zero-mul exacts (H k c))
 
-  -- row r of the product
-  row-is : (c : ℕ) → product l n g j old d r c ≡ exact ._⊕_ (exact ._⊗_ (gateEntry n g j r r) (cell l old d r c)) (exact ._⊗_ (gateEntry n g j r s) (cell l old d s c))
-  row-is c =
-      sum-two exacts d r s (gateEntry n g j r) (λ (k : ℕ). cell l old d k c) hr partner-lt (λ e. columns .other (sym e))
-      (λ k h a b. ap (λ (x : Exact). exact ._⊗_ x (cell l old d k c)) (columns .zeros k (below k h) a b) ∙ semi.zero-mul exacts (cell l old d k c))
+-- ---- the same words have the same sums of rows
+row-place : (old d k c : ℕ) → old + k * d * 5 + c * 5 ≡ old + (k * d + c) * 5
+row-place old d k c = omega arith
 
-  module _ {b : List ℤ} (w : Applied l n g j old new d b r) where
-    matrix : Same b l old (d * d * 5)
-    matrix = kept w old (d * d * 5) (p .apart)
+module _ {l b : List ℤ} {op old : ℕ} (d : ℕ) (entries : Same b l op (d * 10)) (matrix : Same b l old (d * d * 5)) where
+  pub own-at : (r : ℕ) → r < d → Same b l (op + r * 10) 5
+  own-at r hr = part entries (op + r * 10) 5 (omega arith) (omega arith)
 
-    abbrev to : ℕ
-    to = new + r * d * 5
+  pub other-at : (r : ℕ) → r < d → Same b l (op + r * 10 + 5) 5
+  other-at r hr = part entries (op + r * 10 + 5) 5 (omega arith) (omega arith)
 
-    module _ (k : ℕ) (hk : k < d) where
-      place : (c : ℕ) → old + k * d * 5 + c * 5 ≡ old + (k * d + c) * 5
-      place c = omega arith
+  pub same-at : (k c : ℕ) → k < d → c < d → Same b l (old + (k * d + c) * 5) 5
+  same-at k c hk hc = cut matrix 5 (k * d + c) (block-in (digits-lt hk hc) 5)
 
-      same-at : (c : ℕ) → c < d → Same b l (old + (k * d + c) * 5) 5
-      same-at c hc = cut matrix 5 (k * d + c) (block-in (digits-lt hk hc) 5)
+  pub cell-at : (k c : ℕ) → k < d → c < d → cellAt b (old + k * d * 5 + c * 5) ≡ cellAt l (old + k * d * 5 + c * 5)
+  cell-at k c hk hc = ap (cellAt b) (row-place old d k c) ∙ cell-same (same-at k c hk hc) ∙ ap (cellAt l) (sym (row-place old d k c))
 
-      cell-at : (c : ℕ) → c < d → cellAt b (old + k * d * 5 + c * 5) ≡ cell l old d k c
-      cell-at c hc = ap (cellAt b) (place c) ∙ cell-same (same-at c hc)
+  pub sum-same : (m r c : ℕ) → r < d → c < d → bitXor r m < d → rowSum b m op old d r c ≡ rowSum l m op old d r c
+  sum-same m r c hr hc hs = λ i. exact ._⊕_ (exact ._⊗_ (cell-same (own-at r hr) i) (cell-at r c hr hc i)) (exact ._⊗_ (cell-same (other-at r hr) i) (cell-at (bitXor r m) c hs hc i))
 
-      -- row k may be multiplied by x
-      pub scaling : {x : Exact} → Coords 1 28 x → Scaling b x (old + k * d * 5) (new + r * d * 5) d
-      scaling small = record {
-        scale = small;
-        from-room = omega (arith, p .old-room, long w, block-in hk d);
-        factor = λ c hc. subst (Factor b) (sym (place c)) (factor-same (same-at c hc) (p .factor (k * d + c) (digits-lt hk hc)));
-        lowest = λ c hc. ap isLowest (cell-at c hc) ∙ p .lowest (k * d + c) (digits-lt hk hc);
-        to-room = omega (arith, p .new-room, long w, block-in hr d);
-        apart = narrow old (d * d * 5) new (d * d * 5) (old + k * d * 5) (d * 5) to (d * 5) (p .apart) (omega arith) (omega (arith, block-in hk d)) (omega arith) (omega (arith, block-in hr d));
+-- ---- an operator applied: b is l with r rows of the product written
+abbrev pub Applied : List ℤ → ℕ → ℕ → ℕ → ℕ → ℕ → List ℤ → ℕ → Type 0
+Applied l m op old new d b r = Writing 5 l new (d * d) (λ (i : ℕ). cellWords (rowSum l m op old d (i / d) (i % d))) b (r * d)
+
+pub none-applied : (l : List ℤ) (m op old new d : ℕ) → Applied l m op old new d l 0
+none-applied l m op old new d = subst (Writing 5 l new (d * d) (λ (i : ℕ). cellWords (rowSum l m op old d (i / d) (i % d))) l) (sym (zero-mul d)) (begin (λ k. le-refl 5))
+
+module _ {l : List ℤ} {m op old new d : ℕ} (p : Applying l m op old new d) {r : ℕ} (hr : r < d) {b : List ℤ} (w : Applied l m op old new d b r) where
+  matrix : Same b l old (d * d * 5)
+  matrix = kept w old (d * d * 5) (p .apart)
+
+  entries : Same b l op (d * 10)
+  entries = kept w op (d * 10) (p .op-apart)
+
+  pub own-same : Same b l (op + r * 10) 5
+  own-same = own-at d entries matrix r hr
+
+  pub other-same : Same b l (op + r * 10 + 5) 5
+  other-same = other-at d entries matrix r hr
+
+  abbrev to : ℕ
+  to = new + r * d * 5
+
+  module _ (k : ℕ) (hk : k < d) where
+    -- row k may be multiplied by x
+    pub scaling : {x : Exact} → Coords 1 28 x → Scaling b x (old + k * d * 5) (new + r * d * 5) d
+    scaling small = record {
+      scale = small;
+      from-room = omega (arith, p .old-room, long w, block-in hk d);
+      factor = λ c hc. subst (Factor b) (sym (row-place old d k c)) (factor-same (same-at d entries matrix k c hk hc) (p .factor (k * d + c) (digits-lt hk hc)));
+      lowest = λ c hc. ap isLowest (ap (cellAt b) (row-place old d k c) ∙ cell-same (same-at d entries matrix k c hk hc)) ∙ p .lowest (k * d + c) (digits-lt hk hc);
+      to-room = omega (arith, p .new-room, long w, block-in hr d);
+      apart = narrow old (d * d * 5) new (d * d * 5) (old + k * d * 5) (d * 5) to (d * 5) (p .apart) (omega arith) (omega (arith, block-in hk d)) (omega arith) (omega (arith, block-in hr d));
+    }
+
+  -- one row more
+  pub applied-more : {q : List ℤ} {x y : Exact} → x ≡ cellAt l (op + r * 10) → y ≡ cellAt l (op + r * 10 + 5)
+      → q ≡ fill b (new + r * d * 5) d (combinedRow b x (old + r * d * 5) y (old + bitXor r m * d * 5)) → Applied l m op old new d q (r + 1)
+  applied-more ex ey f =
+      record {
+        sized = λ k. le-refl 5;
+        count = omega (arith, block-in hr d);
+        is =
+            f
+            ∙ blocks-same 5 b to d _ (λ (c : ℕ). entry (r * d + c))
+            (λ c hc. ap cellWords ((λ i. exact ._⊕_ (exact ._⊗_ (ex i) (cell-at d entries matrix r c hr hc i)) (exact ._⊗_ (ey i) (cell-at d entries matrix (bitXor r m) c (p .below r hr) hc i)))
+            ∙ sym (λ i. rowSum l m op old d (digits-div r hc i) (digits-mod r hc i))))
+            ∙ ap (λ (b : List ℤ). blocks 5 b to d (λ (c : ℕ). entry (r * d + c))) (w .is)
+            ∙ blocks-more 5 l new (r * d) d entry
+            ∙ ap (λ (k : ℕ). blocks 5 l new k entry) rows;
       }
+    where
+      entry : ℕ → List ℤ
+      entry i = cellWords (rowSum l m op old d (i / d) (i % d))
 
-    -- one row more
-    pub applied-more : {m : List ℤ} {x y : Exact} → x ≡ gateEntry n g j r r → y ≡ gateEntry n g j r (partner n g r)
-        → m ≡ fill b (new + r * d * 5) d (combinedRow b x (old + r * d * 5) y (old + partner n g r * d * 5)) → Applied l n g j old new d m (r + 1)
-    applied-more ex ey f =
-        record {
-          sized = λ k. le-refl 5;
-          count = omega (arith, block-in hr d);
-          is =
-              f
-              ∙ blocks-same 5 b to d _ (λ (c : ℕ). entry (r * d + c))
-              (λ c hc. ap cellWords ((λ i. exact ._⊕_ (exact ._⊗_ (ex i) (cell-at r hr c hc i)) (exact ._⊗_ (ey i) (cell-at s partner-lt c hc i)))
-              ∙ sym (row-is c) ∙ sym (λ i. product l n g j old d (digits-div r hc i) (digits-mod r hc i))))
-              ∙ ap (λ (m : List ℤ). blocks 5 m to d (λ (c : ℕ). entry (r * d + c))) (w .is)
-              ∙ blocks-more 5 l new (r * d) d entry
-              ∙ ap (λ (k : ℕ). blocks 5 l new k entry) rows;
-        }
-      where
-        entry : ℕ → List ℤ
-        entry i = cellWords (product l n g j old d (i / d) (i % d))
+      rows : r * d + d ≡ (r + 1) * d
+      rows = omega arith
 
-        rows : r * d + d ≡ (r + 1) * d
-        rows = omega arith
+-- ---- an operator of a gate, by its rows
+module _ {l : List ℤ} {n : ℕ} {g : Gate} {j d m op : ℕ} (ready : Ready n g j) (few : n ≤ 5) (dim : d ≡ 2 ^ n) (e : m ≡ flips n g) (rows : RowsAt l op n g j d)
+    (small : (r c : ℕ) → r < d → c < d → Coords 1 28 (gateEntry n g j r c)) where
+  other-is : (r : ℕ) → bitXor r m ≡ partner n g r
+  other-is r = ap (bitXor r) e
+
+  pub other-lt : (r : ℕ) → r < d → bitXor r m < d
+  other-lt r hr = subst (λ (k : ℕ). k < d) (sym (other-is r)) (partner-lt ready few dim hr)
+
+  pub own-factor : (r : ℕ) → r < d → Factor l (op + r * 10)
+  own-factor r hr = record { room = omega (arith, rows .room); exponent = rows .own-exponent r hr; coords = subst (Coords 1 28) (sym (rows .own r hr)) (small r r hr hr) }
+
+  pub other-factor : (r : ℕ) → r < d → Factor l (op + r * 10 + 5)
+  other-factor r hr = record { room = omega (arith, rows .room); exponent = rows .other-exponent r hr; coords = subst (Coords 1 28) (sym (rows .other r hr)) (small r (partner n g r) hr (partner-lt ready few dim hr)) }
+
+  -- the sum of two rows is the row of the product
+  pub sum-is : (old r c : ℕ) → r < d → rowSum l m op old d r c ≡ product l n g j old d r c
+  sum-is old r c hr =
+      (λ i. exact ._⊕_ (exact ._⊗_ (rows .own r hr i) (cellAt l (row-place old d r c i))) (exact ._⊗_ (rows .other r hr i) (cellAt l ((ap (λ (k : ℕ). old + k * d * 5 + c * 5) (other-is r) ∙ row-place old d (partner n g r) c) i))))
+      ∙ sym (row-is ready few dim hr (cell l old d) c)

@@ -7,7 +7,7 @@ use Prim.Native.Nat.{ℕ, _+_, _*_, _-_, _/_, _%_, _^_, _≤_, _<_}
 use native.Mathlib.Nat.{mul-le-mul, le-refl, le-of-eq, add-mul, mul-assoc, zero-add}
 use native.Mathlib.Numerals.{add-one}
 use native.Mathlib.Omega.{arith}
-use lib.Pow.{pow-mono}
+use lib.Pow.{pow-mono, pow-pos}
 use lib.ListN.{length, getD, take, List·getD-append}
 use lib.Seq.{sets, take-suc, take-all, length-sets}
 use lib.IntN.{ℤ, pos}
@@ -15,23 +15,27 @@ use Rattle.algebra.specs.Lists.{All, total}
 use Rattle.algebra.specs.Words.{blocks, Apart}
 use Rattle.algebra.proofs.Lists.{every-all, all-getD}
 use Rattle.algebra.proofs.Totals.{sub-whole, sub-take, sub-total}
-use Rattle.algebra.proofs.Blocks.{Writing, wrote, kept, long, sets-at, sets-above}
+use Rattle.algebra.proofs.Blocks.{Writing, wrote, kept, long, block-in, sets-at, sets-above}
+use Rattle.scalar.proofs.Cell.{length-cells, block-cell, block-word, exponent-is}
 use Rattle.gate.specs.Gate.{Gate, gateAt, gatesOf, valid, splits}
 use Rattle.gate.specs.Operators.{operators}
+use Rattle.gate.specs.Entries.{flips, rowEntry, Ready}
 use Rattle.gate.proofs.Bits.{Word}
 use Rattle.gate.proofs.Dispatch.{valid-ready}
+use Rattle.gate.proofs.Partner.{row-two}
 use Rattle.gate.proofs.Listed.{gates-length, gates-at}
 use Rattle.kraus.specs.Branch.{Store, Branch, branches, start, step}
 use Rattle.kraus.proofs.Counting.{branch-count, branches-bits}
 use Rattle.kraus.proofs.Limits.{Enough, never-48}
 use Rattle.branches.specs.Store.{outcomeBit}
 use Rattle.branches.specs.Bank.{branchSize, branchWords, bankWords, identityBranch, Holds}
-use Rattle.branches.specs.Step.{stepWords}
-use Rattle.branches.specs.Run.{workSize, gateStepped, GateStep, Runs, Ran}
-use Rattle.branches.proofs.Banks.{length-branch, length-bank}
+use Rattle.branches.specs.Step.{RowsAt, stepWords}
+use Rattle.branches.specs.Run.{workSize, operatorWords, withOperators, gateStepped, GateStep, Runs, Ran}
+use Rattle.branches.proofs.Banks.{length-branch, length-bank, held-same}
+use Rattle.branches.proofs.Products.{rows-at}
 use Rattle.branches.proofs.Steps.{length-product}
-use Rattle.branches.proofs.Gates.{operators-some}
-use Rattle.branches.proofs.Link.{step-length, step-small, step-factor, step-lowest, step-store, step-held}
+use Rattle.branches.proofs.Gates.{two-operators, operators-some}
+use Rattle.branches.proofs.Link.{step-length, step-small, step-below, step-own, step-other, step-factor, step-lowest, step-store, step-held}
 
 pub work-is : (d banks : ℕ) → workSize d banks ≡ 2 * (banks * branchSize d) + 2 * branchSize d
 work-is d banks = add-mul (2 * banks) 2 (branchSize d) ∙ ap (λ (k : ℕ). k + 2 * branchSize d) (mul-assoc 2 banks (branchSize d))
@@ -137,8 +141,45 @@ module _ {l₀ : List ℤ} {ws : List ℕ} {σ : Store} {n banks : ℕ} (r : Run
     next-size : count * ops * size ≤ bank
     next-size = omega (arith, bank-le (i + 1), ap (λ (k : ℕ). k * size) next-count)
 
+    ops-size : ops * size ≤ 2 * size
+    ops-size = mul-le-mul (two-operators g) (le-refl size)
+
     room : 2 * bank + 2 * size ≤ length l
     room = omega (arith, r .room, work-is d banks, w .same-length)
+
+    -- the rows of the operators are written
+    abbrev slots : ℕ
+    slots = 2 * bank
+
+    abbrev m : List ℤ
+    m = withOperators l slots n d g
+
+    operable : Ready n g 0
+    operable = valid-ready n (length σ) g 0 ok (operators-some g)
+
+    -- a gate's qubit is there, so that two entries to a row are no more than all
+    two : 2 ≤ d
+    two = let t = row-two operable (r .few) 0 (pow-pos n) in omega (arith, t .below, t .other)
+
+    wide : d * 10 ≤ size
+    wide = omega (arith, mul-le-mul two (le-refl d))
+
+    sized : (k : ℕ) → length (operatorWords n d g k) ≤ size
+    sized k = omega (arith, length-cells (rowEntry n g k) (d * 2), wide)
+
+    writing : Writing size l slots ops (operatorWords n d g) m ops
+    writing = wrote sized refl
+
+    held-still : Holds m from (bankWords d (after i))
+    held-still = held-same (w .held) (kept writing from (length (bankWords d (after i))) (inl (omega (arith, length-bank d (after i), bank-le i, from-le))))
+
+    rows : (v : ℕ) → v < ops → RowsAt m (slots + v * size) n g v d
+    rows v hv = rows-at (omega (arith, long writing, full, block-in hv size, wide)) (λ k hk. block-cell size l slots (operatorWords n d g) sized ops v (d * 2) k (rowEntry n g v) refl hv hk full)
+        (λ k hk. exponent-is m (slots + v * size + k * 5) (rowEntry n g v k) (block-word size l slots (operatorWords n d g) sized ops v (d * 2) k (rowEntry n g v) refl hv hk full))
+        (λ q c hq hc. step-small n (length σ) g ok (identityBranch d σ) (after i) v q c hv hq hc .exponent) (λ q hq. row-two operable (r .few) q hq .below)
+      where
+        full : slots + ops * size ≤ length l
+        full = omega (arith, ops-size, room)
 
     to-room : to + count * ops * size ≤ 2 * bank
     to-room = omega (arith, next-size, from-le)
@@ -156,42 +197,50 @@ module _ {l₀ : List ℤ} {ws : List ℕ} {σ : Store} {n banks : ℕ} (r : Run
     enough : Enough 25 n (after i)
     enough = never-48 n (length σ) σ (gatesOf ws) (r .few) (r .accepted) (r .light) i
 
-    running-ready : GateStep l ws (i * 5) n (2 ^ n) from (banks * branchSize (2 ^ n) - from) count
+    running-ready : GateStep l ws (i * 5) (2 * (banks * branchSize (2 ^ n))) n (2 ^ n) from (banks * branchSize (2 ^ n) - from) count
     running-ready = record {
       gate-room = omega arith;
+      slots-ready = record { few = r .few; dim = refl; ready = operable; wide = wide; room = room };
       ready = record {
-        few = r .few;
-        dim = refl;
-        ready = valid-ready n (length σ) g 0 ok (operators-some g);
-        ops-are = refl;
-        small = step-small n (length σ) g ok z (after i);
-        from-room = omega (arith, count-size, from-le, room);
-        to-room = omega (arith, to-room, room);
+        dim = pow-mono {i = n} {j = 5} (r .few);
+        below = step-below n (length σ) g ok z (after i) held-still slots (r .few) rows;
+        some-op = operators-some g;
+        few-ops = two-operators g;
+        wide = wide;
+        slots-room = omega (arith, long writing, ops-size, room);
+        own = step-own n (length σ) g ok z (after i) held-still slots (r .few) rows;
+        other = step-other n (length σ) g ok z (after i) held-still slots (r .few) rows;
+        slots-apart = inr to-room;
+        from-room = omega (arith, long writing, count-size, from-le, room);
+        to-room = omega (arith, long writing, to-room, room);
         from-apart = apart;
-        factor = λ b j hb hj. step-factor n (length σ) g ok z (after i) (w .held) 25 (omega arith) enough b j (omega (arith, w .counted)) hj;
-        lowest = λ b j hb hj. step-lowest n (length σ) g ok z (after i) (w .held) 25 (omega arith) enough b j (omega (arith, w .counted)) hj;
-        stores = λ b hb. step-store n (length σ) g ok z (after i) (w .held) words (r .short) b (omega (arith, w .counted));
+        factor = λ b j hb hj. step-factor n (length σ) g ok z (after i) held-still 25 (omega arith) enough b j (omega (arith, w .counted)) hj;
+        lowest = λ b j hb hj. step-lowest n (length σ) g ok z (after i) held-still 25 (omega arith) enough b j (omega (arith, w .counted)) hj;
+        stores = λ b hb. step-store n (length σ) g ok z (after i) held-still words (r .short) b (omega (arith, w .counted));
       };
     }
 
-    running-more : {q : List ℤ} {c : ℕ} → c ≡ count * length (operators (gateAt ws (i * 5))) → q ≡ gateStepped l n (2 ^ n) from (banks * branchSize (2 ^ n) - from) count (gateAt ws (i * 5))
+    running-more : {q : List ℤ} {c : ℕ} → c ≡ count * length (operators (gateAt ws (i * 5))) → q ≡ gateStepped l (2 * (banks * branchSize (2 ^ n))) n (2 ^ n) from (banks * branchSize (2 ^ n) - from) count (gateAt ws (i * 5))
         → Running l₀ ws σ n (2 ^ n) banks q (banks * branchSize (2 ^ n) - from) c (i + 1)
     running-more {q} p e = record {
       below = omega arith;
       counted = p ∙ next-count;
       held = subst (λ (bs : List Branch). Holds q to (bankWords d bs)) (sym next)
-          (step-held n (length σ) g ok z (after i) (w .held) words (r .short)
-          (e ∙ ap (λ (k : ℕ). blocks size l to (k * ops) stepped) (w .counted)) (omega (arith, to-room, room, ap (λ (k : ℕ). k * ops * size) (w .counted))));
+          (step-held n (length σ) g ok z (after i) held-still words (r .short) slots (r .few) rows
+          (e ∙ ap (λ (k : ℕ). blocks size m to (k * ops) stepped) (w .counted)) (omega (arith, long writing, to-room, room, ap (λ (k : ℕ). k * ops * size) (w .counted))));
       place = ⊎-elim (λ e. inr (omega arith)) (λ e. inl (omega arith)) (w .place);
-      same-length = long after-step ∙ w .same-length;
-      past = λ k hk. kept after-step k 1 (inr (omega (arith, to-room, hk, work-is d banks))) .word k (omega arith) (omega arith) ∙ w .past k hk;
+      same-length = long after-step ∙ long writing ∙ w .same-length;
+      past = λ k hk.
+          kept after-step k 1 (inr (omega (arith, to-room, hk, work-is d banks))) .word k (omega arith) (omega arith)
+          ∙ kept writing k 1 (inr (omega (arith, ops-size, hk, work-is d banks))) .word k (omega arith) (omega arith)
+          ∙ w .past k hk;
     }
       where
         stepped : ℕ → List ℤ
-        stepped = stepWords l n g ops from d (outcomeBit g)
+        stepped = stepWords m (flips n g) slots ops from d (outcomeBit g)
 
-        after-step : Writing size l to (count * ops) stepped q (count * ops)
-        after-step = wrote (λ j. le-of-eq (length-product l n g _ d (outcomeBit g) (j % ops))) e
+        after-step : Writing size m to (count * ops) stepped q (count * ops)
+        after-step = wrote (λ j. le-of-eq (length-product m (flips n g) _ _ d (outcomeBit g) (j % ops))) e
 
 -- ---- the same with the number of rows, and the size of a bank, as they are handed over
 -- b is the buffer with the first branch written
@@ -222,16 +271,16 @@ module _ {l₀ : List ℤ} {ws : List ℕ} {σ : Store} {n d banks : ℕ} (r₀ 
     pub place-le : from ≤ banks * size
     place-le = ⊎-elim (λ p. omega arith) (λ p. omega (arith, ap (λ (k : ℕ). banks * k) e)) (w .place)
 
-    pub ready : GateStep l ws (i * 5) n d from (banks * size - from) count
+    pub ready : GateStep l ws (i * 5) (2 * (banks * size)) n d from (banks * size - from) count
     ready =
-        subst (λ (s : ℕ). GateStep l ws (i * 5) n d from (banks * s - from) count) (sym e)
-        (subst (λ (d : ℕ). Runs b ws σ n d banks → Running b ws σ n d banks l from count i → GateStep l ws (i * 5) n d from (banks * branchSize d - from) count) (sym (r₀ .dim))
+        subst (λ (s : ℕ). GateStep l ws (i * 5) (2 * (banks * s)) n d from (banks * s - from) count) (sym e)
+        (subst (λ (d : ℕ). Runs b ws σ n d banks → Running b ws σ n d banks l from count i → GateStep l ws (i * 5) (2 * (banks * branchSize d)) n d from (banks * branchSize d - from) count) (sym (r₀ .dim))
         (λ r w. running-ready r w h) runs w)
 
-    pub more : {q : List ℤ} {c : ℕ} → c ≡ count * length (operators (gateAt ws (i * 5))) → q ≡ gateStepped l n d from (banks * size - from) count (gateAt ws (i * 5))
+    pub more : {q : List ℤ} {c : ℕ} → c ≡ count * length (operators (gateAt ws (i * 5))) → q ≡ gateStepped l (2 * (banks * size)) n d from (banks * size - from) count (gateAt ws (i * 5))
         → Running b ws σ n d banks q (banks * size - from) c (i + 1)
     more {q} {c} p =
-        subst (λ (s : ℕ). q ≡ gateStepped l n d from (banks * s - from) count (gateAt ws (i * 5)) → Running b ws σ n d banks q (banks * s - from) c (i + 1)) (sym e)
+        subst (λ (s : ℕ). q ≡ gateStepped l (2 * (banks * s)) n d from (banks * s - from) count (gateAt ws (i * 5)) → Running b ws σ n d banks q (banks * s - from) c (i + 1)) (sym e)
         (subst (λ (d : ℕ). Runs b ws σ n d banks → Running b ws σ n d banks l from count i
-        → q ≡ gateStepped l n d from (banks * branchSize d - from) count (gateAt ws (i * 5)) → Running b ws σ n d banks q (banks * branchSize d - from) c (i + 1)) (sym (r₀ .dim))
+        → q ≡ gateStepped l (2 * (banks * branchSize d)) n d from (banks * branchSize d - from) count (gateAt ws (i * 5)) → Running b ws σ n d banks q (banks * branchSize d - from) c (i + 1)) (sym (r₀ .dim))
         (λ r w f. running-more r w h p f) runs w)

@@ -4,27 +4,21 @@ use mathlib.Core.List.{List, _++_}
 use Prim.Native.Nat.{ℕ, zero, suc, _+_, _*_, _-_, _/_, _%_, _^_, _≤_, _<_}
 use native.Mathlib.Nat.{mod-lt, div-lt-iff-lt-mul, mul-le-mul, le-refl}
 use native.Mathlib.Omega.{arith}
-use lib.Arith.{digits-lt}
 use lib.Bits.{bitAnd, and-mask}
 use lib.ListN.{length, length-append}
 use lib.Seq.{sets}
 use lib.IntN.{ℤ}
-use lib.Pow.{pow-mono}
 use Rattle.algebra.specs.Words.{Apart, upTo}
-use Rattle.algebra.proofs.Sum.{times-same}
 use Rattle.algebra.proofs.Blocks.{Writing, again, kept, wrote, Same, same-trans, part, cut, narrow, block-in, append-block}
 use Rattle.scalar.specs.Exact.{Exact, isLowest}
 use Rattle.scalar.specs.Cells.{cells}
-use Rattle.scalar.proofs.Exact.{exacts}
 use Rattle.scalar.proofs.Cell.{fill-block, length-cells, cell-same, cells-same}
-use Rattle.gate.specs.Gate.{Gate}
-use Rattle.gate.specs.Entries.{gateEntry}
-use Rattle.matrix.specs.Matrix.{cell, written}
-use Rattle.matrix.proofs.Terms.{column-lt, factor-same}
+use Rattle.matrix.specs.Matrix.{written}
+use Rattle.matrix.proofs.Terms.{row-lt, column-lt, factor-same}
 use Rattle.branches.specs.Store.{StoreAt, outcomePair, outcomeWords}
 use Rattle.branches.specs.Bank.{matrixSize, branchSize}
-use Rattle.branches.specs.Step.{product, Applying, productWords, stepWords, Step}
-use Rattle.branches.proofs.Gates.{two-operators, operators-some}
+use Rattle.branches.specs.Step.{rowSum, Applying, productWords, stepWords, Step}
+use Rattle.branches.proofs.Products.{own-at, other-at, sum-same}
 
 pub dim-square : (d : ℕ) → d ≤ 32 → d * d ≤ 1024
 dim-square d h = mul-le-mul h h
@@ -33,12 +27,12 @@ pub factor-pos : (j n k : ℕ) → j < n * k → 0 < k
 factor-pos j n zero h = absurd (omega arith)
 factor-pos j n (suc k) h = omega arith
 
-pub length-product : (l : List ℤ) (n : ℕ) (g : Gate) (old d bit v : ℕ) → length (productWords l n g old d bit v) ≡ branchSize d
-length-product l n g old d bit v =
+pub length-product : (l : List ℤ) (m op old d bit v : ℕ) → length (productWords l m op old d bit v) ≡ branchSize d
+length-product l m op old d bit v =
     length-append (cells (d * d) entry) (outcomeWords l (old + matrixSize d) bit v) ∙ ap (λ (k : ℕ). k + 2) (length-cells entry (d * d))
   where
     entry : ℕ → Exact
-    entry i = product l n g v old d (i / d) (i % d)
+    entry i = rowSum l m op old d (i / d) (i % d)
 
 -- ---- the numbers of operator and branch, by a mask and a shift
 number-by : (j ops : ℕ) → 1 ≤ ops → ops ≤ 2 → bitAnd j (ops - 1) ≡ j % ops
@@ -54,21 +48,15 @@ branch-by j (suc (suc zero)) h k = refl
 branch-by j (suc (suc (suc ops))) h k = absurd (omega arith)
 
 -- what a step asks of its sizes
-module _ {l : List ℤ} {n : ℕ} {g : Gate} {ops from to d count : ℕ} (p : Step l n g ops from to d count) where
-  pub some-op : 1 ≤ ops
-  some-op = omega (arith, p .ops-are, operators-some g)
-
-  pub few-ops : ops ≤ 2
-  few-ops = omega (arith, p .ops-are, two-operators g)
-
+module _ {l : List ℤ} {f slots ops from to d count : ℕ} (p : Step l f slots ops from to d count) where
   pub number-is : (j : ℕ) → bitAnd j (ops - 1) ≡ j % ops
-  number-is j = number-by j ops some-op few-ops
+  number-is j = number-by j ops (p .some-op) (p .few-ops)
 
   pub branch-is : (j : ℕ) → j / 2 ^ (ops - 1) ≡ j / ops
-  branch-is j = branch-by j ops some-op few-ops
+  branch-is j = branch-by j ops (p .some-op) (p .few-ops)
 
   pub step-square : d * d ≤ 1024
-  step-square = dim-square d (omega (arith, p .dim, pow-mono {i = n} {j = 5} (p .few)))
+  step-square = dim-square d (p .dim)
 
   pub total-le : count * ops ≤ length l
   total-le = let h : 1 ≤ branchSize d = omega arith in omega (arith, p .to-room, mul-le-mul (le-refl (count * ops)) h)
@@ -84,10 +72,13 @@ module _ {l : List ℤ} {n : ℕ} {g : Gate} {ops from to d count : ℕ} (p : St
     size = branchSize d
 
     number-lt : j % ops < ops
-    number-lt = mod-lt j some-op
+    number-lt = mod-lt j (p .some-op)
 
     old-lt : j / ops < count
-    old-lt = div-lt-iff-lt-mul some-op .1 h
+    old-lt = div-lt-iff-lt-mul (p .some-op) .1 h
+
+    pub op-at : slots + j % ops * branchSize d + d * 10 ≤ length l
+    op-at = omega (arith, block-in number-lt (branchSize d), p .wide, p .slots-room)
 
     pub old-in : j / ops * branchSize d + branchSize d ≤ count * branchSize d
     old-in = block-in old-lt size
@@ -95,7 +86,7 @@ module _ {l : List ℤ} {n : ℕ} {g : Gate} {ops from to d count : ℕ} (p : St
     pub new-in : j * branchSize d + branchSize d ≤ count * ops * branchSize d
     new-in = block-in h size
 
-    module _ (bit : ℕ) {b : List ℤ} (w : Writing (branchSize d) l to (count * ops) (stepWords l n g ops from d bit) b j) where
+    module _ (bit : ℕ) {b : List ℤ} (w : Writing (branchSize d) l to (count * ops) (stepWords l f slots ops from d bit) b j) where
       branch : Same b l old size
       branch = part (kept w from (count * size) (p .from-apart)) old size (omega arith) (omega (arith, old-in))
 
@@ -109,12 +100,22 @@ module _ {l : List ℤ} {n : ℕ} {g : Gate} {ops from to d count : ℕ} (p : St
       old-apart : Apart old size new size
       old-apart = narrow from (count * size) to (count * ops * size) old size new size (p .from-apart) (omega arith) (omega (arith, old-in)) (omega arith) (omega (arith, new-in))
 
-      pub turn-applying : Applying b n g (j % ops) (from + j / ops * branchSize d) (to + j * branchSize d) d
+      op-in : j % ops * branchSize d + d * 10 ≤ ops * branchSize d
+      op-in = omega (arith, block-in number-lt (branchSize d), p .wide)
+
+      abbrev op : ℕ
+      op = slots + j % ops * branchSize d
+
+      entries : Same b l op (d * 10)
+      entries = part (kept w slots (ops * size) (p .slots-apart)) op (d * 10) (omega arith) (omega (arith, op-in))
+
+      pub turn-applying : Applying b f (slots + j % ops * branchSize d) (from + j / ops * branchSize d) (to + j * branchSize d) d
       turn-applying = record {
-        few = p .few;
-        dim = p .dim;
-        ready = record { known = p .ready .known; on = p .ready .on; able = p .ready .able; which = omega (arith, number-lt, p .ops-are) };
-        small = λ r c hr hc. p .small (j % ops) r c number-lt hr hc;
+        below = p .below;
+        op-room = omega (arith, entries .long, op-at);
+        own = λ r hr. factor-same (own-at d entries matrix r hr) (p .own (j % ops) r number-lt hr);
+        other = λ r hr. factor-same (other-at d entries matrix r hr) (p .other (j % ops) r number-lt hr);
+        op-apart = narrow slots (ops * size) to (count * ops * size) (slots + j % ops * size) (d * 10) new (d * d * 5) (p .slots-apart) (omega arith) (omega (arith, op-in)) (omega arith) (omega (arith, new-in));
         old-room = omega (arith, branch .long, old-in, p .from-room);
         factor = λ i hi. factor-same (same-at i hi) (p .factor (j / ops) i old-lt hi);
         lowest = λ i hi. ap isLowest (cell-same (same-at i hi)) ∙ p .lowest (j / ops) i old-lt hi;
@@ -123,9 +124,9 @@ module _ {l : List ℤ} {n : ℕ} {g : Gate} {ops from to d count : ℕ} (p : St
       }
 
       -- after the product
-      module _ {m : List ℤ} (e : m ≡ written b (to + j * branchSize d) d (product b n g (j % ops) (from + j / ops * branchSize d) d)) where
+      module _ {m : List ℤ} (e : m ≡ written b (to + j * branchSize d) d (rowSum b f (slots + j % ops * branchSize d) (from + j / ops * branchSize d) d)) where
         abbrev entry : ℕ → Exact
-        entry i = product b n g (j % ops) old d (i / d) (i % d)
+        entry i = rowSum b f op old d (i / d) (i % d)
 
         store : Same m l (old + matrixSize d) 2
         store =
@@ -145,14 +146,13 @@ module _ {l : List ℤ} {n : ℕ} {g : Gate} {ops from to d count : ℕ} (p : St
         pub turn-room : to + j * branchSize d + matrixSize d + 2 ≤ length m
         turn-room = omega (arith, store .long, new-in, p .to-room)
 
-        entry-same : (k : ℕ) → k < d * d → entry k ≡ product l n g (j % ops) old d (k / d) (k % d)
-        entry-same k hk = times-same exacts d (gateEntry n g (j % ops)) (gateEntry n g (j % ops)) (cell b old d) (cell l old d) (k / d) (k % d) (λ i q. refl)
-            (λ i q. cell-same (same-at (i * d + k % d) (digits-lt q (column-lt k d hk))))
+        entry-same : (k : ℕ) → k < d * d → entry k ≡ rowSum l f op old d (k / d) (k % d)
+        entry-same k hk = sum-same d entries matrix f (k / d) (k % d) (row-lt k d hk) (column-lt k d hk) (p .below (k / d) (row-lt k d hk))
 
         pub turn-more : {q : List ℤ} → q ≡ sets m (to + j * branchSize d + matrixSize d) (outcomeWords m (from + j / ops * branchSize d + matrixSize d) bit (j % ops))
-            → Writing (branchSize d) l to (count * ops) (stepWords l n g ops from d bit) q (j + 1)
-        turn-more f =
+            → Writing (branchSize d) l to (count * ops) (stepWords l f slots ops from d bit) q (j + 1)
+        turn-more g =
             again w h
-            (append-block b (cells (d * d) entry) (outcomeWords m (old + matrixSize d) bit (j % ops)) new (matrixSize d) (length-cells entry (d * d)) (e ∙ fill-block entry b new (d * d)) f)
+            (append-block b (cells (d * d) entry) (outcomeWords m (old + matrixSize d) bit (j % ops)) new (matrixSize d) (length-cells entry (d * d)) (e ∙ fill-block entry b new (d * d)) g)
             (λ i. cells-same (d * d) entry _ entry-same i
             ++ outcomePair bit (j % ops) (store .word (old + matrixSize d) (omega arith) (omega arith) i) (store .word (old + matrixSize d + 1) (omega arith) (omega arith) i))

@@ -1,4 +1,4 @@
--- Circuits run in a work buffer: two banks of `banks` branches each, and room for two operators, which stays as it was; each gate reads one bank and writes the other.
+-- Circuits run in a work buffer: two banks of `banks` branches each, then two operators; each gate reads one bank and writes the other.
 use mathlib.Core.Path.{_≡_}
 use mathlib.Core.Bool.{true}
 use mathlib.Core.List.{List}
@@ -7,8 +7,10 @@ use lib.ListN.{length, getD}
 use lib.IntN.{ℤ, pos}
 use Rattle.algebra.specs.Lists.{every, total}
 use Rattle.algebra.specs.Words.{blocks}
+use Rattle.scalar.specs.Cells.{cells}
 use Rattle.gate.specs.Gate.{Gate, gateAt, gatesOf, valid, weight, splits}
 use Rattle.gate.specs.Operators.{operators}
+use Rattle.gate.specs.Entries.{flips, rowEntry, Ready}
 use Rattle.kraus.specs.Branch.{Store, branches}
 use Rattle.branches.specs.Store.{Bits, outcomeBit}
 use Rattle.branches.specs.Bank.{branchSize, bankWords, Holds}
@@ -21,14 +23,33 @@ abbrev pub workSize : ℕ → ℕ → ℕ
 workSize d banks = (2 * banks + 2) * branchSize d
 
 -- ---- one gate
--- the words, with the products of `count` branches written
-abbrev pub gateStepped : List ℤ → ℕ → ℕ → ℕ → ℕ → ℕ → Gate → List ℤ
-gateStepped l n d from to count g = blocks (branchSize d) l to (count * length (operators g)) (stepWords l n g (length (operators g)) from d (outcomeBit g))
+-- the words of the rows of operator k
+abbrev pub operatorWords : ℕ → ℕ → Gate → ℕ → List ℤ
+operatorWords n d g k = cells (d * 2) (rowEntry n g k)
+
+-- the words, with the rows of the gate's operators written
+abbrev pub withOperators : List ℤ → ℕ → ℕ → ℕ → Gate → List ℤ
+withOperators l slots n d g = blocks (branchSize d) l slots (length (operators g)) (operatorWords n d g)
+
+-- and with the products of `count` branches written
+abbrev pub gateStepped : List ℤ → ℕ → ℕ → ℕ → ℕ → ℕ → ℕ → Gate → List ℤ
+gateStepped l slots n d from to count g =
+    let m = withOperators l slots n d g in
+    blocks (branchSize d) m to (count * length (operators g)) (stepWords m (flips n g) slots (length (operators g)) from d (outcomeBit g))
+
+-- a gate that passes the questions, and two slots for the rows of its operators
+pub record Slots (l : List ℤ) (slots n d : ℕ) (g : Gate) : Type 0 where
+  pub few : n ≤ 5
+  pub dim : d ≡ 2 ^ n
+  pub ready : Ready n g 0
+  pub wide : d * 10 ≤ branchSize d
+  pub room : slots + 2 * branchSize d ≤ length l
 
 -- what a gate asks of its words
-pub record GateStep (l : List ℤ) (ws : List ℕ) (at n d from to count : ℕ) : Type 0 where
+pub record GateStep (l : List ℤ) (ws : List ℕ) (at slots n d from to count : ℕ) : Type 0 where
   pub gate-room : at + 5 ≤ length ws
-  pub ready : Step l n (gateAt ws at) (length (operators (gateAt ws at))) from to d count
+  pub slots-ready : Slots l slots n d (gateAt ws at)
+  pub ready : Step (withOperators l slots n d (gateAt ws at)) (flips n (gateAt ws at)) slots (length (operators (gateAt ws at))) from to d count
 
 -- ---- all gates
 -- a circuit that passed the questions

@@ -2,55 +2,72 @@
 use mathlib.Core.Path.{_≡_}
 use mathlib.Core.Bool.{true}
 use mathlib.Core.List.{List, _++_}
-use Prim.Native.Nat.{ℕ, _+_, _*_, _/_, _%_, _^_, _<_, _≤_}
+use Prim.Native.Nat.{ℕ, _+_, _*_, _/_, _%_, _<_, _≤_}
+use lib.Bits.{bitXor}
 use lib.ListN.{length}
 use lib.IntN.{ℤ}
 use Rattle.algebra.specs.Sum.{times}
 use Rattle.algebra.specs.Words.{Apart}
 use Rattle.scalar.specs.Exact.{Exact, exact, isLowest}
-use Rattle.scalar.specs.Cells.{cellAt, cells}
-use Rattle.scalar.specs.Inner.{Coords}
+use Rattle.scalar.specs.Cells.{cellAt, exponentAt, cells}
 use Rattle.gate.specs.Gate.{Gate}
-use Rattle.gate.specs.Operators.{operators}
-use Rattle.gate.specs.Entries.{gateEntry, Ready}
+use Rattle.gate.specs.Entries.{gateEntry, partner}
 use Rattle.matrix.specs.Matrix.{cell}
-use Rattle.matrix.specs.Factors.{Factor}
+use Rattle.matrix.specs.Factors.{Factor, combinedRow}
 use Rattle.branches.specs.Store.{StoreAt, outcomeWords}
 use Rattle.branches.specs.Bank.{matrixSize, branchSize}
 
--- ---- one operator
--- operator j of a gate times the matrix at `old`, by rows and columns
-abbrev pub product : List ℤ → ℕ → Gate → ℕ → ℕ → ℕ → ℕ → ℕ → Exact
-product l n g j old d = times exact d (gateEntry n g j) (cell l old d)
+-- ---- one operator, given by two entries to a row
+-- row r of an operator at `op`, with entries in columns r and r ^ m, times the matrix at `old`, by columns
+abbrev pub rowSum : List ℤ → ℕ → ℕ → ℕ → ℕ → ℕ → ℕ → Exact
+rowSum l m op old d r = combinedRow l (cellAt l (op + r * 10)) (old + r * d * 5) (cellAt l (op + r * 10 + 5)) (old + bitXor r m * d * 5)
 
--- what it asks: an operator with small entries, a matrix of factors in lowest form, and apart from it a place for the product
-pub record Applying (l : List ℤ) (n : ℕ) (g : Gate) (j old new d : ℕ) : Type 0 where
-  pub few : n ≤ 5
-  pub dim : d ≡ 2 ^ n
-  pub ready : Ready n g j
-  pub small : (r c : ℕ) → r < d → c < d → Coords 1 28 (gateEntry n g j r c)
+-- what it asks: the entries and a matrix of factors in lowest form, and apart from both a place for the product
+pub record Applying (l : List ℤ) (m op old new d : ℕ) : Type 0 where
+  pub below : (r : ℕ) → r < d → bitXor r m < d
+  pub op-room : op + d * 10 ≤ length l
+  pub own : (r : ℕ) → r < d → Factor l (op + r * 10)
+  pub other : (r : ℕ) → r < d → Factor l (op + r * 10 + 5)
+  pub op-apart : Apart op (d * 10) new (d * d * 5)
   pub old-room : old + d * d * 5 ≤ length l
   pub factor : (i : ℕ) → i < d * d → Factor l (old + i * 5)
   pub lowest : (i : ℕ) → i < d * d → isLowest (cellAt l (old + i * 5)) ≡ true
   pub new-room : new + d * d * 5 ≤ length l
   pub apart : Apart old (d * d * 5) new (d * d * 5)
 
+-- ---- one operator of a gate
+-- operator j times the matrix at `old`, by rows and columns
+abbrev pub product : List ℤ → ℕ → Gate → ℕ → ℕ → ℕ → ℕ → ℕ → Exact
+product l n g j old d = times exact d (gateEntry n g j) (cell l old d)
+
+-- its rows lie in words from `at` on, two entries to a row
+pub record RowsAt (l : List ℤ) (at n : ℕ) (g : Gate) (j d : ℕ) : Type 0 where
+  pub room : at + d * 10 ≤ length l
+  pub own : (r : ℕ) → r < d → cellAt l (at + r * 10) ≡ gateEntry n g j r r
+  pub own-exponent : (r : ℕ) → r < d → exponentAt l (at + r * 10) ≡ true
+  pub other : (r : ℕ) → r < d → cellAt l (at + r * 10 + 5) ≡ gateEntry n g j r (partner n g r)
+  pub other-exponent : (r : ℕ) → r < d → exponentAt l (at + r * 10 + 5) ≡ true
+
 -- ---- all operators, and all branches
--- the product with the branch at `old`, and its store with bit `bit` made v
-abbrev pub productWords : List ℤ → ℕ → Gate → ℕ → ℕ → ℕ → ℕ → List ℤ
-productWords l n g old d bit v = cells (d * d) (λ (i : ℕ). product l n g v old d (i / d) (i % d)) ++ outcomeWords l (old + matrixSize d) bit v
+-- the operator at `op` times the branch at `old`, and its store with bit `bit` made v
+abbrev pub productWords : List ℤ → ℕ → ℕ → ℕ → ℕ → ℕ → ℕ → List ℤ
+productWords l m op old d bit v = cells (d * d) (λ (i : ℕ). rowSum l m op old d (i / d) (i % d)) ++ outcomeWords l (old + matrixSize d) bit v
 
 -- branch j of the step is branch j / ops times operator j % ops
-abbrev pub stepWords : List ℤ → ℕ → Gate → ℕ → ℕ → ℕ → ℕ → ℕ → List ℤ
-stepWords l n g ops from d bit j = productWords l n g (from + j / ops * branchSize d) d bit (j % ops)
+abbrev pub stepWords : List ℤ → ℕ → ℕ → ℕ → ℕ → ℕ → ℕ → ℕ → List ℤ
+stepWords l m slots ops from d bit j = productWords l m (slots + j % ops * branchSize d) (from + j / ops * branchSize d) d bit (j % ops)
 
--- what a step asks: the operators of a gate with small entries, `count` branches and a bank for their products, apart from each other
-pub record Step (l : List ℤ) (n : ℕ) (g : Gate) (ops from to d count : ℕ) : Type 0 where
-  pub few : n ≤ 5
-  pub dim : d ≡ 2 ^ n
-  pub ready : Ready n g 0
-  pub ops-are : ops ≡ length (operators g)
-  pub small : (v r c : ℕ) → v < ops → r < d → c < d → Coords 1 28 (gateEntry n g v r c)
+-- what a step asks: one or two operators by their rows, `count` branches and a bank for their products, apart from each other
+pub record Step (l : List ℤ) (m slots ops from to d count : ℕ) : Type 0 where
+  pub dim : d ≤ 32
+  pub below : (r : ℕ) → r < d → bitXor r m < d
+  pub some-op : 1 ≤ ops
+  pub few-ops : ops ≤ 2
+  pub wide : d * 10 ≤ branchSize d
+  pub slots-room : slots + ops * branchSize d ≤ length l
+  pub own : (v r : ℕ) → v < ops → r < d → Factor l (slots + v * branchSize d + r * 10)
+  pub other : (v r : ℕ) → v < ops → r < d → Factor l (slots + v * branchSize d + r * 10 + 5)
+  pub slots-apart : Apart slots (ops * branchSize d) to (count * ops * branchSize d)
   pub from-room : from + count * branchSize d ≤ length l
   pub to-room : to + count * ops * branchSize d ≤ length l
   pub from-apart : Apart from (count * branchSize d) to (count * ops * branchSize d)

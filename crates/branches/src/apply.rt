@@ -1,32 +1,22 @@
 // A gate's operator applied to the matrix of a branch.
-use gate::entry::gate_entry;
-use gate::judge::GateWords;
 use matrix::linear::combine_rows;
+use scalar::cells::read_cell;
 ghost use mathlib.Core.Path.{_≡_};
-ghost use Rattle.gate.specs.Entries.{flips};
-ghost use Rattle.gate.specs.Verdict.{gateOf};
 ghost use Rattle.matrix.specs.Matrix.{written};
-ghost use Rattle.branches.specs.Step.{Applying, product};
+ghost use Rattle.branches.specs.Step.{Applying, rowSum};
 
-// Write operator j of a gate times the matrix at `old` to `new`, row by row: each row is a sum of two rows. m are the bits that the gate may change.
-pub fn apply_operator(
-    work: &mut [i64],
-    g: GateWords,
-    n: u32,
-    j: usize,
-    m: usize,
-    old: usize,
-    new: usize,
-    d: usize,
-)
-    requires { ⌜ (m ≡ flips n (gateOf g)) × Applying (now work) n (gateOf g) j old new d ⌝ }
-    ensures { λ _. ⌜ now (work .exit) ≡ written (now (work .entry)) new d (product (now (work .entry)) n (gateOf g) j old d) ⌝ }
+// Write an operator times the matrix at `old` to `new`, row by row. Row r of the operator has entries in columns r and r ^ m alone, which lie at op + 10·r.
+pub fn apply_operator(work: &mut [i64], m: usize, op: usize, old: usize, new: usize, d: usize)
+    requires { ⌜ Applying (now work) m op old new d ⌝ }
+    ensures { λ _. ⌜ now (work .exit) ≡ written (now (work .entry)) new d (rowSum (now (work .entry)) m op old d) ⌝ }
 {
     let mut r = 0;
     while r < d {
         let s = r ^ m;
-        let x = gate_entry(g, n, j, r, r);
-        let y = gate_entry(g, n, j, r, s);
+        let a = op + r * 10;
+        let b = a + 5;
+        let x = read_cell(work, a);
+        let y = read_cell(work, b);
         let p = old + r * d * 5;
         let q = old + s * d * 5;
         let to = new + r * d * 5;

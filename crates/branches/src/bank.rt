@@ -1,15 +1,12 @@
 use super::apply::apply_operator;
 use super::store::pack;
 use super::store::write_store;
-use gate::entry::flips;
-use gate::judge::GateWords;
 use matrix::products::identity_into;
 ghost use mathlib.Core.Path.{_≡_};
 ghost use Prim.Native.Nat.{_+_, _*_, _≤_, min};
 ghost use lib.ListN.{length};
 ghost use lib.Seq.{sets};
 ghost use Rattle.algebra.specs.Words.{blocks};
-ghost use Rattle.gate.specs.Verdict.{gateOf};
 ghost use Rattle.branches.specs.Store.{Bits};
 ghost use Rattle.branches.specs.Bank.{branchSize, branchWords, identityBranch};
 ghost use Rattle.branches.specs.Step.{Step, stepWords};
@@ -42,11 +39,11 @@ pub fn start_branch(work: &mut [i64], at: usize, d: usize, store: &[u8])
     work[s + 1] = high as i64;
 }
 
-// Send each of `count` branches to its products with each of the gate's `ops` operators, in order, and write the operator's number to the store's bit `bit`.
+// Send each of `count` branches to its products with each of the `ops` operators whose rows lie in the slots, in order, and write the operator's number to the store's bit `bit`.
 pub fn step(
     work: &mut [i64],
-    g: GateWords,
-    n: u32,
+    m: usize,
+    slots: usize,
     ops: usize,
     from: usize,
     to: usize,
@@ -54,20 +51,20 @@ pub fn step(
     count: usize,
     bit: u32,
 )
-    requires { ⌜ Step (now work) n (gateOf g) ops from to d count ⌝ }
-    ensures { λ _. ⌜ now (work .exit) ≡ blocks (branchSize d) (now (work .entry)) to (count * ops) (stepWords (now (work .entry)) n (gateOf g) ops from d bit) ⌝ }
+    requires { ⌜ Step (now work) m slots ops from to d count ⌝ }
+    ensures { λ _. ⌜ now (work .exit) ≡ blocks (branchSize d) (now (work .entry)) to (count * ops) (stepWords (now (work .entry)) m slots ops from d bit) ⌝ }
 {
     let matrix = d * d * 5;
     let size = matrix + 2;
     let total = count * ops;
     let last = ops - 1;
-    let m = flips(g, n);
     let mut j = 0;
     while j < total {
         let v = j & last;
+        let op = slots + v * size;
         let old = from + (j >> last) * size;
         let new = to + j * size;
-        apply_operator(work, g, n, v, m, old, new, d);
+        apply_operator(work, m, op, old, new, d);
         write_store(work, old + matrix, new + matrix, bit, v as u64);
         j += 1;
     }

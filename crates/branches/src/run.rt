@@ -1,6 +1,8 @@
 use super::bank::branch_size;
 use super::bank::start_branch;
 use super::bank::step;
+use gate::entry::flips;
+use gate::entry::write_rows;
 use gate::judge::GateWords;
 use gate::judge::read_gate;
 ghost use mathlib.Core.Path.{_≡_};
@@ -8,15 +10,30 @@ ghost use Prim.Native.Nat.{_*_};
 ghost use lib.ListN.{length};
 ghost use Rattle.gate.specs.Gate.{gateAt};
 ghost use Rattle.gate.specs.Operators.{operators};
+ghost use Rattle.gate.specs.Entries.{flips};
 ghost use Rattle.gate.specs.Verdict.{gateOf};
 ghost use Rattle.branches.specs.Store.{outcomeBit};
-ghost use Rattle.branches.specs.Run.{gateStepped, GateStep, Runs, Ran};
+ghost use Rattle.branches.specs.Run.{Slots, withOperators, gateStepped, GateStep, Runs, Ran};
 
-// How many operators a gate has.
-fn operator_count(g: GateWords) -> usize
-    ensures { λ r. ⌜ r ≡ length (operators (gateOf g)) ⌝ }
+// Write the rows of a gate's operators to the two slots; answers how many operators they are. m are the bits that the gate may change.
+fn write_operators(
+    work: &mut [i64],
+    slots: usize,
+    n: u32,
+    d: usize,
+    g: GateWords,
+    m: usize,
+) -> usize
+    requires { ⌜ (m ≡ flips n (gateOf g)) × Slots (now work) slots n d (gateOf g) ⌝ }
+    ensures { λ r. ⌜ (r ≡ length (operators (gateOf g))) × (now (work .exit) ≡ withOperators (now (work .entry)) slots n d (gateOf g)) ⌝ }
 {
-    if g.splits() == 0 { 1 } else { 2 }
+    write_rows(work, slots, n, d, g, 0, m);
+    if g.splits() == 0 {
+        return 1;
+    }
+    let second = slots + branch_size(d);
+    write_rows(work, second, n, d, g, 1, m);
+    2
 }
 
 // The classical bit that a gate writes; 64, which no store has, where it writes none.
@@ -26,24 +43,26 @@ fn outcome_bit(g: GateWords) -> u32
     if g.kind == 12 { g.b } else { 64 }
 }
 
-// Send the `count` branches at `from` to their products with the operators of the gate at `at`; answers how many they are.
+// Send the `count` branches at `from` to their products with the operators of the gate at `at`, whose rows are written to the two slots; answers how many they are.
 pub fn step_gate(
     work: &mut [i64],
     gates: &[u32],
     at: usize,
+    slots: usize,
     n: u32,
     d: usize,
     from: usize,
     to: usize,
     count: usize,
 ) -> usize
-    requires { ⌜ GateStep (now work) (now gates) at n d from to count ⌝ }
-    ensures { λ r. ⌜ (r ≡ count * length (operators (gateAt (now (gates .entry)) at))) × (now (work .exit) ≡ gateStepped (now (work .entry)) n d from to count (gateAt (now (gates .entry)) at)) ⌝ }
+    requires { ⌜ GateStep (now work) (now gates) at slots n d from to count ⌝ }
+    ensures { λ r. ⌜ (r ≡ count * length (operators (gateAt (now (gates .entry)) at))) × (now (work .exit) ≡ gateStepped (now (work .entry)) slots n d from to count (gateAt (now (gates .entry)) at)) ⌝ }
 {
     let g = read_gate(gates, at);
-    let ops = operator_count(g);
+    let m = flips(g, n);
+    let ops = write_operators(work, slots, n, d, g, m);
     let bit = outcome_bit(g);
-    step(work, g, n, ops, from, to, d, count, bit);
+    step(work, m, slots, ops, from, to, d, count, bit);
     count * ops
 }
 
@@ -60,6 +79,7 @@ pub fn run_gates(
     ensures { λ r. ⌜ Ran (now (work .entry)) (now (work .exit)) (now (gates .entry)) (now (store .entry)) n d banks r ⌝ }
 {
     let bank = banks * branch_size(d);
+    let slots = 2 * bank;
     let total = gates.len() / 5;
     start_branch(work, 0, d, store);
     let mut from = 0;
@@ -67,7 +87,7 @@ pub fn run_gates(
     let mut i = 0;
     while i < total {
         let to = bank - from;
-        count = step_gate(work, gates, i * 5, n, d, from, to, count);
+        count = step_gate(work, gates, i * 5, slots, n, d, from, to, count);
         from = to;
         i += 1;
     }

@@ -17,7 +17,7 @@ use Rattle.scalar.specs.Exact.{Exact, exact}
 use Rattle.gate.specs.Gate.{Gate, gate, arity, elem}
 use Rattle.gate.specs.Operators.{Small, one, none, operators, controlled, swapped}
 use Rattle.gate.specs.Embed.{bit, bitsOf, embed}
-use Rattle.gate.specs.Entries.{operatorAt, targetOf, gateEntry, flips, partner, Ready, Apart2, Apart3}
+use Rattle.gate.specs.Entries.{operatorAt, targetOf, gateEntry, flips, partner, rowEntry, Ready, Spot, Apart2, Apart3}
 use Rattle.gate.proofs.Embedding.{respects-identity}
 use Rattle.gate.proofs.Columns.{agree-one, embed-controlled, embed-swap}
 use Rattle.gate.proofs.Gate.{elem-in}
@@ -232,3 +232,20 @@ module _ (n a b c k : ℕ) where
 -- the weight of a qubit
 pub weight-small : (n q m : ℕ) → n ≤ 5 → m ≡ 2 ^ (n - 1 - q) → m ≤ 16
 weight-small n q m few e = omega (arith, e, pow-mono {i = n - 1 - q} {j = 4} (omega arith))
+
+-- entry i of the rows lies in the matrix
+pub row-spot : {n : ℕ} {g : Gate} {j d i m c : ℕ} → Ready n g j → n ≤ 5 → d ≡ 2 ^ n → m ≡ flips n g → i < d * 2 → c ≡ cond (eqb (i % 2) 0) (i / 2) (bitXor (i / 2) m) → Spot n (i / 2) c
+row-spot {n} {g} {i = i} {m} {c} ready few e f h q = record { few = few; row-in = row; col-in = subst (λ (c : ℕ). c < 2 ^ n) (sym q) (go (eqb (i % 2) 0)) }
+  where
+    row : i / 2 < 2 ^ n
+    row = omega (arith, e, h)
+
+    other : bitXor (i / 2) m < 2 ^ n
+    other = subst (λ (m : ℕ). bitXor (i / 2) m < 2 ^ n) (sym f) (row-two ready few (i / 2) row .below)
+
+    go : (t : Bool) → cond t (i / 2) (bitXor (i / 2) m) < 2 ^ n
+    go true = row
+    go false = other
+
+pub row-entry : (n : ℕ) (g : Gate) (j i m c : ℕ) → m ≡ flips n g → c ≡ cond (eqb (i % 2) 0) (i / 2) (bitXor (i / 2) m) → gateEntry n g j (i / 2) c ≡ rowEntry n g j i
+row-entry n g j i m c f q = ap (gateEntry n g j (i / 2)) (q ∙ ap (λ (m : ℕ). cond (eqb (i % 2) 0) (i / 2) (bitXor (i / 2) m)) f)

@@ -2,7 +2,7 @@
 use mathlib.Core.Path.{_≡_}
 use mathlib.Core.Bool.{cond, true, false}
 use mathlib.Core.List.{List, [], _∷_}
-use Prim.Native.Nat.{ℕ, _+_, _-_, _*_, _^_, _≤_, _<_}
+use Prim.Native.Nat.{ℕ, _+_, _-_, _*_, _/_, _%_, _^_, _≤_, _<_}
 use lib.Bits.{bitXor}
 use lib.Dec.{eqb}
 use lib.ListN.{length, getD}
@@ -72,6 +72,10 @@ flips n g =
 -- row r has entries in column r and in this one, and zeros in all others
 abbrev pub partner : ℕ → Gate → ℕ → ℕ
 partner n g r = bitXor r (flips n g)
+
+-- the two entries of each row: entry 2·r is that in column r, and entry 2·r + 1 that in its partner's
+abbrev pub rowEntry : ℕ → Gate → ℕ → ℕ → Exact
+rowEntry n g j i = gateEntry n g j (i / 2) (cond (eqb (i % 2) 0) (i / 2) (partner n g (i / 2)))
 
 -- ---- what is asked
 -- a gate that passes the questions, with one of its operators

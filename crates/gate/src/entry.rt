@@ -12,6 +12,7 @@ ghost use mathlib.Core.Bool.{cond};
 ghost use mathlib.Core.List.{[], _∷_};
 ghost use Prim.Native.Nat.{ℕ, _+_, _*_, _/_, _%_, _^_, _≤_, _<_};
 ghost use mathlib.Core.Bool.{true};
+ghost use lib.Bits.{bitXor};
 ghost use lib.Dec.{eqb};
 ghost use Rattle.gate.specs.Gate.{gate, arity, elem};
 ghost use lib.ListN.{length};
@@ -21,7 +22,7 @@ ghost use Rattle.scalar.specs.Calls.{value, scalarOf};
 ghost use Rattle.gate.specs.Operators.{one, none, phase, controlled, swapped};
 ghost use Rattle.gate.specs.Embed.{embed};
 ghost use Rattle.gate.specs.Verdict.{gateOf};
-ghost use Rattle.gate.specs.Entries.{gateEntry, flips, Ready, unitaryOf, targetOf, operatorAt, cleared, tableOf, pick, smallOf, identity, Spot, Apart2, Apart3};
+ghost use Rattle.gate.specs.Entries.{gateEntry, flips, rowEntry, Ready, unitaryOf, targetOf, operatorAt, cleared, tableOf, pick, smallOf, identity, Spot, Apart2, Apart3};
 
 fn zero() -> Scalar
     ensures { λ r. ⌜ r ≡ scalarOf none ⌝ }
@@ -323,6 +324,29 @@ pub fn flips(g: GateWords, n: u32) -> usize
         return mask(n, g.b);
     }
     mask(n, g.c)
+}
+
+// The column of entry i of the rows; m are the bits that the gate may change.
+fn column(m: usize, i: usize) -> usize
+    ensures { λ c. ⌜ c ≡ cond (eqb (i % 2) 0) (i / 2) (bitXor (i / 2) m) ⌝ }
+{
+    if i % 2 == 0 { i / 2 } else { (i / 2) ^ m }
+}
+
+// Write the two entries of each row of operator j, on n qubits with d rows and columns, to `at` on; m are the bits that the gate may change.
+pub fn write_rows(buf: &mut [i64], at: usize, n: u32, d: usize, g: GateWords, j: usize, m: usize)
+    requires { ⌜ (m ≡ flips n (gateOf g)) × ((at + d * 2 * 5 ≤ length (now buf)) × ((n ≤ 5) × ((d ≡ 2 ^ n) × Ready n (gateOf g) j))) ⌝ }
+    ensures { λ _. ⌜ now (buf .exit) ≡ fill (now (buf .entry)) at (d * 2) (rowEntry n (gateOf g) j) ⌝ }
+{
+    let count = d * 2;
+    let mut i = 0;
+    while i < count {
+        let col = column(m, i);
+        let v = gate_entry(g, n, j, i / 2, col);
+        let to = at + i * 5;
+        write_cell(buf, to, v);
+        i += 1;
+    }
 }
 
 // Write the matrix of operator j, on n qubits with d rows and columns, to `at` on.

@@ -7,23 +7,21 @@ use lib.Bits.{bitXor}
 use lib.ListN.{length}
 use Rattle.algebra.proofs.Blocks.{done, long, block-in}
 use Rattle.scalar.specs.Calls.{value}
-use Rattle.scalar.specs.Cells.{fill}
+use Rattle.scalar.specs.Cells.{cellAt}
 use Rattle.scalar.specs.Inner.{Coords}
-use Rattle.matrix.specs.Factors.{combinedRow}
-use Rattle.gate.specs.Verdict.{gateOf}
-use Rattle.gate.specs.Entries.{gateEntry, partner}
-use Rattle.branches.proofs.Products.{Applied, none-applied, partner-lt, spot, scaling, applied-more}
+use Rattle.scalar.proofs.Cell.{cell-same, exponent-same}
+use Rattle.branches.proofs.Products.{Applied, none-applied, own-same, other-same, scaling, applied-more}
 use Rattle.branches.proofs.apply.apply_operator.Statement.{statement}
 use Rattle.branches.proofs.apply.apply_operator.Tie as tie
 
 abbrev Inv-loop : tie.InvT-loop
-Inv-loop work₀ g n j m old new d r₀ work r = Applied work₀ n (gateOf g) j old new d work r
+Inv-loop work₀ m op old new d r₀ work r = Applied work₀ m op old new d work r
 
 abbrev μ-loop : tie.MeasureT-loop
-μ-loop work₀ g n j m old new d r₀ work r = d - r
+μ-loop work₀ m op old new d r₀ work r = d - r
 
 loop-holds : tie.Need-loop-holds Inv-loop μ-loop
-loop-holds c = let a = c .args in none-applied (a .work .now) (a .n) (gateOf (a .g)) (a .j) (a .old) (a .new) (a .d)
+loop-holds c = let a = c .args in none-applied (a .work .now) (a .m) (a .op) (a .old) (a .new) (a .d)
 
 -- a row, and its partner
 module _ (t : tie.In-loop Inv-loop μ-loop) where
@@ -33,61 +31,87 @@ module _ (t : tie.In-loop Inv-loop μ-loop) where
   abbrev r : ℕ
   r = t .before .loop .r
 
-  other-is : bitXor r (s .args .m) ≡ partner (s .args .n) (gateOf (s .args .g)) r
-  other-is = ap (bitXor r) (s .pre .0)
+  row-in : (k : ℕ) → k < s .args .d → s .args .old + k * s .args .d * 5 + s .args .d * 5 ≤ length (s .args .work .now)
+  row-in k h = omega (arith, s .pre .old-room, block-in h (s .args .d))
 
   other-lt : bitXor r (s .args .m) < s .args .d
-  other-lt = subst (λ (k : ℕ). k < s .args .d) (sym other-is) (partner-lt (s .pre .1) (t .loop-test .taken))
-
-  row-in : (k : ℕ) → k < s .args .d → s .args .old + k * s .args .d * 5 + s .args .d * 5 ≤ length (s .args .work .now)
-  row-in k h = omega (arith, s .pre .1 .old-room, block-in h (s .args .d))
+  other-lt = s .pre .below r (t .loop-test .taken)
 
   new-in : s .args .new + r * s .args .d * 5 + s .args .d * 5 ≤ length (s .args .work .now)
-  new-in = omega (arith, s .pre .1 .new-room, block-in (t .loop-test .taken) (s .args .d))
+  new-in = omega (arith, s .pre .new-room, block-in (t .loop-test .taken) (s .args .d))
 
-gate-entry-requires : tie.Need-gate-entry-requires Inv-loop μ-loop
-gate-entry-requires c κs = let s = c .before .before in (spot (s .pre .1) (c .loop-test .taken) (c .before .loop .r) (c .loop-test .taken), s .pre .1 .ready)
+  entries-in : s .args .op + r * 10 + 10 ≤ length (s .args .work .now)
+  entries-in = omega (arith, s .pre .op-room, t .loop-test .taken)
 
-gate-entry-requires-2 : tie.Need-gate-entry-requires-2 Inv-loop μ-loop
-gate-entry-requires-2 c κs = let t = c .before in let s = t .before .before in (spot (s .pre .1) (t .loop-test .taken) (bitXor (r t) (s .args .m)) (other-lt t), s .pre .1 .ready)
+  same-size : length (t .before .loop .work) ≡ length (s .args .work .now)
+  same-size = long (t .before .loop .inv)
+
+mul-a : tie.Need-mul-a Inv-loop μ-loop
+mul-a c = omega (arith, entries-in c)
+
+add-a : tie.Need-add-a Inv-loop μ-loop
+add-a c = omega (arith, entries-in c)
+
+add-b : tie.Need-add-b Inv-loop μ-loop
+add-b c = omega (arith, entries-in c)
+
+read-cell-requires : tie.Need-read-cell-requires Inv-loop μ-loop
+read-cell-requires c κs = let t = c .before in (omega (arith, entries-in t, same-size t), exponent-same (own-same (s t .pre) (t .loop-test .taken) (t .before .loop .inv)) ∙ s t .pre .own (r t) (t .loop-test .taken) .exponent)
+
+read-cell-requires-2 : tie.Need-read-cell-requires-2 Inv-loop μ-loop
+read-cell-requires-2 c κs =
+    let t = c .before .before .before in
+    (omega (arith, entries-in t, same-size t), exponent-same (other-same (s t .pre) (t .loop-test .taken) (t .before .loop .inv)) ∙ s t .pre .other (r t) (t .loop-test .taken) .exponent)
 
 mul-p : tie.Need-mul-p Inv-loop μ-loop
-mul-p c = let t = c .before .before in omega (arith, row-in t (r t) (t .loop-test .taken))
+mul-p c = let t = c .before .before .before .before in omega (arith, row-in t (r t) (t .loop-test .taken))
 
 mul-p-2 : tie.Need-mul-p-2 Inv-loop μ-loop
-mul-p-2 c = let t = c .before .before in omega (arith, row-in t (r t) (t .loop-test .taken))
+mul-p-2 c = let t = c .before .before .before .before in omega (arith, row-in t (r t) (t .loop-test .taken))
 
 add-p : tie.Need-add-p Inv-loop μ-loop
-add-p c = let t = c .before .before in omega (arith, row-in t (r t) (t .loop-test .taken))
+add-p c = let t = c .before .before .before .before in omega (arith, row-in t (r t) (t .loop-test .taken))
 
 mul-q : tie.Need-mul-q Inv-loop μ-loop
-mul-q c = let t = c .before .before in omega (arith, row-in t (bitXor (r t) (s t .args .m)) (other-lt t))
+mul-q c = let t = c .before .before .before .before in omega (arith, row-in t (bitXor (r t) (s t .args .m)) (other-lt t))
 
 mul-q-2 : tie.Need-mul-q-2 Inv-loop μ-loop
-mul-q-2 c = let t = c .before .before in omega (arith, row-in t (bitXor (r t) (s t .args .m)) (other-lt t))
+mul-q-2 c = let t = c .before .before .before .before in omega (arith, row-in t (bitXor (r t) (s t .args .m)) (other-lt t))
 
 add-q : tie.Need-add-q Inv-loop μ-loop
-add-q c = let t = c .before .before in omega (arith, row-in t (bitXor (r t) (s t .args .m)) (other-lt t))
+add-q c = let t = c .before .before .before .before in omega (arith, row-in t (bitXor (r t) (s t .args .m)) (other-lt t))
 
 mul-to : tie.Need-mul-to Inv-loop μ-loop
-mul-to c = omega (arith, new-in (c .before .before))
+mul-to c = omega (arith, new-in (c .before .before .before .before))
 
 mul-to-2 : tie.Need-mul-to-2 Inv-loop μ-loop
-mul-to-2 c = omega (arith, new-in (c .before .before))
+mul-to-2 c = omega (arith, new-in (c .before .before .before .before))
 
 add-to : tie.Need-add-to Inv-loop μ-loop
-add-to c = omega (arith, new-in (c .before .before))
+add-to c = omega (arith, new-in (c .before .before .before .before))
+
+-- the two entries that were read
+module _ (y : tie.After-read-cell2 Inv-loop μ-loop) where
+  abbrev x : tie.After-read-cell Inv-loop μ-loop
+  x = y .before .before
+
+  abbrev t : tie.In-loop Inv-loop μ-loop
+  t = x .before .before
+
+  own-is : value (x .read-cell .result) ≡ cellAt (s t .args .work .now) (s t .args .op + r t * 10)
+  own-is = ap value (x .read-cell .ensures) ∙ cell-same (own-same (s t .pre) (t .loop-test .taken) (t .before .loop .inv))
+
+  partner-is : value (y .read-cell2 .result) ≡ cellAt (s t .args .work .now) (s t .args .op + r t * 10 + 5)
+  partner-is = ap value (y .read-cell2 .ensures) ∙ cell-same (other-same (s t .pre) (t .loop-test .taken) (t .before .loop .inv))
 
 combine-rows-requires : tie.Need-combine-rows-requires Inv-loop μ-loop
 combine-rows-requires c κs =
     let y = c .before in
-    let x = y .before in
-    let t = x .before in
-    let p = s t .pre .1 in
-    let h = t .loop-test .taken in
-    let o = bitXor (r t) (s t .args .m) in (
-      scaling p h (t .before .loop .inv) (r t) h (subst (Coords 1 28) (sym (x .gate-entry .ensures)) (p .small (r t) (r t) h h)),
-      scaling p h (t .before .loop .inv) o (other-lt t) (subst (Coords 1 28) (sym (y .gate-entry2 .ensures)) (p .small (r t) o h (other-lt t))),
+    let u = t y in
+    let p = s u .pre in
+    let h = u .loop-test .taken in (
+      scaling p h (u .before .loop .inv) (r u) h (subst (Coords 1 28) (sym (own-is y)) (p .own (r u) h .coords)),
+      scaling p h (u .before .loop .inv) (bitXor (r u) (s u .args .m)) (other-lt u) (subst (Coords 1 28) (sym (partner-is y)) (p .other (r u) h .coords)),
     )
 
 add-r : tie.Need-add-r Inv-loop μ-loop
@@ -100,12 +124,8 @@ loop-again : tie.Need-loop-again Inv-loop μ-loop
 loop-again c =
     let f = c .before in
     let y = f .before .before in
-    let x = y .before in
-    let t = x .before in
-    let a = s t .args in
-    applied-more (s t .pre .1) (t .loop-test .taken) (t .before .loop .inv) (x .gate-entry .ensures) (y .gate-entry2 .ensures ∙ ap (gateEntry (a .n) (gateOf (a .g)) (a .j) (r t)) (other-is t))
-    (f .combine-rows .ensures ∙ ap (λ (k : ℕ). fill (t .before .loop .work) (a .new + r t * a .d * 5) (a .d)
-    (combinedRow (t .before .loop .work) (value (x .gate-entry .result)) (a .old + r t * a .d * 5) (value (y .gate-entry2 .result)) (a .old + k * a .d * 5))) (other-is t))
+    let u = t y in
+    applied-more (s u .pre) (u .loop-test .taken) (u .before .loop .inv) (own-is y) (partner-is y) (f .combine-rows .ensures)
 
 same-length : tie.Need-same-length Inv-loop μ-loop
 same-length c = long (c .before .loop .inv)
@@ -120,8 +140,11 @@ apply-operator-spec =
     Inv-loop
     μ-loop
     loop-holds
-    gate-entry-requires
-    gate-entry-requires-2
+    mul-a
+    add-a
+    add-b
+    read-cell-requires
+    read-cell-requires-2
     mul-p
     mul-p-2
     add-p

@@ -9,20 +9,19 @@ use lib.ListN.{length}
 use lib.Seq.{sets}
 use lib.IntN.{ℤ}
 use Rattle.algebra.proofs.Blocks.{Writing, begin, done, long}
-use Rattle.gate.specs.Verdict.{gateOf}
 use Rattle.matrix.specs.Matrix.{written}
 use Rattle.branches.specs.Store.{StoreAt, outcomeWords}
 use Rattle.branches.specs.Bank.{matrixSize, branchSize}
-use Rattle.branches.specs.Step.{product, Applying, stepWords}
-use Rattle.branches.proofs.Steps.{step-square, total-le, length-product, some-op, few-ops, number-is, branch-is, old-in, new-in, turn-applying, turn-store, turn-room, turn-more}
+use Rattle.branches.specs.Step.{rowSum, Applying, stepWords}
+use Rattle.branches.proofs.Steps.{step-square, total-le, length-product, number-is, branch-is, op-at, old-in, new-in, turn-applying, turn-store, turn-room, turn-more}
 use Rattle.branches.proofs.bank.step.Statement.{statement}
 use Rattle.branches.proofs.bank.step.Tie as tie
 
 abbrev Inv-loop : tie.InvT-loop
-Inv-loop work₀ g n ops from to d count bit matrix size total last m j₀ work j = Writing (branchSize d) work₀ to (count * ops) (stepWords work₀ n (gateOf g) ops from d bit) work j
+Inv-loop work₀ m slots ops from to d count bit matrix size total last j₀ work j = Writing (branchSize d) work₀ to (count * ops) (stepWords work₀ m slots ops from d bit) work j
 
 abbrev μ-loop : tie.MeasureT-loop
-μ-loop work₀ g n ops from to d count bit matrix size total last m j₀ work j = count * ops - j
+μ-loop work₀ m slots ops from to d count bit matrix size total last j₀ work j = count * ops - j
 
 mul-matrix : tie.Need-mul-matrix Inv-loop μ-loop
 mul-matrix c = omega (arith, step-square (c .pre))
@@ -37,18 +36,15 @@ mul-total : tie.Need-mul-total Inv-loop μ-loop
 mul-total c = omega (arith, total-le (c .pre))
 
 sub-last : tie.Need-sub-last Inv-loop μ-loop
-sub-last c = omega (arith, some-op (c .pre))
-
-flips-requires : tie.Need-flips-requires Inv-loop μ-loop
-flips-requires c κs = (c .pre .few, c .pre .ready)
+sub-last c = omega (arith, c .pre .some-op)
 
 loop-holds : tie.Need-loop-holds Inv-loop μ-loop
-loop-holds c = let a = c .before .args in begin (λ j. le-of-eq (length-product (a .work .now) (a .n) (gateOf (a .g)) _ (a .d) (a .bit) (j % a .ops)))
+loop-holds c = let a = c .args in begin (λ j. le-of-eq (length-product (a .work .now) (a .m) _ _ (a .d) (a .bit) (j % a .ops)))
 
 -- one turn: j, and the branch and the operator by its shift and its mask
 module _ (t : tie.In-loop Inv-loop μ-loop) where
   abbrev s : tie.Start Inv-loop μ-loop
-  s = t .before .before .before
+  s = t .before .before
 
   abbrev j : ℕ
   j = t .before .loop .j
@@ -56,11 +52,20 @@ module _ (t : tie.In-loop Inv-loop μ-loop) where
   old-at : s .args .from + j / 2 ^ (s .args .ops - 1) * branchSize (s .args .d) + branchSize (s .args .d) ≤ length (s .args .work .now)
   old-at = subst (λ (k : ℕ). s .args .from + k * branchSize (s .args .d) + branchSize (s .args .d) ≤ length (s .args .work .now)) (sym (branch-is (s .pre) j)) (omega (arith, old-in (s .pre) (t .loop-test .taken), s .pre .from-room))
 
+  slot-at : s .args .slots + bitAnd j (s .args .ops - 1) * branchSize (s .args .d) + s .args .d * 10 ≤ length (s .args .work .now)
+  slot-at = subst (λ (k : ℕ). s .args .slots + k * branchSize (s .args .d) + s .args .d * 10 ≤ length (s .args .work .now)) (sym (number-is (s .pre) j)) (op-at (s .pre) (t .loop-test .taken))
+
   new-at : s .args .to + j * branchSize (s .args .d) + branchSize (s .args .d) ≤ length (s .args .work .now)
   new-at = omega (arith, new-in (s .pre) (t .loop-test .taken), s .pre .to-room)
 
 shr-old : tie.Need-shr-old Inv-loop μ-loop
-shr-old c = omega (arith, few-ops (s c .pre))
+shr-old c = omega (arith, s c .pre .few-ops)
+
+mul-op : tie.Need-mul-op Inv-loop μ-loop
+mul-op c = omega (arith, slot-at c)
+
+add-op : tie.Need-add-op Inv-loop μ-loop
+add-op c = omega (arith, slot-at c)
 
 mul-old : tie.Need-mul-old Inv-loop μ-loop
 mul-old c = omega (arith, old-at c)
@@ -77,11 +82,9 @@ add-new c = omega (arith, new-at c)
 apply-operator-requires : tie.Need-apply-operator-requires Inv-loop μ-loop
 apply-operator-requires c κs =
     let t = c .before in
-    let a = s t .args in (
-      t .before .before .flips .ensures,
-      subst₂ (λ (v k : ℕ). Applying (t .before .loop .work) (a .n) (gateOf (a .g)) v (a .from + k * branchSize (a .d)) (a .to + j t * branchSize (a .d)) (a .d)) (sym (number-is (s t .pre) (j t))) (sym (branch-is (s t .pre) (j t)))
-          (turn-applying (s t .pre) (t .loop-test .taken) (a .bit) (t .before .loop .inv)),
-    )
+    let a = s t .args in
+    subst₂ (λ (v k : ℕ). Applying (t .before .loop .work) (a .m) (a .slots + v * branchSize (a .d)) (a .from + k * branchSize (a .d)) (a .to + j t * branchSize (a .d)) (a .d)) (sym (number-is (s t .pre) (j t))) (sym (branch-is (s t .pre) (j t)))
+    (turn-applying (s t .pre) (t .loop-test .taken) (a .bit) (t .before .loop .inv))
 
 -- after the product: m are the words
 module _ (t : tie.In-loop Inv-loop μ-loop) where
@@ -92,7 +95,7 @@ module _ (t : tie.In-loop Inv-loop μ-loop) where
   size = branchSize (given .args .d)
 
   abbrev wrote : ℕ → ℕ → List ℤ
-  wrote v k = written (t .before .loop .work) (given .args .to + j t * size) (given .args .d) (product (t .before .loop .work) (given .args .n) (gateOf (given .args .g)) v (given .args .from + k * size) (given .args .d))
+  wrote v k = written (t .before .loop .work) (given .args .to + j t * size) (given .args .d) (rowSum (t .before .loop .work) (given .args .m) (given .args .slots + v * size) (given .args .from + k * size) (given .args .d))
 
   abbrev v : ℕ
   v = bitAnd (j t) (given .args .ops - 1)
@@ -123,7 +126,7 @@ write-store-requires c κs =
     let q = c .before .before in
     let t = q .before .before in
     let a = s t .args in (
-      omega (arith, number-is (s t .pre) (j t), few-ops (s t .pre), mod-lt (j t) (some-op (s t .pre))),
+      omega (arith, number-is (s t .pre) (j t), s t .pre .few-ops, mod-lt (j t) (s t .pre .some-op)),
       (
         turn-room (s t .pre) (t .loop-test .taken) (a .bit) (t .before .loop .inv) (applied t (q .apply-operator .ensures)),
         store-at t (q .apply-operator .ensures) (turn-store (s t .pre) (t .loop-test .taken) (a .bit) (t .before .loop .inv) (applied t (q .apply-operator .ensures))),
@@ -160,8 +163,9 @@ step-spec =
     add-size
     mul-total
     sub-last
-    flips-requires
     loop-holds
+    mul-op
+    add-op
     shr-old
     mul-old
     add-old

@@ -11,10 +11,10 @@ use Rattle.branches.proofs.run.run_gates.Statement.{statement}
 use Rattle.branches.proofs.run.run_gates.Tie as tie
 
 abbrev Inv-loop : tie.InvT-loop
-Inv-loop work₀ gates store n d banks bank total from₀ count₀ i₀ work from count i = Running work₀ gates store n d banks work from count i
+Inv-loop work₀ gates store n d banks bank slots total from₀ count₀ i₀ work from count i = Running work₀ gates store n d banks work from count i
 
 abbrev μ-loop : tie.MeasureT-loop
-μ-loop work₀ gates store n d banks bank total from₀ count₀ i₀ work from count i = length gates / 5 - i
+μ-loop work₀ gates store n d banks bank slots total from₀ count₀ i₀ work from count i = length gates / 5 - i
 
 -- the places before the loop
 module _ (a : tie.At-loop Inv-loop μ-loop) where
@@ -40,6 +40,9 @@ bank-small c =
 
 mul-bank : tie.Need-mul-bank Inv-loop μ-loop
 mul-bank c = omega (arith, bank-small c)
+
+mul-slots : tie.Need-mul-slots Inv-loop μ-loop
+mul-slots c = omega (arith, bank-small c)
 
 start-branch-requires : tie.Need-start-branch-requires Inv-loop μ-loop
 start-branch-requires c κs = let s = c .before .before .before .before in (dim-small s, (omega (arith, bank-small (c .before)), (s .pre .short, s .pre .bits)))
@@ -87,6 +90,7 @@ run-gates-spec =
     μ-loop
     branch-size-requires
     mul-bank
+    mul-slots
     start-branch-requires
     loop-holds
     sub-to
