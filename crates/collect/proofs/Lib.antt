@@ -1,4 +1,5 @@
 pub mod Words
+pub mod Sizes
 pub mod Adding
 pub mod Summing
 pub mod Recording
