@@ -3,6 +3,7 @@ pub mod Sizes
 pub mod Adding
 pub mod Summing
 pub mod Recording
+pub mod Rising
 pub mod Linking
 pub mod Whole
 pub mod Branching
