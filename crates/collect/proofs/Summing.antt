@@ -2,8 +2,8 @@
 use mathlib.Core.Path.{_≡_, refl, sym, ap, _∙_, subst}
 use mathlib.Core.Bool.{Bool, true, false, cond, not, _&&_}
 use mathlib.Core.List.{List}
-use Prim.Native.Nat.{ℕ, zero, suc, _+_, _*_, _/_, _%_, _≤_, _<_}
-use native.Mathlib.Nat.{le-refl}
+use Prim.Native.Nat.{ℕ, zero, suc, _+_, _*_, _-_, _/_, _%_, _≤_, _<_}
+use native.Mathlib.Nat.{le-refl, add-zero}
 use native.Mathlib.Numerals.{add-one}
 use native.Mathlib.Omega.{arith}
 use lib.Arith.{digits-lt, digits-div, digits-mod}
@@ -20,7 +20,7 @@ use Rattle.scalar.proofs.Exact.{add-lowest, mul-lowest, zero-plus, conj-𝟘}
 use Rattle.scalar.proofs.Cell.{cell-filled, exponent-filled}
 use Rattle.branches.specs.Bank.{branchSize}
 use Rattle.collect.specs.Overlap.{blockOverlap, blockOverlapped, Sum, NewBlock, Block}
-use Rattle.collect.specs.Bank.{place, storeOf, entry, survives, has, isFirst, starts, overlaps, Branch, Bank}
+use Rattle.collect.specs.Bank.{place, storeOf, entry, survives, has, isFirst, starts, overlaps, Branch, Found, Bank}
 use Rattle.collect.proofs.Adding.{sum-mirror}
 
 pub bank-branch : {l : List ℤ} {at d n : ℕ} → Bank l at d n → (j : ℕ) → j < n → Branch l at d j
@@ -41,6 +41,13 @@ module _ (l : List ℤ) (at d : ℕ) where
   unfolding overlaps
   overlaps-none s r c zero h = refl
   overlaps-none s r c (suc n) h = ap (λ (t : Bool). cond t (more n r c (overlaps l at d n s r c)) (overlaps l at d n s r c)) (h n (le-refl (suc n))) ∙ overlaps-none s r c n (λ j p. h j (omega arith))
+
+  -- the next k branches have not
+  overlaps-past : (s r c j k : ℕ) → ((i : ℕ) → j ≤ i → i < j + k → has l at d s i ≡ false) → overlaps l at d (j + k) s r c ≡ overlaps l at d j s r c
+  overlaps-past s r c j zero h = ap (λ (n : ℕ). overlaps l at d n s r c) (add-zero j)
+  overlaps-past s r c j (suc k) h =
+      let e : j + suc k ≡ j + k + 1 = omega arith in
+      ap (λ (n : ℕ). overlaps l at d n s r c) e ∙ overlaps-step (j + k) s r c false (h (j + k) (omega arith) (omega arith)) ∙ overlaps-past s r c j k (λ i p q. h i p (omega arith))
 
   -- blocks are Hermitian
   overlaps-mirror : (n s r c : ℕ) → conj (overlaps l at d n s c r) ≡ overlaps l at d n s r c
@@ -81,16 +88,23 @@ module _ {m : List ℤ} {out : ℕ} {l : List ℤ} {at d s : ℕ} where
     entry-is : (r c : ℕ) → r < d * d → c < d * d → after l at d s j (r * (d * d) + c) ≡ overlaps l at d j s r c
     entry-is r c hr hc = λ i. overlaps l at d j s (digits-div r hc i) (digits-mod r hc i)
 
-    pub summed-more : {n : List ℤ} → n ≡ cond (has l at d s j) (fill b out (d * d * (d * d)) (blockOverlapped b out l (place at d j) (d * d))) b → Summed m out l at d s n (j + 1)
-    summed-more {n} e = go (has l at d s j) refl e
-      where
-        go : (t : Bool) → has l at d s j ≡ t → n ≡ cond t (fill b out (d * d * (d * d)) (blockOverlapped b out l (place at d j) (d * d))) b → Summed m out l at d s n (j + 1)
-        go true h f = written
-            (f
-            ∙ blocks-same 5 b out (d * d * (d * d)) _ _ (λ k hk. ap cellWords (ap (more l at d j (k / (d * d)) (k % (d * d))) (at-is k hk) ∙ sym (overlaps-step l at d j s (k / (d * d)) (k % (d * d)) true h)))
-            ∙ ap (λ (p : List ℤ). fill p out (d * d * (d * d)) (after l at d s (j + 1))) (ws .writing .is)
-            ∙ blocks-over 5 m out (d * d * (d * d)) _ _ (λ i. refl) (λ i. refl) room)
-        go false h f = written (f ∙ ws .writing .is ∙ blocks-same 5 m out (d * d * (d * d)) _ _ (λ k hk. ap cellWords (sym (overlaps-step l at d j s (k / (d * d)) (k % (d * d)) false h))))
+    -- branch j has the store, and is added
+    pub summed-more : has l at d s j ≡ true → {n : List ℤ} → n ≡ fill b out (d * d * (d * d)) (blockOverlapped b out l (place at d j) (d * d)) → Summed m out l at d s n (j + 1)
+    summed-more h f = written
+        (f
+        ∙ blocks-same 5 b out (d * d * (d * d)) _ _ (λ k hk. ap cellWords (ap (more l at d j (k / (d * d)) (k % (d * d))) (at-is k hk) ∙ sym (overlaps-step l at d j s (k / (d * d)) (k % (d * d)) true h)))
+        ∙ ap (λ (p : List ℤ). fill p out (d * d * (d * d)) (after l at d s (j + 1))) (ws .writing .is)
+        ∙ blocks-over 5 m out (d * d * (d * d)) _ _ (λ i. refl) (λ i. refl) room)
+
+  -- branches that have not are passed over
+  pub summed-past : {b : List ℤ} {j n k : ℕ} → Summed m out l at d s b j → Found (has l at d s) j n k → Summed m out l at d s b k
+  summed-past {b} {j} {n} {k} ws f = written (ws .writing .is ∙ blocks-same 5 m out (d * d * (d * d)) _ _ (λ i hi. ap cellWords (sym (past (i / (d * d)) (i % (d * d))))))
+    where
+      back : j + (k - j) ≡ k
+      back = omega (arith, f .low)
+
+      past : (r c : ℕ) → overlaps l at d k s r c ≡ overlaps l at d j s r c
+      past r c = ap (λ (i : ℕ). overlaps l at d i s r c) (sym back) ∙ overlaps-past l at d s r c j (k - j) (λ i p q. f .passed i p (omega arith))
 
 -- the first branch that has its store
 module _ (l : List ℤ) (at d i : ℕ) (e : starts l at d i ≡ true) where
