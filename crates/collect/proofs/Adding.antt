@@ -3,8 +3,8 @@ use mathlib.Core.Path.{_≡_, sym, ap, _∙_, subst}
 use mathlib.Core.Bool.{true, _&&_}
 use mathlib.Core.List.{List}
 use mathlib.Core.Logic.{inl}
-use Prim.Native.Nat.{ℕ, _+_, _*_, _-_, _^_, _≤_, _<_}
-use native.Mathlib.Nat.{le-refl, zero-mul}
+use Prim.Native.Nat.{ℕ, _+_, _*_, _-_, _/_, _%_, _^_, _≤_, _<_}
+use native.Mathlib.Nat.{le-refl, zero-mul, mul-le-mul, mod-lt, div-add-mod', div-lt-iff-lt-mul}
 use native.Mathlib.Omega.{arith}
 use lib.Arith.{digits-div, digits-mod}
 use lib.Dec.{eqb}
@@ -61,10 +61,6 @@ overlap-none l at e x m q s z = sym (ap (λ (v : Exact). sets l at (cellWords v)
 -- and so does a zero left factor those of a row
 pub row-none : {l : List ℤ} {to : ℕ} {m : List ℤ} {p k w : ℕ} → Row l to m p k w → zeroAt m p ≡ true → l ≡ fill l to w (λ (c : ℕ). overlapped l (to + c * 5) (cellAt m p) m (k + c * 5))
 row-none {l} {to} {m} {p} {k} {w} r z = sym (fill-there l to w _ (λ c h. r .sums c h .exponent) (λ c h. left-none l (to + c * 5) (cellAt m p) m (k + c * 5) (r .sums c h .lowest) z))
-
--- a new row of one is zero
-pub row-cleared : (l : List ℤ) (to : ℕ) (m : List ℤ) (p k w : ℕ) {b : List ℤ} → zeroAt m p ≡ true → b ≡ fillWords l to (w * 5) (λ (i : ℕ). pos 0) → b ≡ fill l to w (λ (c : ℕ). overlap (cellAt m p) m (k + c * 5))
-row-cleared l to m p k w z e = e ∙ zero-cells l to w ∙ blocks-same 5 l to w _ _ (λ c h. ap cellWords (sym (zero-by (cellAt m p) (conj (cellAt m (k + c * 5))) z)))
 
 -- ---- what is as it was
 pub sum-same : {l m : List ℤ} {at e : ℕ} → Same l m at 5 → Sum m at e → Sum l at e
@@ -228,6 +224,13 @@ module _ {l : List ℤ} {out w : ℕ} {f : ℕ → Exact} (room : out + w * w * 
         };
       }
 
+-- rows r to e lie in the block
+pub rows-in : (out r e w n : ℕ) → r ≤ e → e ≤ w → out + w * w * 5 ≤ n → out + r * w * 5 + (e - r) * w * 5 ≤ n
+rows-in out r e w n lo hi h = by (e - r) (omega arith)
+  where
+    by : (t : ℕ) → r + t ≤ w → out + r * w * 5 + t * w * 5 ≤ n
+    by t q = omega (arith, mul-le-mul q (le-refl w))
+
 -- a new block
 module _ {l : List ℤ} {out : ℕ} {m : List ℤ} {k w : ℕ} (p : NewBlock l out m k w) {b : List ℤ} {r : ℕ} (hr : r < w) (ws : Rows l out w (blockOverlap m k w) b r) where
   abbrev at : ℕ → Exact
@@ -243,6 +246,37 @@ module _ {l : List ℤ} {out : ℕ} {m : List ℤ} {k w : ℕ} (p : NewBlock l o
         factors = p .factors;
         mirror = λ c hc. ap conj (column-value (p .room) hr ws c hc ∙ entry-is c) ∙ overlap-mirror (at c) (at r);
       }
+
+  -- rows of zero factors
+  pub rows-cleared : {e : ℕ} → r ≤ e → e ≤ w → ((i : ℕ) → r ≤ i → i < e → zeroAt m (k + i * 5) ≡ true) → {n : List ℤ} → n ≡ fillWords b (out + r * w * 5) ((e - r) * w * 5) (λ (i : ℕ). pos 0) → Rows l out w (blockOverlap m k w) n e
+  rows-cleared {e} lo hi zero q =
+      record {
+        sized = λ i. le-refl 5;
+        count = mul-le-mul hi (le-refl w);
+        is =
+            q
+            ∙ zero-cells b (out + r * w * 5) ((e - r) * w)
+            ∙ blocks-same 5 b (out + r * w * 5) ((e - r) * w) _ (λ (i : ℕ). cellWords (blockOverlap m k w (r * w + i))) (λ i h. ap cellWords (sym (none i h)))
+            ∙ ap (λ (o : List ℤ). fill o (out + r * w * 5) ((e - r) * w) (λ (i : ℕ). blockOverlap m k w (r * w + i))) (ws .is)
+            ∙ blocks-more 5 l out (r * w) ((e - r) * w) (λ (i : ℕ). cellWords (blockOverlap m k w i))
+            ∙ ap (λ (i : ℕ). fill l out i (blockOverlap m k w)) (together r (e - r) ∙ ap (λ (i : ℕ). i * w) back);
+      }
+    where
+      together : (i j : ℕ) → i * w + j * w ≡ (i + j) * w
+      together i j = omega arith
+
+      back : r + (e - r) ≡ e
+      back = omega arith
+
+      -- entry i of them
+      none : (i : ℕ) → i < (e - r) * w → blockOverlap m k w (r * w + i) ≡ exact .𝟘
+      none i h =
+          let some : 0 < w = omega arith in
+          let row : i / w < e - r = div-lt-iff-lt-mul some .1 h in
+          let split : r * w + i ≡ (r + i / w) * w + i % w = omega (arith, div-add-mod' i w, together r (i / w)) in
+          ap (blockOverlap m k w) split
+          ∙ ap (λ (j : ℕ). exact ._⊗_ (at j) (conj (at (((r + i / w) * w + i % w) % w)))) (digits-div (r + i / w) (mod-lt i some))
+          ∙ zero-by (at (r + i / w)) (conj (at (((r + i / w) * w + i % w) % w))) (zero (r + i / w) (omega arith) (omega arith))
 
   pub new-row-more : {n : List ℤ} → n ≡ fill b (out + r * w * 5) w (λ (c : ℕ). overlap (at r) m (k + c * 5)) → Rows l out w (blockOverlap m k w) n (r + 1)
   new-row-more e = rows-more (p .room) hr ws (e ∙ blocks-same 5 b (out + r * w * 5) w _ _ (λ c hc. ap cellWords (λ i. exact ._⊗_ (at (sym (digits-div r hc) i)) (conj (at (sym (digits-mod r hc) i))))))

@@ -1,4 +1,5 @@
 pub mod Words
+pub mod Finding
 pub mod Sizes
 pub mod Adding
 pub mod Summing

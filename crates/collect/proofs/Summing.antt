@@ -148,7 +148,7 @@ module _ {m : List ℤ} {out : ℕ} {l : List ℤ} {at d i : ℕ} {b : List ℤ}
 
 -- a bank's branch may be written as a block
 pub writable : {m : List ℤ} {out : ℕ} {l : List ℤ} {at d n : ℕ} → Bank l at d n → {i : ℕ} → i < n → out + d * d * (d * d) * 5 ≤ length m → NewBlock m out l (place at d i) (d * d)
-writable bank {i} h room = record { room = room; factors = λ k p. bank .entries i k h p }
+writable bank {i} h room = record { room = room; entries = omega (arith, bank-branch bank i h .room); factors = λ k p. bank .entries i k h p }
 
 -- a bank's branch j may be added to the block of its branch i
 pub addable : {m : List ℤ} {out : ℕ} {l : List ℤ} {at d n : ℕ} (bank : Bank l at d n) {i j : ℕ} (hi : i < n) (hj : j < n) (room : out + d * d * (d * d) * 5 ≤ length m) {b : List ℤ}

@@ -79,6 +79,7 @@ pub record AddedRow (l : List ℤ) (out : ℕ) (m : List ℤ) (k w r : ℕ) : Ty
 -- a place for the block of the w factors from k on
 pub record NewBlock (l : List ℤ) (out : ℕ) (m : List ℤ) (k w : ℕ) : Type 0 where
   pub room : out + w * w * 5 ≤ length l
+  pub entries : k + w * 5 ≤ length m
   pub factors : (i : ℕ) → i < w → Factor m (k + i * 5)
 
 -- w·w sums from `out` on, a Hermitian matrix, to which the overlaps of the w numbers from k on can be added

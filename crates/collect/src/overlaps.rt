@@ -7,15 +7,17 @@ use scalar::numerators::fma;
 use scalar::numerators::product;
 use scalar::numerators::reduce;
 ghost use mathlib.Core.Path.{_≡_};
+ghost use mathlib.Core.Bool.{not};
 ghost use Prim.Native.Nat.{_+_, _*_, _≤_};
 ghost use lib.ListN.{length};
 ghost use lib.Seq.{sets};
 ghost use Rattle.scalar.specs.Exact.{exact, conj};
 ghost use Rattle.scalar.specs.Calls.{value, scalarOf};
-ghost use Rattle.scalar.specs.Cells.{cellAt, cellWords, fill};
+ghost use Rattle.scalar.specs.Cells.{cellAt, cellWords, zeroAt, fill};
 ghost use Rattle.scalar.specs.Inner.{Coords};
 ghost use Rattle.matrix.specs.Factors.{Factor};
 ghost use Rattle.collect.specs.Overlap.{overlap, overlapped, blockOverlap, blockOverlapped, Readable, Sum, Entries, Row, Column, Mirrored, NewRow, AddedRow, NewBlock, Block};
+ghost use Rattle.collect.specs.Bank.{Found};
 
 // The conjugate of the scalar at `at`.
 fn read_conj(s: &[i64], at: usize) -> Scalar
@@ -155,14 +157,9 @@ fn write_block_row(result: &mut [i64], out: usize, work: &[i64], k: usize, w: us
     requires { ⌜ NewRow (now result) out (now work) k w r ⌝ }
     ensures { λ _. ⌜ now (result .exit) ≡ fill (now (result .entry)) (out + r * w * 5) w (λ c. overlap (cellAt (now (work .entry)) (k + r * 5)) (now (work .entry)) (k + c * 5)) ⌝ }
 {
-    let p = k + r * 5;
-    let to = out + r * w * 5;
-    if zero_at(work, p) {
-        clear(result, to, w * 5);
-        return;
-    }
     mirror_column(result, out, w, r);
-    write_row(result, to + r * 5, work, p, p, w - r);
+    let p = k + r * 5;
+    write_row(result, out + r * w * 5 + r * 5, work, p, p, w - r);
 }
 
 // Add row r of the block of the w scalars from k on of `work`, where the rows before it are added; a zero is passed over.
@@ -178,6 +175,21 @@ fn add_block_row(result: &mut [i64], out: usize, work: &[i64], k: usize, w: usiz
     add_row(result, out + r * w * 5 + r * 5, work, p, p, w - r);
 }
 
+// The first of the w scalars from k on of `work`, from scalar r on, that is not zero; w where there is none.
+fn next_entry(work: &[i64], k: usize, w: usize, r: usize) -> usize
+    requires { ⌜ (r ≤ w) × (k + w * 5 ≤ length (now work)) ⌝ }
+    ensures { λ e. ⌜ Found (λ i. not (zeroAt (now (work .entry)) (k + i * 5))) r w e ⌝ }
+{
+    let mut i = r;
+    while i < w {
+        if !zero_at(work, k + i * 5) {
+            return i;
+        }
+        i += 1;
+    }
+    i
+}
+
 // Write entry r times the conjugate of entry c of the w scalars from k on of `work` to entry (r, c) of the block at `out` of `result`, for all r and c.
 pub fn write_overlaps(result: &mut [i64], out: usize, work: &[i64], k: usize, w: usize)
     requires { ⌜ NewBlock (now result) out (now work) k w ⌝ }
@@ -185,8 +197,13 @@ pub fn write_overlaps(result: &mut [i64], out: usize, work: &[i64], k: usize, w:
 {
     let mut r = 0;
     while r < w {
-        write_block_row(result, out, work, k, w, r);
-        r += 1;
+        let e = next_entry(work, k, w, r);
+        clear(result, out + r * w * 5, (e - r) * w * 5);
+        if e == w {
+            return;
+        }
+        write_block_row(result, out, work, k, w, e);
+        r = e + 1;
     }
 }
 

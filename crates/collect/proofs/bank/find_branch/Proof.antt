@@ -1,11 +1,11 @@
 -- `collect::bank::find_branch` meets its contract.
-use mathlib.Core.Path.{_≡_, sym, _∙_, subst}
-use mathlib.Core.Bool.{Bool, false}
-use Prim.Native.Nat.{ℕ, _+_, _-_, _<_, _≤_}
+use mathlib.Core.Path.{_≡_, sym, _∙_}
+use mathlib.Core.Bool.{false}
+use Prim.Native.Nat.{ℕ, _-_, _<_, _≤_}
 use native.Mathlib.Nat.{le-refl}
-use native.Mathlib.Decide.{decLt}
 use native.Mathlib.Omega.{arith}
 use Rattle.collect.specs.Bank.{has}
+use Rattle.collect.proofs.Finding.{passed-more}
 use Rattle.collect.proofs.bank.find_branch.Statement.{statement}
 use Rattle.collect.proofs.bank.find_branch.Tie as tie
 
@@ -14,13 +14,6 @@ Inv-loop work at d b n store j₀ j = (b ≤ j) × ((j ≤ n) × ((i : ℕ) → 
 
 abbrev μ-loop : tie.MeasureT-loop
 μ-loop work at d b n store j₀ j = n - j
-
-one-more : (p : ℕ → Bool) (b j : ℕ) → ((i : ℕ) → b ≤ i → i < j → p i ≡ false) → p j ≡ false → (i : ℕ) → b ≤ i → i < j + 1 → p i ≡ false
-one-more p b j f e i h q = go (decLt i j)
-  where
-    go : Dec (i < j) → p i ≡ false
-    go (yes l) = f i h l
-    go (no l) = let k : j ≡ i = omega arith in subst (λ (m : ℕ). p m ≡ false) k e
 
 loop-holds : tie.Need-loop-holds Inv-loop μ-loop
 loop-holds c = (le-refl _, (c .pre .0, λ i p q. absurd (omega arith)))
@@ -48,7 +41,7 @@ loop-again c =
     let n = l .before .args in
     let j = l .loop .j in
     let none : has (n .work .now) (n .at) (n .d) (n .store) j ≡ false = sym (a .has-store .ensures) ∙ c .if1 .left in
-    (omega (arith, l .loop .inv .0), (omega (arith, t .loop-test .taken), one-more (has (n .work .now) (n .at) (n .d) (n .store)) (n .b) j (l .loop .inv .1 .1) none))
+    (omega (arith, l .loop .inv .0), (omega (arith, t .loop-test .taken), passed-more (has (n .work .now) (n .at) (n .d) (n .store)) (n .b) j (l .loop .inv .1 .1) none))
 
 returns-2 : tie.Need-returns-2 Inv-loop μ-loop
 returns-2 c =

@@ -1,10 +1,9 @@
 -- `collect::overlaps::write_block_row` meets its contract.
-use mathlib.Core.Path.{sym, _∙_}
 use Prim.Native.Nat.{_+_, _*_, _≤_}
 use native.Mathlib.Omega.{arith}
 use lib.ListN.{length}
 use Rattle.algebra.proofs.Blocks.{block-in}
-use Rattle.collect.proofs.Adding.{row-cleared, later-factors, half-long, new-row}
+use Rattle.collect.proofs.Adding.{later-factors, half-long, new-row}
 use borrow.Author.Needs.{needs}
 use Rattle.collect.proofs.overlaps.write_block_row.Statement.{statement}
 use Rattle.collect.proofs.overlaps.write_block_row.Tie as tie
@@ -17,50 +16,31 @@ module _ (s : tie.Start) where
   row-in = omega (arith, s .pre .column .room, block-in (s .pre .column .inside) (s .args .w))
 
 abbrev start : tie.After-mirror-column → tie.Start
-start c = c .before .before .before .before
-
-mul-p : tie.Need-mul-p
-mul-p c = omega (arith, factor-in c)
-
-add-p : tie.Need-add-p
-add-p c = omega (arith, factor-in c)
-
-mul-to : tie.Need-mul-to
-mul-to c = omega (arith, row-in c)
-
-mul-to-2 : tie.Need-mul-to-2
-mul-to-2 c = omega (arith, row-in c)
-
-add-to : tie.Need-add-to
-add-to c = omega (arith, row-in c)
-
-zero-at-requires : tie.Need-zero-at-requires
-zero-at-requires c κs = factor-in c
-
-mul-clear : tie.Need-mul-clear
-mul-clear c = omega (arith, row-in (c .before .before .before))
-
-clear-requires : tie.Need-clear-requires
-clear-requires c κs = row-in (c .before .before .before)
-
-same-length : tie.Need-same-length
-same-length c = search needs
-
-returns : tie.Need-returns
-returns c =
-    let k = c .before in
-    let z = k .before .before in
-    let n = z .before .before .args in
-    row-cleared (n .result .now) _ (n .work .now) _ (n .k) (n .w) (sym (z .before .zero-at .ensures) ∙ z .if1 .taken) (k .clear .ensures)
+start c = c .before .before
 
 mirror-column-requires : tie.Need-mirror-column-requires
 mirror-column-requires c κs = search needs
 
+mul-p : tie.Need-mul-p
+mul-p c = omega (arith, factor-in (start (c .before)))
+
+add-p : tie.Need-add-p
+add-p c = omega (arith, factor-in (start (c .before)))
+
 mul-write-row : tie.Need-mul-write-row
-mul-write-row c = let s = start (c .before .before) in omega (arith, row-in s, s .pre .column .inside)
+mul-write-row c = omega (arith, row-in (start (c .before .before)))
+
+mul-write-row-2 : tie.Need-mul-write-row-2
+mul-write-row-2 c = omega (arith, row-in (start (c .before .before)))
 
 add-write-row : tie.Need-add-write-row
-add-write-row c = let s = start (c .before .before) in omega (arith, row-in s, s .pre .column .inside)
+add-write-row c = omega (arith, row-in (start (c .before .before)))
+
+mul-write-row-3 : tie.Need-mul-write-row-3
+mul-write-row-3 c = let s = start (c .before .before) in omega (arith, row-in s, s .pre .column .inside)
+
+add-write-row-2 : tie.Need-add-write-row-2
+add-write-row-2 c = let s = start (c .before .before) in omega (arith, row-in s, s .pre .column .inside)
 
 sub-write-row : tie.Need-sub-write-row
 sub-write-row c = search needs
@@ -74,11 +54,11 @@ write-row-requires c κs =
       record { scale = s .pre .factors (n .r) (s .pre .column .inside); factors = later-factors (n .k) (n .r) (s .pre .factors) },
     )
 
-same-length-2 : tie.Need-same-length-2
-same-length-2 c = search needs
+same-length : tie.Need-same-length
+same-length c = search needs
 
-returns-2 : tie.Need-returns-2
-returns-2 c =
+returns : tie.Need-returns
+returns c =
     let w = c .before in
     let m = w .before .before .before in
     let s = start m in
@@ -89,20 +69,15 @@ pub write-block-row-spec : {M : Type 1} → statement M
 write-block-row-spec =
     tie.close
     (tie.spec
+    mirror-column-requires
     mul-p
     add-p
-    mul-to
-    mul-to-2
-    add-to
-    zero-at-requires
-    mul-clear
-    clear-requires
-    same-length
-    returns
-    mirror-column-requires
     mul-write-row
+    mul-write-row-2
     add-write-row
+    mul-write-row-3
+    add-write-row-2
     sub-write-row
     write-row-requires
-    same-length-2
-    returns-2)
+    same-length
+    returns)
