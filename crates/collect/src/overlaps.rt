@@ -4,17 +4,17 @@ use scalar::cells::read_cell;
 use scalar::cells::write_cell;
 use scalar::cells::zero_at;
 use scalar::numerators::fma;
-use scalar::numerators::product;
 use scalar::numerators::reduce;
 ghost use mathlib.Core.Path.{_≡_};
 ghost use mathlib.Core.Bool.{not};
-ghost use Prim.Native.Nat.{_+_, _*_, _≤_};
+ghost use Prim.Native.Nat.{_+_, _*_, _^_, _≤_};
 ghost use lib.ListN.{length};
 ghost use lib.Seq.{sets};
-ghost use Rattle.scalar.specs.Exact.{exact, conj};
-ghost use Rattle.scalar.specs.Calls.{value, scalarOf};
+ghost use Rattle.algebra.specs.Quadratic.{conjugate};
+ghost use Rattle.scalar.specs.Exact.{root2, numbers, exact, conj};
+ghost use Rattle.scalar.specs.Calls.{numberOf, listOf, value, scalarOf};
 ghost use Rattle.scalar.specs.Cells.{cellAt, cellWords, zeroAt, fill};
-ghost use Rattle.scalar.specs.Inner.{Coords};
+ghost use Rattle.scalar.specs.Inner.{Within, Coords};
 ghost use Rattle.matrix.specs.Factors.{Factor};
 ghost use Rattle.collect.specs.Overlap.{overlap, overlapped, blockOverlap, blockOverlapped, Readable, Sum, Entries, Row, Column, Mirrored, NewRow, AddedRow, NewBlock, Block};
 ghost use Rattle.collect.specs.Bank.{Found};
@@ -41,15 +41,50 @@ fn write_conj(s: &mut [i64], from: usize, at: usize)
     write_cell(s, at, v);
 }
 
-// x·y
-fn times(x: Scalar, y: Scalar) -> Scalar
+// The numerators of x times the conjugate of y, by nine products.
+fn conj_product(x: [i64; 4], y: [i64; 4]) -> [i64; 4]
+    requires { ⌜ Within (2 ^ 28) (numberOf x) × Within (2 ^ 28) (numberOf y) ⌝ }
+    ensures { λ r. ⌜ r ≡ listOf (numbers ._⊗_ (numberOf x) (conjugate root2 (numberOf y))) ⌝ }
+{
+    let x0 = x[0];
+    let x1 = x[1];
+    let x2 = x[2];
+    let x3 = x[3];
+    let y0 = y[0];
+    let y1 = y[1];
+    let y2 = y[2];
+    let y3 = y[3];
+    let a = x0 * y0;
+    let b = x1 * y1;
+    let c = (x0 + x1) * (y0 + y1) - a - b;
+    let p = x2 * y2;
+    let q = x3 * y3;
+    let r = (x2 + x3) * (y2 + y3) - p - q;
+    let u0 = x0 + x2;
+    let u1 = x1 + x3;
+    let v0 = y0 - y2;
+    let v1 = y1 - y3;
+    let s = u0 * v0;
+    let t = u1 * v1;
+    let w = (u0 + u1) * (v0 + v1) - s - t;
+    let d = a + 2 * b;
+    let e = p + 2 * q;
+    let m0 = d + e;
+    let m1 = c + r;
+    let m2 = s + 2 * t - d + e;
+    let m3 = w - c + r;
+    [m0, m1, m2, m3]
+}
+
+// x times the conjugate of y
+fn times_conj(x: Scalar, y: Scalar) -> Scalar
     requires { ⌜ Coords 1 28 (value x) × Coords 1 28 (value y) ⌝ }
-    ensures { λ r. ⌜ r ≡ scalarOf (exact ._⊗_ (value x) (value y)) ⌝ }
+    ensures { λ r. ⌜ r ≡ scalarOf (exact ._⊗_ (value x) (conj (value y))) ⌝ }
 {
     let u = x.n;
     let v = y.n;
     let e = x.e + y.e;
-    let z = product(u, v);
+    let z = conj_product(u, v);
     reduce(z[0], z[1], z[2], z[3], e)
 }
 
@@ -66,8 +101,8 @@ fn write_overlap(result: &mut [i64], at: usize, x: Scalar, work: &[i64], q: usiz
         write_cell(result, at, o);
         return;
     }
-    let y = read_conj(work, q);
-    let p = times(x, y);
+    let y = read_cell(work, q);
+    let p = times_conj(x, y);
     write_cell(result, at, p);
 }
 

@@ -2,12 +2,11 @@
 use mathlib.Core.Path.{sym, ap, _∙_, subst}
 use lib.Seq.{sets}
 use Rattle.scalar.specs.declared.Scalar.{Scalar}
-use Rattle.scalar.specs.Exact.{Exact, exact}
+use Rattle.scalar.specs.Exact.{Exact, exact, conj}
 use Rattle.scalar.specs.Calls.{value}
-use Rattle.scalar.specs.Cells.{cellAt, cellWords}
+use Rattle.scalar.specs.Cells.{cellWords}
 use Rattle.scalar.specs.Inner.{Coords}
-use Rattle.collect.proofs.Sizes.{conj-coords}
-use Rattle.collect.proofs.Adding.{factor-readable, overlap-zero}
+use Rattle.collect.proofs.Adding.{overlap-zero}
 use borrow.Author.Needs.{needs}
 use Rattle.collect.proofs.overlaps.write_overlap.Statement.{statement}
 use Rattle.collect.proofs.overlaps.write_overlap.Tie as tie
@@ -30,13 +29,13 @@ returns c =
     w .write-cell .ensures
     ∙ ap (λ (v : Exact). sets (n .result .now) (n .at) (cellWords v)) (sym (overlap-zero (value (n .x)) (n .work .now) (n .q) (sym (z .zero-at .ensures) ∙ t .if1 .taken)))
 
-read-conj-requires : tie.Need-read-conj-requires
-read-conj-requires c κs = factor-readable (c .before .before .pre .1 .1)
+read-cell-requires : tie.Need-read-cell-requires
+read-cell-requires c κs = search needs
 
-times-requires : tie.Need-times-requires
-times-requires c κs =
+times-conj-requires : tie.Need-times-conj-requires
+times-conj-requires c κs =
     let s = c .before .before .before in
-    (s .pre .1 .0, subst (λ (u : Scalar). Coords 1 28 (value u)) (sym (c .read-conj .ensures)) (conj-coords 1 28 (cellAt (s .args .work .now) (s .args .q)) (s .pre .1 .1 .coords)))
+    (s .pre .1 .0, subst (λ (u : Scalar). Coords 1 28 (value u)) (sym (c .read-cell .ensures)) (s .pre .1 .1 .coords))
 
 write-cell-requires-2 : tie.Need-write-cell-requires-2
 write-cell-requires-2 c κs = search needs
@@ -51,7 +50,7 @@ returns-2 c =
     let r = t .before in
     let n = r .before .before .before .args in
     w .write-cell2 .ensures
-    ∙ ap (λ (v : Exact). sets (n .result .now) (n .at) (cellWords v)) (ap value (t .times .ensures) ∙ (λ i. exact ._⊗_ (value (n .x)) (value (r .read-conj .ensures i))))
+    ∙ ap (λ (v : Exact). sets (n .result .now) (n .at) (cellWords v)) (ap value (t .times-conj .ensures) ∙ (λ i. exact ._⊗_ (value (n .x)) (conj (value (r .read-cell .ensures i)))))
 
 pub write-overlap-spec : {M : Type 1} → statement M
 write-overlap-spec =
@@ -61,8 +60,8 @@ write-overlap-spec =
     write-cell-requires
     same-length
     returns
-    read-conj-requires
-    times-requires
+    read-cell-requires
+    times-conj-requires
     write-cell-requires-2
     same-length-2
     returns-2)

@@ -1,4 +1,4 @@
--- `collect::overlaps::times` meets its contract.
+-- `collect::overlaps::times_conj` meets its contract.
 use mathlib.Core.Path.{ap, _∙_}
 use mathlib.Core.List.{List}
 use Prim.Native.Nat.{_+_, _*_, _^_}
@@ -10,11 +10,11 @@ use Rattle.scalar.specs.Inner.{Within, Coords}
 use Rattle.scalar.proofs.Sizes.{number-back}
 use Rattle.scalar.proofs.Align.{widen, power-within}
 use borrow.Author.Needs.{needs}
-use Rattle.collect.proofs.overlaps.times.Statement.{statement}
-use Rattle.collect.proofs.overlaps.times.Tie as tie
+use Rattle.collect.proofs.overlaps.times_conj.Statement.{statement}
+use Rattle.collect.proofs.overlaps.times_conj.Tie as tie
 
-narrow : (x : Exact) → Coords 1 28 x → Within (2 ^ 29) (x .num)
-narrow x b = widen (1 * 2 ^ 28) (2 ^ 29) (x .num) (lit≤ tt) (power-within 1 (x .exp) 28 (x .num) (b .exponent) (b .size))
+small : (x : Exact) → Coords 1 28 x → Within (2 ^ 28) (x .num)
+small x b = widen (1 * 2 ^ 28) (2 ^ 28) (x .num) (lit≤ tt) (power-within 1 (x .exp) 28 (x .num) (b .exponent) (b .size))
 
 abbrev start : tie.After-struct-known2 → tie.Start
 start c = c .before .before .before .before
@@ -22,8 +22,12 @@ start c = c .before .before .before .before
 add-e : tie.Need-add-e
 add-e c = search needs
 
-product-requires : tie.Need-product-requires
-product-requires c κs = let s = start c in (narrow (value (s .args .x)) (s .pre .0), narrow (value (s .args .y)) (s .pre .1))
+conj-product-requires : tie.Need-conj-product-requires
+conj-product-requires c κs =
+    let s = start c in
+    let left : Within (2 ^ 28) (value (s .args .x) .num) = small (value (s .args .x)) (s .pre .0) in
+    let right : Within (2 ^ 28) (value (s .args .y) .num) = small (value (s .args .y)) (s .pre .1) in
+    search needs
 
 array-copy-out-reduce : tie.Need-array-copy-out-reduce
 array-copy-out-reduce c = search needs
@@ -47,15 +51,15 @@ returns c =
     let s = start (m .before) in
     c .reduce .ensures
     ∙ ap (λ (z : Number). scalarOf (lowest z (s .args .x .e + s .args .y .e)))
-    (number-back (m .product .result) (a4 .before .before .before .reduce-arg .given) (a4 .before .before .reduce-arg2 .given) (a4 .before .reduce-arg3 .given) (a4 .reduce-arg4 .given)
-    ∙ ap numberOf (m .product .ensures))
+    (number-back (m .conj-product .result) (a4 .before .before .before .reduce-arg .given) (a4 .before .before .reduce-arg2 .given) (a4 .before .reduce-arg3 .given) (a4 .reduce-arg4 .given)
+    ∙ ap numberOf (m .conj-product .ensures))
 
-pub times-spec : {M : Type 1} → statement M
-times-spec =
+pub times-conj-spec : {M : Type 1} → statement M
+times-conj-spec =
     tie.close
     (tie.spec
     add-e
-    product-requires
+    conj-product-requires
     array-copy-out-reduce
     array-copy-out-reduce-2
     array-copy-out-reduce-3
