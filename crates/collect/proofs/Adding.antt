@@ -1,64 +1,68 @@
--- Overlaps added to a block: conjugates, zero factors, and a block while its rows are added to.
+-- Overlaps written as a block, or added to one: zero factors, conjugates of what stands in a column, and a block while its rows are written.
 use mathlib.Core.Path.{_≡_, sym, ap, _∙_, subst}
 use mathlib.Core.Bool.{true, _&&_}
 use mathlib.Core.List.{List}
-use Prim.Native.Nat.{ℕ, _+_, _*_, _^_, _<_}
-use native.Mathlib.Nat.{le-refl, le-trans, le-of-eq, zero-mul}
+use mathlib.Core.Logic.{inl}
+use Prim.Native.Nat.{ℕ, _+_, _*_, _-_, _/_, _%_, _^_, _≤_, _<_}
+use native.Mathlib.Nat.{le-refl, zero-mul, mul-le-mul, mod-lt, div-add-mod', div-lt-iff-lt-mul}
 use native.Mathlib.Omega.{arith}
 use lib.Arith.{digits-div, digits-mod}
-use lib.Dec.{eqb, lit≤}
+use lib.Dec.{eqb}
+use lib.ListN.{length}
 use lib.Seq.{sets}
-use lib.IntN.{ℤ, natAbs}
-use Rattle.algebra.specs.Words.{blocks}
+use lib.IntN.{ℤ, pos, natAbs}
+use borrow.Author.Tests.{le-leb}
+use Rattle.algebra.specs.Words.{blocks, fillWords}
 use Rattle.algebra.proofs.Parts.{abs-neg}
-use Rattle.algebra.proofs.Blocks.{Writing, begin, long, rest, Same, block-in, blocks-same, blocks-more}
-use Rattle.scalar.specs.Exact.{Exact, exact, conj, isLowest}
-use Rattle.scalar.specs.Cells.{cellAt, cellWords, isZero, zeroAt, fill}
+use Rattle.algebra.proofs.Blocks.{Writing, begin, wrote, long, kept, rest, Same, block-in, blocks-same, blocks-more}
+use Rattle.scalar.specs.Exact.{Exact, exact, conj, isLowest, maxExponent}
+use Rattle.scalar.specs.Cells.{cellAt, cellWords, exponentAt, isZero, zeroAt, fill}
 use Rattle.scalar.specs.Inner.{Within, Coords, Room}
-use Rattle.scalar.proofs.Align.{widen, power-within}
-use Rattle.scalar.proofs.Cell.{cell-same, exponent-same}
-use Rattle.matrix.proofs.Terms.{zero-left, zero-right}
-use Rattle.collect.specs.Overlap.{overlapped, blockOverlapped, Sum, Row, Block}
+use Rattle.scalar.proofs.Exact.{exacts, conj-plus, conj-by, conj-conj}
+use Rattle.scalar.proofs.Cell.{cell-same, exponent-same, cell-filled, exponent-filled}
+use Rattle.matrix.specs.Factors.{Factor}
+use Rattle.matrix.proofs.Terms.{zero-by, zero-left, zero-right}
+use Rattle.matrix.proofs.Rows.{zero-cells}
+use Rattle.collect.specs.Overlap.{overlap, overlapped, blockOverlap, blockOverlapped, Readable, Sum, Row, Column, Mirrored, NewRow, AddedRow, NewBlock, Block}
 use Rattle.collect.proofs.Words.{cell-there, fill-there}
+use Rattle.collect.proofs.Sizes.{conj-coords, factor-fits, Fits, product-fits, sum-fits}
 
 -- ---- conjugates
-pub conj-coords : (m k : ℕ) (x : Exact) → Coords m k x → Coords m k (conj x)
-conj-coords m k x c =
-    record {
-      exponent = c .exponent;
-      size =
-          record {
-            w0 = c .size .w0;
-            w1 = c .size .w1;
-            w2 = le-trans (le-of-eq (abs-neg (x .num .im .re))) (c .size .w2);
-            w3 = le-trans (le-of-eq (abs-neg (x .num .im .im))) (c .size .w3);
-          };
-    }
-
 conj-zero : (x : Exact) → isZero (conj x .num) ≡ isZero (x .num)
 conj-zero x = λ i. ((eqb (natAbs (x .num .re .re)) 0 && eqb (natAbs (x .num .re .im)) 0) && eqb (abs-neg (x .num .im .re) i) 0) && eqb (abs-neg (x .num .im .im) i) 0
 
--- the numerators of a factor may be negated
-pub factor-within : (x : Exact) → Coords 1 28 x → Within (2 ^ 61) (x .num)
-factor-within x c = widen (1 * 2 ^ 28) (2 ^ 61) (x .num) (lit≤ tt) (power-within 1 (x .exp) 28 (x .num) (c .exponent) (c .size))
+-- entry (r, c) of an overlap from entry (c, r)
+pub overlap-mirror : (x y : Exact) → conj (exact ._⊗_ x (conj y)) ≡ exact ._⊗_ y (conj x)
+overlap-mirror x y = conj-by x (conj y) ∙ ap (exact ._⊗_ (conj x)) (conj-conj y) ∙ exacts .mul-comm (conj x) y
+
+-- and of a sum with one
+pub sum-mirror : (a x y : Exact) → conj (exact ._⊕_ a (exact ._⊗_ x (conj y))) ≡ exact ._⊕_ (conj a) (exact ._⊗_ y (conj x))
+sum-mirror a x y = conj-plus a (exact ._⊗_ x (conj y)) ∙ ap (exact ._⊕_ (conj a)) (overlap-mirror x y)
+
+-- a factor can be read
+pub factor-readable : {m : List ℤ} {q : ℕ} → Factor m q → Readable m q
+factor-readable {m} {q} f = record { room = f .room; exponent = f .exponent; size = factor-fits (cellAt m q) (f .coords) }
 
 -- ---- zero factors
+pub overlap-zero : (x : Exact) (m : List ℤ) (q : ℕ) → zeroAt m q ≡ true → overlap x m q ≡ exact .𝟘
+overlap-zero x m q z = exacts .mul-comm x (conj (cellAt m q)) ∙ zero-by (conj (cellAt m q)) x (conj-zero (cellAt m q) ∙ z)
+
 module _ (l : List ℤ) (at : ℕ) (x : Exact) (m : List ℤ) (q : ℕ) (low : isLowest (cellAt l at) ≡ true) where
   pub right-none : zeroAt m q ≡ true → overlapped l at x m q ≡ cellAt l at
   right-none z = zero-right (cellAt l at) x (conj (cellAt m q)) low (conj-zero (cellAt m q) ∙ z)
 
-  pub left-none : isZero (x .num) ≡ true → overlapped l at x m q ≡ cellAt l at
+  left-none : isZero (x .num) ≡ true → overlapped l at x m q ≡ cellAt l at
   left-none z = zero-left (cellAt l at) x (conj (cellAt m q)) low z
 
--- a zero right factor leaves the words as they are
+-- a zero right factor leaves the words of a sum as they are
 pub overlap-none : (l : List ℤ) (at e : ℕ) (x : Exact) (m : List ℤ) (q : ℕ) → Sum l at e → zeroAt m q ≡ true → l ≡ sets l at (cellWords (overlapped l at x m q))
 overlap-none l at e x m q s z = sym (ap (λ (v : Exact). sets l at (cellWords v)) (right-none l at x m q (s .lowest) z) ∙ cell-there l at (s .exponent))
 
--- and so does a zero left factor
+-- and so does a zero left factor those of a row
 pub row-none : {l : List ℤ} {to : ℕ} {m : List ℤ} {p k w : ℕ} → Row l to m p k w → zeroAt m p ≡ true → l ≡ fill l to w (λ (c : ℕ). overlapped l (to + c * 5) (cellAt m p) m (k + c * 5))
 row-none {l} {to} {m} {p} {k} {w} r z = sym (fill-there l to w _ (λ c h. r .sums c h .exponent) (λ c h. left-none l (to + c * 5) (cellAt m p) m (k + c * 5) (r .sums c h .lowest) z))
 
--- ---- sums that are as they were
+-- ---- what is as it was
 pub sum-same : {l m : List ℤ} {at e : ℕ} → Same l m at 5 → Sum m at e → Sum l at e
 sum-same {e = e} h s =
     record {
@@ -68,45 +72,247 @@ sum-same {e = e} h s =
       small = subst (Room e) (sym (cell-same h)) (s .small);
     }
 
--- ---- a block row by row: b is l with r rows added to
-abbrev pub Rows : List ℤ → ℕ → List ℤ → ℕ → ℕ → List ℤ → ℕ → Type 0
-Rows l out m k w b r = Writing 5 l out (w * w) (λ (i : ℕ). cellWords (blockOverlapped l out m k w i)) b (r * w)
+pub readable-same : {l m : List ℤ} {at : ℕ} → Same l m at 5 → Readable m at → Readable l at
+readable-same h s =
+    record {
+      room = omega (arith, h .long, s .room);
+      exponent = exponent-same h ∙ s .exponent;
+      size = subst (λ (x : Exact). Within (2 ^ 62) (x .num)) (sym (cell-same h)) (s .size);
+    }
 
-pub no-rows : (l : List ℤ) (out : ℕ) (m : List ℤ) (k w : ℕ) → Rows l out m k w l 0
-no-rows l out m k w = subst (Writing 5 l out (w * w) (λ (i : ℕ). cellWords (blockOverlapped l out m k w i)) l) (sym (zero-mul w)) (begin (λ k. le-refl 5))
+-- ---- row r from column r: b is l with c numbers of it written
+abbrev pub Mirroring : List ℤ → ℕ → ℕ → ℕ → List ℤ → ℕ → Type 0
+Mirroring l out w r b c = Writing 5 l (out + r * w * 5) r (λ (i : ℕ). cellWords (conj (cellAt l (out + (i * w + r) * 5)))) b c
 
-module _ {l : List ℤ} {out : ℕ} {m : List ℤ} {k w : ℕ} (p : Block l out m k w) {b : List ℤ} {r : ℕ} (hr : r < w) (ws : Rows l out m k w b r) where
-  place : (c : ℕ) → out + r * w * 5 + c * 5 ≡ out + (r * w + c) * 5
-  place c = omega arith
+module _ {l : List ℤ} {out w r : ℕ} (col : Column l out w r) {b : List ℤ} {c : ℕ} (ws : Mirroring l out w r b c) (hc : c < r) where
+  above : c * w + r + 1 ≤ r * w
+  above = omega (arith, col .inside, block-in hc w)
+
+  pub column-same : Same b l (out + (c * w + r) * 5) 5
+  column-same = kept ws (out + (c * w + r) * 5) 5 (inl (omega (arith, above)))
+
+  pub own-same : Same b l (out + r * w * 5 + c * 5) 5
+  own-same = rest ws (out + r * w * 5 + c * 5) 5 (le-refl _)
+
+  pub column-room : out + (c * w + r) * 5 + 5 ≤ length l
+  column-room = col .cells c hc .room
+
+  pub own-room : out + r * w * 5 + c * 5 + 5 ≤ length l
+  own-room = omega (arith, col .room, col .inside, block-in (col .inside) w)
+
+  pub column-readable : Readable b (out + (c * w + r) * 5)
+  column-readable = readable-same column-same (col .cells c hc)
+
+  pub column-is : conj (cellAt b (out + (c * w + r) * 5)) ≡ conj (cellAt l (out + (c * w + r) * 5))
+  column-is = ap conj (cell-same column-same)
+
+-- where a zero is passed over, the conjugate is there
+pub mirrored : {l : List ℤ} {out : ℕ} {m : List ℤ} {k w r : ℕ} (a : AddedRow l out m k w r) {b : List ℤ} {c : ℕ} → Mirroring l out w r b c → c < r
+    → Mirrored b (out + (c * w + r) * 5) (out + r * w * 5 + c * 5) m (k + c * 5)
+mirrored {l} {out} {m} {k} {w} {r} a {b} {c} ws hc =
+    record {
+      source = column-readable (a .column) ws hc;
+      room = omega (arith, own-room (a .column) ws hc, long ws);
+      exponent = exponent-same (own-same (a .column) ws hc) ∙ a .row .sums c cw .exponent;
+      factor = a .row .entries .factors c cw .room;
+      there = λ z. column-is (a .column) ws hc ∙ a .mirror c hc ∙ right-none l (out + r * w * 5 + c * 5) (cellAt m (k + r * 5)) m (k + c * 5) (a .row .sums c cw .lowest) z ∙ sym (cell-same (own-same (a .column) ws hc));
+    }
+  where
+    cw : c < w
+    cw = omega (arith, a .column .inside)
+
+-- ---- a row in two parts
+two-parts : (l : List ℤ) (to r w : ℕ) (f : ℕ → Exact) {b n : List ℤ} → r < w → b ≡ fill l to r f → n ≡ fill b (to + r * 5) (w - r) (λ (i : ℕ). f (r + i)) → n ≡ fill l to w f
+two-parts l to r w f h p q =
+    q
+    ∙ ap (λ (o : List ℤ). fill o (to + r * 5) (w - r) (λ (i : ℕ). f (r + i))) p
+    ∙ blocks-more 5 l to r (w - r) (λ (i : ℕ). cellWords (f i))
+    ∙ ap (λ (k : ℕ). fill l to k f) all
+  where
+    all : r + (w - r) ≡ w
+    all = omega arith
+
+module _ (k r : ℕ) where
+  entry-place : (i : ℕ) → k + r * 5 + i * 5 ≡ k + (r + i) * 5
+  entry-place i = omega arith
+
+  -- the factors from r on
+  pub later-factors : {m : List ℤ} {w : ℕ} → ((c : ℕ) → c < w → Factor m (k + c * 5)) → (i : ℕ) → i < w - r → Factor m (k + r * 5 + i * 5)
+  later-factors {m} {w} f i h = subst (Factor m) (sym (entry-place i)) (f (r + i) (omega arith))
+
+-- the first r numbers of row r are written by column r, the others after them
+module _ (l : List ℤ) (out : ℕ) (m : List ℤ) (k w r : ℕ) where
+  abbrev to : ℕ
+  to = out + r * w * 5
+
+  abbrev x : Exact
+  x = cellAt m (k + r * 5)
+
+  abbrev half : List ℤ
+  half = fill l to r (λ (c : ℕ). conj (cellAt l (out + (c * w + r) * 5)))
+
+  pub new-row : NewRow l out m k w r → {b n : List ℤ} → b ≡ half → n ≡ fill b (to + r * 5) (w - r) (λ (i : ℕ). overlap x m (k + r * 5 + i * 5)) → n ≡ fill l to w (λ (c : ℕ). overlap x m (k + c * 5))
+  new-row a {b} e q =
+      two-parts l to r w (λ (c : ℕ). overlap x m (k + c * 5)) (a .column .inside)
+      (e ∙ blocks-same 5 l to r _ _ (λ c h. ap cellWords (a .mirror c h)))
+      (q ∙ blocks-same 5 b (to + r * 5) (w - r) _ _ (λ i h. ap (λ (p : ℕ). cellWords (overlap x m p)) (entry-place k r i)))
+
+  later-same : {b : List ℤ} → b ≡ half → (i : ℕ) → Same b l (to + (r + i) * 5) 5
+  later-same e i = rest (wrote {n = r} {f = λ (c : ℕ). cellWords (conj (cellAt l (out + (c * w + r) * 5)))} (λ j. le-refl 5) e) (to + (r + i) * 5) 5 (omega arith)
+
+  pub half-long : {b : List ℤ} → b ≡ half → length b ≡ length l
+  half-long e = later-same e 0 .long
+
+  pub later-row : AddedRow l out m k w r → {b : List ℤ} → b ≡ half → Row b (to + r * 5) m (k + r * 5) (k + r * 5) (w - r)
+  later-row a {b} e =
+      record {
+        room = omega (arith, a .row .room, a .column .inside, half-long e);
+        entries = record { scale = a .row .entries .scale; factors = later-factors k r (a .row .entries .factors) };
+        sums = λ i h. subst (λ (p : ℕ). Sum b p (x .exp + cellAt m (k + r * 5 + i * 5) .exp)) (sym (entry-place to r i))
+            (subst (λ (p : ℕ). Sum b (to + (r + i) * 5) (x .exp + cellAt m p .exp)) (sym (entry-place k r i)) (sum-same (later-same e i) (a .row .sums (r + i) (omega arith))));
+      }
+
+  pub added-row : AddedRow l out m k w r → {b n : List ℤ} → b ≡ half → n ≡ fill b (to + r * 5) (w - r) (λ (i : ℕ). overlapped b (to + r * 5 + i * 5) x m (k + r * 5 + i * 5))
+      → n ≡ fill l to w (λ (c : ℕ). overlapped l (to + c * 5) x m (k + c * 5))
+  added-row a {b} e q =
+      two-parts l to r w (λ (c : ℕ). overlapped l (to + c * 5) x m (k + c * 5)) (a .column .inside)
+      (e ∙ blocks-same 5 l to r _ _ (λ c h. ap cellWords (a .mirror c h)))
+      (q ∙ blocks-same 5 b (to + r * 5) (w - r) _ _ (λ i h. ap cellWords (λ j. exact ._⊕_ ((ap (cellAt b) (entry-place to r i) ∙ cell-same (later-same e i)) j) (overlap x m (entry-place k r i j)))))
+
+-- ---- a block row by row: b is l with r rows written
+abbrev pub Rows : List ℤ → ℕ → ℕ → (ℕ → Exact) → List ℤ → ℕ → Type 0
+Rows l out w f b r = Writing 5 l out (w * w) (λ (i : ℕ). cellWords (f i)) b (r * w)
+
+pub no-rows : (l : List ℤ) (out w : ℕ) (f : ℕ → Exact) → Rows l out w f l 0
+no-rows l out w f = subst (Writing 5 l out (w * w) (λ (i : ℕ). cellWords (f i)) l) (sym (zero-mul w)) (begin (λ k. le-refl 5))
+
+module _ {l : List ℤ} {out w : ℕ} {f : ℕ → Exact} (room : out + w * w * 5 ≤ length l) {b : List ℤ} {r : ℕ} (hr : r < w) (ws : Rows l out w f b r) where
+  rows-more : {n : List ℤ} → n ≡ fill b (out + r * w * 5) w (λ (c : ℕ). f (r * w + c)) → Rows l out w f n (r + 1)
+  rows-more e =
+      record {
+        sized = λ k. le-refl 5;
+        count = omega (arith, block-in hr w);
+        is =
+            e
+            ∙ ap (λ (n : List ℤ). fill n (out + r * w * 5) w (λ (c : ℕ). f (r * w + c))) (ws .is)
+            ∙ blocks-more 5 l out (r * w) w (λ (i : ℕ). cellWords (f i))
+            ∙ ap (λ (n : ℕ). fill l out n f) rows;
+      }
+    where
+      rows : r * w + w ≡ (r + 1) * w
+      rows = omega arith
+
+  -- column r of the rows that are written
+  column-above : (c : ℕ) → c < r → c * w + r < r * w
+  column-above c hc = omega (arith, block-in hc w)
+
+  upto : out + r * w * 5 ≤ length l
+  upto = omega (arith, block-in hr w)
+
+  column-value : (c : ℕ) → c < r → cellAt b (out + (c * w + r) * 5) ≡ f (c * w + r)
+  column-value c hc = ap (λ (n : List ℤ). cellAt n (out + (c * w + r) * 5)) (ws .is) ∙ cell-filled f l out (r * w) (c * w + r) (column-above c hc) upto
+
+  column-asks : ((c : ℕ) → c < r → Fits (f (c * w + r))) → Column b out w r
+  column-asks fits =
+      record {
+        inside = hr;
+        room = omega (arith, room, long ws);
+        cells = λ c hc. record {
+          room = omega (arith, upto, long ws, column-above c hc);
+          exponent = ap (λ (n : List ℤ). exponentAt n (out + (c * w + r) * 5)) (ws .is) ∙ exponent-filled f l out (r * w) (c * w + r) (column-above c hc) upto ∙ le-leb (f (c * w + r) .exp) maxExponent (fits c hc .exponent);
+          size = subst (λ (x : Exact). Within (2 ^ 62) (x .num)) (sym (column-value c hc)) (fits c hc .size);
+        };
+      }
+
+-- rows r to e lie in the block
+pub rows-in : (out r e w n : ℕ) → r ≤ e → e ≤ w → out + w * w * 5 ≤ n → out + r * w * 5 + (e - r) * w * 5 ≤ n
+rows-in out r e w n lo hi h = by (e - r) (omega arith)
+  where
+    by : (t : ℕ) → r + t ≤ w → out + r * w * 5 + t * w * 5 ≤ n
+    by t q = omega (arith, mul-le-mul q (le-refl w))
+
+-- a new block
+module _ {l : List ℤ} {out : ℕ} {m : List ℤ} {k w : ℕ} (p : NewBlock l out m k w) {b : List ℤ} {r : ℕ} (hr : r < w) (ws : Rows l out w (blockOverlap m k w) b r) where
+  abbrev at : ℕ → Exact
+  at i = cellAt m (k + i * 5)
+
+  entry-is : (c : ℕ) → blockOverlap m k w (c * w + r) ≡ exact ._⊗_ (at c) (conj (at r))
+  entry-is c = λ i. exact ._⊗_ (at (digits-div c hr i)) (conj (at (digits-mod c hr i)))
+
+  pub new-row-asks : NewRow b out m k w r
+  new-row-asks =
+      record {
+        column = column-asks (p .room) hr ws (λ c hc. subst Fits (sym (entry-is c)) (product-fits (at c) (conj (at r)) (p .factors c (omega arith) .coords) (conj-coords 1 28 (at r) (p .factors r hr .coords))));
+        factors = p .factors;
+        mirror = λ c hc. ap conj (column-value (p .room) hr ws c hc ∙ entry-is c) ∙ overlap-mirror (at c) (at r);
+      }
+
+  -- rows of zero factors
+  pub rows-cleared : {e : ℕ} → r ≤ e → e ≤ w → ((i : ℕ) → r ≤ i → i < e → zeroAt m (k + i * 5) ≡ true) → {n : List ℤ} → n ≡ fillWords b (out + r * w * 5) ((e - r) * w * 5) (λ (i : ℕ). pos 0) → Rows l out w (blockOverlap m k w) n e
+  rows-cleared {e} lo hi zero q =
+      record {
+        sized = λ i. le-refl 5;
+        count = mul-le-mul hi (le-refl w);
+        is =
+            q
+            ∙ zero-cells b (out + r * w * 5) ((e - r) * w)
+            ∙ blocks-same 5 b (out + r * w * 5) ((e - r) * w) _ (λ (i : ℕ). cellWords (blockOverlap m k w (r * w + i))) (λ i h. ap cellWords (sym (none i h)))
+            ∙ ap (λ (o : List ℤ). fill o (out + r * w * 5) ((e - r) * w) (λ (i : ℕ). blockOverlap m k w (r * w + i))) (ws .is)
+            ∙ blocks-more 5 l out (r * w) ((e - r) * w) (λ (i : ℕ). cellWords (blockOverlap m k w i))
+            ∙ ap (λ (i : ℕ). fill l out i (blockOverlap m k w)) (together r (e - r) ∙ ap (λ (i : ℕ). i * w) back);
+      }
+    where
+      together : (i j : ℕ) → i * w + j * w ≡ (i + j) * w
+      together i j = omega arith
+
+      back : r + (e - r) ≡ e
+      back = omega arith
+
+      -- entry i of them
+      none : (i : ℕ) → i < (e - r) * w → blockOverlap m k w (r * w + i) ≡ exact .𝟘
+      none i h =
+          let some : 0 < w = omega arith in
+          let row : i / w < e - r = div-lt-iff-lt-mul some .1 h in
+          let split : r * w + i ≡ (r + i / w) * w + i % w = omega (arith, div-add-mod' i w, together r (i / w)) in
+          ap (blockOverlap m k w) split
+          ∙ ap (λ (j : ℕ). exact ._⊗_ (at j) (conj (at (((r + i / w) * w + i % w) % w)))) (digits-div (r + i / w) (mod-lt i some))
+          ∙ zero-by (at (r + i / w)) (conj (at (((r + i / w) * w + i % w) % w))) (zero (r + i / w) (omega arith) (omega arith))
+
+  pub new-row-more : {n : List ℤ} → n ≡ fill b (out + r * w * 5) w (λ (c : ℕ). overlap (at r) m (k + c * 5)) → Rows l out w (blockOverlap m k w) n (r + 1)
+  new-row-more e = rows-more (p .room) hr ws (e ∙ blocks-same 5 b (out + r * w * 5) w _ _ (λ c hc. ap cellWords (λ i. exact ._⊗_ (at (sym (digits-div r hc) i)) (conj (at (sym (digits-mod r hc) i))))))
+
+-- a block that is added to
+module _ {l : List ℤ} {out : ℕ} {m : List ℤ} {k w : ℕ} (p : Block l out m k w) {b : List ℤ} {r : ℕ} (hr : r < w) (ws : Rows l out w (blockOverlapped l out m k w) b r) where
+  abbrev from : ℕ → Exact
+  from i = cellAt m (k + i * 5)
+
+  sum-place : (c : ℕ) → out + r * w * 5 + c * 5 ≡ out + (r * w + c) * 5
+  sum-place c = omega arith
 
   own : (c : ℕ) → Same b l (out + (r * w + c) * 5) 5
   own c = rest ws (out + (r * w + c) * 5) 5 (omega arith)
 
   own-is : (c : ℕ) → cellAt b (out + r * w * 5 + c * 5) ≡ cellAt l (out + (r * w + c) * 5)
-  own-is c = ap (cellAt b) (place c) ∙ cell-same (own c)
+  own-is c = ap (cellAt b) (sum-place c) ∙ cell-same (own c)
 
-  pub row-asks : Row b (out + r * w * 5) m (k + r * 5) k w
-  row-asks =
+  sum-is : (c : ℕ) → blockOverlapped l out m k w (c * w + r) ≡ exact ._⊕_ (cellAt l (out + (c * w + r) * 5)) (exact ._⊗_ (from c) (conj (from r)))
+  sum-is c = λ i. exact ._⊕_ (cellAt l (out + (c * w + r) * 5)) (exact ._⊗_ (from (digits-div c hr i)) (conj (from (digits-mod c hr i))))
+
+  pub added-row-asks : AddedRow b out m k w r
+  added-row-asks =
       record {
-        room = omega (arith, p .room, long ws, block-in hr w);
-        scale = p .factors r hr;
-        factors = p .factors;
-        sums = λ c hc. subst (λ (at : ℕ). Sum b at (cellAt m (k + r * 5) .exp + cellAt m (k + c * 5) .exp)) (sym (place c)) (sum-same (own c) (p .sums r c hr hc));
+        column = column-asks (p .room) hr ws (λ c hc. subst Fits (sym (sum-is c))
+            (sum-fits (from c) (conj (from r)) (p .factors c (omega arith) .coords) (conj-coords 1 28 (from r) (p .factors r hr .coords)) (cellAt l (out + (c * w + r) * 5)) (p .sums c r (omega arith) hr .small)));
+        row = record {
+          room = omega (arith, p .room, long ws, block-in hr w);
+          entries = record { scale = p .factors r hr; factors = p .factors };
+          sums = λ c hc. subst (λ (at : ℕ). Sum b at (from r .exp + from c .exp)) (sym (sum-place c)) (sum-same (own c) (p .sums r c hr hc));
+        };
+        mirror = λ c hc.
+            ap conj (column-value (p .room) hr ws c hc ∙ sum-is c) ∙ sum-mirror (cellAt l (out + (c * w + r) * 5)) (from c) (from r)
+            ∙ ap (λ (a : Exact). exact ._⊕_ a (exact ._⊗_ (from r) (conj (from c)))) (p .hermitian r c hr (omega arith) ∙ sym (own-is c));
       }
 
-  pub row-more : {n : List ℤ} → n ≡ fill b (out + r * w * 5) w (λ (c : ℕ). overlapped b (out + r * w * 5 + c * 5) (cellAt m (k + r * 5)) m (k + c * 5)) → Rows l out m k w n (r + 1)
-  row-more f =
-      record {
-        sized = λ k. le-refl 5;
-        count = omega (arith, block-in hr w);
-        is =
-            f
-            ∙ blocks-same 5 b (out + r * w * 5) w _ (λ (c : ℕ). cellWords (blockOverlapped l out m k w (r * w + c)))
-            (λ c hc. ap cellWords (λ i. exact ._⊕_ (own-is c i) (exact ._⊗_ (cellAt m (k + sym (digits-div r hc) i * 5)) (conj (cellAt m (k + sym (digits-mod r hc) i * 5))))))
-            ∙ ap (λ (n : List ℤ). blocks 5 n (out + r * w * 5) w (λ (c : ℕ). cellWords (blockOverlapped l out m k w (r * w + c)))) (ws .is)
-            ∙ blocks-more 5 l out (r * w) w (λ (i : ℕ). cellWords (blockOverlapped l out m k w i))
-            ∙ ap (λ (n : ℕ). blocks 5 l out n (λ (i : ℕ). cellWords (blockOverlapped l out m k w i))) rows;
-      }
-    where
-      rows : r * w + w ≡ (r + 1) * w
-      rows = omega arith
+  pub added-row-more : {n : List ℤ} → n ≡ fill b (out + r * w * 5) w (λ (c : ℕ). overlapped b (out + r * w * 5 + c * 5) (from r) m (k + c * 5)) → Rows l out w (blockOverlapped l out m k w) n (r + 1)
+  added-row-more e = rows-more (p .room) hr ws
+      (e ∙ blocks-same 5 b (out + r * w * 5) w _ _ (λ c hc. ap cellWords (λ i. exact ._⊕_ (own-is c i) (exact ._⊗_ (from (sym (digits-div r hc) i)) (conj (from (sym (digits-mod r hc) i)))))))

@@ -1,7 +1,10 @@
 pub mod Words
+pub mod Finding
+pub mod Sizes
 pub mod Adding
 pub mod Summing
 pub mod Recording
+pub mod Rising
 pub mod Linking
 pub mod Whole
 pub mod Branching

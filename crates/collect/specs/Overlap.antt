@@ -1,40 +1,90 @@
--- Overlaps of a Kraus matrix's entries, added to a block in words, and what that asks.
+-- Overlaps of a Kraus matrix's entries, written as a block in words or added to one, and what that asks.
 use mathlib.Core.Path.{_≡_}
 use mathlib.Core.Bool.{true}
 use mathlib.Core.List.{List}
-use Prim.Native.Nat.{ℕ, _+_, _*_, _/_, _%_, _<_, _≤_}
+use Prim.Native.Nat.{ℕ, _+_, _*_, _/_, _%_, _^_, _<_, _≤_}
 use lib.ListN.{length}
 use lib.IntN.{ℤ}
 use Rattle.scalar.specs.Exact.{Exact, exact, conj, isLowest}
-use Rattle.scalar.specs.Cells.{cellSize, cellAt, exponentAt}
-use Rattle.scalar.specs.Inner.{Room}
+use Rattle.scalar.specs.Cells.{cellSize, cellAt, exponentAt, zeroAt}
+use Rattle.scalar.specs.Inner.{Within, Room}
 use Rattle.matrix.specs.Factors.{Factor}
-use Rattle.channel.specs.Layout.{entrySize, blockSize}
 
--- the number at `at` of l plus x times the conjugate of the number at q of m
+-- x times the conjugate of the number at q of m
+abbrev pub overlap : Exact → List ℤ → ℕ → Exact
+overlap x m q = exact ._⊗_ x (conj (cellAt m q))
+
+-- the number at `at` of l plus that
 abbrev pub overlapped : List ℤ → ℕ → Exact → List ℤ → ℕ → Exact
-overlapped l at x m q = exact ._⊕_ (cellAt l at) (exact ._⊗_ x (conj (cellAt m q)))
+overlapped l at x m q = exact ._⊕_ (cellAt l at) (overlap x m q)
 
--- entry i of the block at `out`, row by row, with entry r times conj(entry c) of the w entries at k added
+-- entry i, row by row, of the block of the w entries at k: entry r times conj(entry c)
+abbrev pub blockOverlap : List ℤ → ℕ → ℕ → ℕ → Exact
+blockOverlap m k w i = overlap (cellAt m (k + i / w * cellSize)) m (k + i % w * cellSize)
+
+-- entry i of the block at `out` with that added
 abbrev pub blockOverlapped : List ℤ → ℕ → List ℤ → ℕ → ℕ → ℕ → Exact
-blockOverlapped l out m k w i = overlapped l (out + i * entrySize) (cellAt m (k + i / w * cellSize)) m (k + i % w * cellSize)
+blockOverlapped l out m k w i = overlapped l (out + i * cellSize) (cellAt m (k + i / w * cellSize)) m (k + i % w * cellSize)
+
+-- a number whose conjugate can be taken
+pub record Readable (l : List ℤ) (at : ℕ) : Type 0 where
+  pub room : at + 5 ≤ length l
+  pub exponent : exponentAt l at ≡ true
+  pub size : Within (2 ^ 62) (cellAt l at .num)
 
 -- a sum in lowest form, to which a term over 2^e can be added
 pub record Sum (l : List ℤ) (at e : ℕ) : Type 0 where
-  pub room : at + entrySize ≤ length l
+  pub room : at + 5 ≤ length l
   pub exponent : exponentAt l at ≡ true
   pub lowest : isLowest (cellAt l at) ≡ true
   pub small : Room e (cellAt l at)
 
+-- a factor at p, and w factors from k on
+pub record Entries (m : List ℤ) (p k w : ℕ) : Type 0 where
+  pub scale : Factor m p
+  pub factors : (c : ℕ) → c < w → Factor m (k + c * 5)
+
 -- w sums from `to` on, to which the number at p times the conjugates of the w numbers from k on can be added
 pub record Row (l : List ℤ) (to : ℕ) (m : List ℤ) (p k w : ℕ) : Type 0 where
-  pub room : to + w * entrySize ≤ length l
-  pub scale : Factor m p
-  pub factors : (c : ℕ) → c < w → Factor m (k + c * cellSize)
-  pub sums : (c : ℕ) → c < w → Sum l (to + c * entrySize) (cellAt m p .exp + cellAt m (k + c * cellSize) .exp)
+  pub room : to + w * 5 ≤ length l
+  pub entries : Entries m p k w
+  pub sums : (c : ℕ) → c < w → Sum l (to + c * 5) (cellAt m p .exp + cellAt m (k + c * 5) .exp)
 
--- w·w sums from `out` on, to which the overlaps of the w numbers from k on can be added
+-- the first r numbers of column r of a block of w rows at `out`
+pub record Column (l : List ℤ) (out w r : ℕ) : Type 0 where
+  pub inside : r < w
+  pub room : out + w * w * 5 ≤ length l
+  pub cells : (c : ℕ) → c < r → Readable l (out + (c * w + r) * 5)
+
+-- a number, and a place for its conjugate, which stands there if the number at q of m is zero
+pub record Mirrored (l : List ℤ) (from at : ℕ) (m : List ℤ) (q : ℕ) : Type 0 where
+  pub source : Readable l from
+  pub room : at + 5 ≤ length l
+  pub exponent : exponentAt l at ≡ true
+  pub factor : q + 5 ≤ length m
+  pub there : zeroAt m q ≡ true → conj (cellAt l from) ≡ cellAt l at
+
+-- row r of the block of the w factors from k on, where column r has its first r overlaps
+pub record NewRow (l : List ℤ) (out : ℕ) (m : List ℤ) (k w r : ℕ) : Type 0 where
+  pub column : Column l out w r
+  pub factors : (c : ℕ) → c < w → Factor m (k + c * 5)
+  pub mirror : (c : ℕ) → c < r → conj (cellAt l (out + (c * w + r) * 5)) ≡ overlap (cellAt m (k + r * 5)) m (k + c * 5)
+
+-- row r of a block of sums, where overlaps are added to the first r of column r
+pub record AddedRow (l : List ℤ) (out : ℕ) (m : List ℤ) (k w r : ℕ) : Type 0 where
+  pub column : Column l out w r
+  pub row : Row l (out + r * w * 5) m (k + r * 5) k w
+  pub mirror : (c : ℕ) → c < r → conj (cellAt l (out + (c * w + r) * 5)) ≡ overlapped l (out + r * w * 5 + c * 5) (cellAt m (k + r * 5)) m (k + c * 5)
+
+-- a place for the block of the w factors from k on
+pub record NewBlock (l : List ℤ) (out : ℕ) (m : List ℤ) (k w : ℕ) : Type 0 where
+  pub room : out + w * w * 5 ≤ length l
+  pub entries : k + w * 5 ≤ length m
+  pub factors : (i : ℕ) → i < w → Factor m (k + i * 5)
+
+-- w·w sums from `out` on, a Hermitian matrix, to which the overlaps of the w numbers from k on can be added
 pub record Block (l : List ℤ) (out : ℕ) (m : List ℤ) (k w : ℕ) : Type 0 where
-  pub room : out + blockSize w ≤ length l
-  pub factors : (i : ℕ) → i < w → Factor m (k + i * cellSize)
-  pub sums : (r c : ℕ) → r < w → c < w → Sum l (out + (r * w + c) * entrySize) (cellAt m (k + r * cellSize) .exp + cellAt m (k + c * cellSize) .exp)
+  pub room : out + w * w * 5 ≤ length l
+  pub factors : (i : ℕ) → i < w → Factor m (k + i * 5)
+  pub sums : (r c : ℕ) → r < w → c < w → Sum l (out + (r * w + c) * 5) (cellAt m (k + r * 5) .exp + cellAt m (k + c * 5) .exp)
+  pub hermitian : (r c : ℕ) → r < w → c < w → conj (cellAt l (out + (c * w + r) * 5)) ≡ cellAt l (out + (r * w + c) * 5)

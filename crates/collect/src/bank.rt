@@ -2,8 +2,8 @@ use channel::layout::store_from;
 use matrix::words::is_zero;
 use scalar::cells::CELL;
 ghost use mathlib.Core.Path.{_≡_};
-ghost use Prim.Native.Nat.{_*_, _<_};
-ghost use Rattle.collect.specs.Bank.{storeOf, survives, has, isFirst, Branch, Branches};
+ghost use Prim.Native.Nat.{ℕ, _<_, _≤_};
+ghost use Rattle.collect.specs.Bank.{storeOf, survives, has, isFirst, Branch, Branches, Found};
 
 // The store of branch j of the bank at `at`.
 pub fn branch_store(work: &[i64], at: usize, d: usize, j: usize) -> u64
@@ -36,18 +36,26 @@ pub fn has_store(work: &[i64], at: usize, d: usize, j: usize, store: u64) -> boo
     is_alive(work, at, d, j)
 }
 
+// The first branch from branch b on, and before branch n, that survives with this store; n where there is none.
+pub fn find_branch(work: &[i64], at: usize, d: usize, b: usize, n: usize, store: u64) -> usize
+    requires { ⌜ (b ≤ n) × ((j : ℕ) → j < n → Branch (now work) at d j) ⌝ }
+    ensures { λ r. ⌜ Found (has (now (work .entry)) at d store) b n r ⌝ }
+{
+    let mut j = b;
+    while j < n {
+        if has_store(work, at, d, j, store) {
+            return j;
+        }
+        j += 1;
+    }
+    j
+}
+
 // Whether no branch before branch b survives with its store.
 pub fn is_first(work: &[i64], at: usize, d: usize, b: usize) -> bool
     requires { ⌜ Branches (now work) at d b ⌝ }
     ensures { λ r. ⌜ r ≡ isFirst (now (work .entry)) at d b ⌝ }
 {
     let store = branch_store(work, at, d, b);
-    let mut j = 0;
-    while j < b {
-        if has_store(work, at, d, j, store) {
-            return false;
-        }
-        j += 1;
-    }
-    true
+    find_branch(work, at, d, 0, b, store) == b
 }

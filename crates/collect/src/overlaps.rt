@@ -1,34 +1,109 @@
-use channel::layout::ENTRY;
+use matrix::words::clear;
 use scalar::Scalar;
-use scalar::cells::CELL;
 use scalar::cells::read_cell;
 use scalar::cells::write_cell;
 use scalar::cells::zero_at;
 use scalar::numerators::fma;
-use scalar::numerators::neg4;
+use scalar::numerators::reduce;
 ghost use mathlib.Core.Path.{_≡_};
-ghost use Prim.Native.Nat.{_+_, _*_};
+ghost use mathlib.Core.Bool.{not};
+ghost use Prim.Native.Nat.{_+_, _*_, _^_, _≤_};
+ghost use lib.ListN.{length};
 ghost use lib.Seq.{sets};
-ghost use Rattle.scalar.specs.Exact.{conj};
-ghost use Rattle.scalar.specs.Calls.{value, scalarOf};
-ghost use Rattle.scalar.specs.Cells.{cellSize, cellAt, cellWords, fill};
-ghost use Rattle.scalar.specs.Inner.{Coords};
+ghost use Rattle.algebra.specs.Quadratic.{conjugate};
+ghost use Rattle.scalar.specs.Exact.{root2, numbers, exact, conj};
+ghost use Rattle.scalar.specs.Calls.{numberOf, listOf, value, scalarOf};
+ghost use Rattle.scalar.specs.Cells.{cellAt, cellWords, zeroAt, fill};
+ghost use Rattle.scalar.specs.Inner.{Within, Coords};
 ghost use Rattle.matrix.specs.Factors.{Factor};
-ghost use Rattle.channel.specs.Layout.{entrySize};
-ghost use Rattle.collect.specs.Overlap.{overlapped, blockOverlapped, Sum, Row, Block};
+ghost use Rattle.collect.specs.Overlap.{overlap, overlapped, blockOverlap, blockOverlapped, Readable, Sum, Entries, Row, Column, Mirrored, NewRow, AddedRow, NewBlock, Block};
+ghost use Rattle.collect.specs.Bank.{Found};
 
 // The conjugate of the scalar at `at`.
 fn read_conj(s: &[i64], at: usize) -> Scalar
-    requires { ⌜ Factor (now s) at ⌝ }
+    requires { ⌜ Readable (now s) at ⌝ }
     ensures { λ r. ⌜ r ≡ scalarOf (conj (cellAt (now (s .entry)) at)) ⌝ }
 {
     let v = read_cell(s, at);
     let x = v.n;
-    let y = neg4(x);
     Scalar {
-        n: [x[0], x[1], y[2], y[3]],
+        n: [x[0], x[1], -x[2], -x[3]],
         e: v.e,
     }
+}
+
+// Write the conjugate of the scalar at `from` to `at`.
+fn write_conj(s: &mut [i64], from: usize, at: usize)
+    requires { ⌜ Readable (now s) from × (at + 5 ≤ length (now s)) ⌝ }
+    ensures { λ _. ⌜ now (s .exit) ≡ sets (now (s .entry)) at (cellWords (conj (cellAt (now (s .entry)) from))) ⌝ }
+{
+    let v = read_conj(s, from);
+    write_cell(s, at, v);
+}
+
+// The numerators of x times the conjugate of y, by nine products.
+fn conj_product(x: [i64; 4], y: [i64; 4]) -> [i64; 4]
+    requires { ⌜ Within (2 ^ 28) (numberOf x) × Within (2 ^ 28) (numberOf y) ⌝ }
+    ensures { λ r. ⌜ r ≡ listOf (numbers ._⊗_ (numberOf x) (conjugate root2 (numberOf y))) ⌝ }
+{
+    let x0 = x[0];
+    let x1 = x[1];
+    let x2 = x[2];
+    let x3 = x[3];
+    let y0 = y[0];
+    let y1 = y[1];
+    let y2 = y[2];
+    let y3 = y[3];
+    let a = x0 * y0;
+    let b = x1 * y1;
+    let c = (x0 + x1) * (y0 + y1) - a - b;
+    let p = x2 * y2;
+    let q = x3 * y3;
+    let r = (x2 + x3) * (y2 + y3) - p - q;
+    let u0 = x0 + x2;
+    let u1 = x1 + x3;
+    let v0 = y0 - y2;
+    let v1 = y1 - y3;
+    let s = u0 * v0;
+    let t = u1 * v1;
+    let w = (u0 + u1) * (v0 + v1) - s - t;
+    let d = a + 2 * b;
+    let e = p + 2 * q;
+    let m0 = d + e;
+    let m1 = c + r;
+    let m2 = s + 2 * t - d + e;
+    let m3 = w - c + r;
+    [m0, m1, m2, m3]
+}
+
+// x times the conjugate of y
+fn times_conj(x: Scalar, y: Scalar) -> Scalar
+    requires { ⌜ Coords 1 28 (value x) × Coords 1 28 (value y) ⌝ }
+    ensures { λ r. ⌜ r ≡ scalarOf (exact ._⊗_ (value x) (conj (value y))) ⌝ }
+{
+    let u = x.n;
+    let v = y.n;
+    let e = x.e + y.e;
+    let z = conj_product(u, v);
+    reduce(z[0], z[1], z[2], z[3], e)
+}
+
+// Write x times the conjugate of the scalar at q of `work` to `at` of `result`.
+fn write_overlap(result: &mut [i64], at: usize, x: Scalar, work: &[i64], q: usize)
+    requires { ⌜ (at + 5 ≤ length (now result)) × (Coords 1 28 (value x) × Factor (now work) q) ⌝ }
+    ensures { λ _. ⌜ now (result .exit) ≡ sets (now (result .entry)) at (cellWords (overlap (value x) (now (work .entry)) q)) ⌝ }
+{
+    if zero_at(work, q) {
+        let o = Scalar {
+            n: [0, 0, 0, 0],
+            e: 0,
+        };
+        write_cell(result, at, o);
+        return;
+    }
+    let y = read_cell(work, q);
+    let p = times_conj(x, y);
+    write_cell(result, at, p);
 }
 
 // Add x times the conjugate of the scalar at q of `work` to the scalar at `at` of `result`; a zero is passed over.
@@ -45,30 +120,136 @@ fn add_overlap(result: &mut [i64], at: usize, x: Scalar, work: &[i64], q: usize)
     write_cell(result, at, v);
 }
 
-// Add the scalar at p of `work` times the conjugates of the w scalars from k on to the w scalars from `to` on of `result`; a zero is passed over.
-fn add_row(result: &mut [i64], to: usize, work: &[i64], p: usize, k: usize, w: usize)
-    requires { ⌜ Row (now result) to (now work) p k w ⌝ }
-    ensures { λ _. ⌜ now (result .exit) ≡ fill (now (result .entry)) to w (λ c. overlapped (now (result .entry)) (to + c * entrySize) (cellAt (now (work .entry)) p) (now (work .entry)) (k + c * cellSize)) ⌝ }
+// Write the scalar at p of `work` times the conjugates of the w scalars from k on to `to` on of `result`.
+fn write_row(result: &mut [i64], to: usize, work: &[i64], p: usize, k: usize, w: usize)
+    requires { ⌜ (to + w * 5 ≤ length (now result)) × Entries (now work) p k w ⌝ }
+    ensures { λ _. ⌜ now (result .exit) ≡ fill (now (result .entry)) to w (λ c. overlap (cellAt (now (work .entry)) p) (now (work .entry)) (k + c * 5)) ⌝ }
 {
-    if zero_at(work, p) {
-        return;
-    }
     let x = read_cell(work, p);
     let mut c = 0;
     while c < w {
-        add_overlap(result, to + c * ENTRY, x, work, k + c * CELL);
+        write_overlap(result, to + c * 5, x, work, k + c * 5);
         c += 1;
     }
 }
 
-// Add entry r times the conjugate of entry c of the w scalars from k on of `work` to entry (r, c) of the block at `out` of `result`, for all r and c.
+// Add the scalar at p of `work` times the conjugates of the w scalars from k on to the w scalars from `to` on of `result`.
+fn add_row(result: &mut [i64], to: usize, work: &[i64], p: usize, k: usize, w: usize)
+    requires { ⌜ Row (now result) to (now work) p k w ⌝ }
+    ensures { λ _. ⌜ now (result .exit) ≡ fill (now (result .entry)) to w (λ c. overlapped (now (result .entry)) (to + c * 5) (cellAt (now (work .entry)) p) (now (work .entry)) (k + c * 5)) ⌝ }
+{
+    let x = read_cell(work, p);
+    let mut c = 0;
+    while c < w {
+        add_overlap(result, to + c * 5, x, work, k + c * 5);
+        c += 1;
+    }
+}
+
+// Write the conjugates of the first r scalars of column r of the block at `out`, of w columns, to row r.
+fn mirror_column(s: &mut [i64], out: usize, w: usize, r: usize)
+    requires { ⌜ Column (now s) out w r ⌝ }
+    ensures { λ _. ⌜ now (s .exit) ≡ fill (now (s .entry)) (out + r * w * 5) r (λ c. conj (cellAt (now (s .entry)) (out + (c * w + r) * 5))) ⌝ }
+{
+    let mut c = 0;
+    while c < r {
+        write_conj(s, out + (c * w + r) * 5, out + r * w * 5 + c * 5);
+        c += 1;
+    }
+}
+
+// Write the conjugate of the scalar at `from` to `at`, where it stands already if the scalar at q of `work` is zero.
+fn mirror_sum(result: &mut [i64], from: usize, at: usize, work: &[i64], q: usize)
+    requires { ⌜ Mirrored (now result) from at (now work) q ⌝ }
+    ensures { λ _. ⌜ now (result .exit) ≡ sets (now (result .entry)) at (cellWords (conj (cellAt (now (result .entry)) from))) ⌝ }
+{
+    if zero_at(work, q) {
+        return;
+    }
+    write_conj(result, from, at);
+}
+
+// The same, where the conjugates of those stand already that belong to a zero of the scalars from k on of `work`.
+fn mirror_sums(result: &mut [i64], out: usize, work: &[i64], k: usize, w: usize, r: usize)
+    requires { ⌜ AddedRow (now result) out (now work) k w r ⌝ }
+    ensures { λ _. ⌜ now (result .exit) ≡ fill (now (result .entry)) (out + r * w * 5) r (λ c. conj (cellAt (now (result .entry)) (out + (c * w + r) * 5))) ⌝ }
+{
+    let mut c = 0;
+    while c < r {
+        mirror_sum(
+            result,
+            out + (c * w + r) * 5,
+            out + r * w * 5 + c * 5,
+            work,
+            k + c * 5,
+        );
+        c += 1;
+    }
+}
+
+// Write row r of the block of the w scalars from k on of `work`, whose rows before it are written: from the diagonal on by products, and before it by column r.
+fn write_block_row(result: &mut [i64], out: usize, work: &[i64], k: usize, w: usize, r: usize)
+    requires { ⌜ NewRow (now result) out (now work) k w r ⌝ }
+    ensures { λ _. ⌜ now (result .exit) ≡ fill (now (result .entry)) (out + r * w * 5) w (λ c. overlap (cellAt (now (work .entry)) (k + r * 5)) (now (work .entry)) (k + c * 5)) ⌝ }
+{
+    mirror_column(result, out, w, r);
+    let p = k + r * 5;
+    write_row(result, out + r * w * 5 + r * 5, work, p, p, w - r);
+}
+
+// Add row r of the block of the w scalars from k on of `work`, where the rows before it are added; a zero is passed over.
+fn add_block_row(result: &mut [i64], out: usize, work: &[i64], k: usize, w: usize, r: usize)
+    requires { ⌜ AddedRow (now result) out (now work) k w r ⌝ }
+    ensures { λ _. ⌜ now (result .exit) ≡ fill (now (result .entry)) (out + r * w * 5) w (λ c. overlapped (now (result .entry)) (out + r * w * 5 + c * 5) (cellAt (now (work .entry)) (k + r * 5)) (now (work .entry)) (k + c * 5)) ⌝ }
+{
+    let p = k + r * 5;
+    if zero_at(work, p) {
+        return;
+    }
+    mirror_sums(result, out, work, k, w, r);
+    add_row(result, out + r * w * 5 + r * 5, work, p, p, w - r);
+}
+
+// The first of the w scalars from k on of `work`, from scalar r on, that is not zero; w where there is none.
+fn next_entry(work: &[i64], k: usize, w: usize, r: usize) -> usize
+    requires { ⌜ (r ≤ w) × (k + w * 5 ≤ length (now work)) ⌝ }
+    ensures { λ e. ⌜ Found (λ i. not (zeroAt (now (work .entry)) (k + i * 5))) r w e ⌝ }
+{
+    let mut i = r;
+    while i < w {
+        if !zero_at(work, k + i * 5) {
+            return i;
+        }
+        i += 1;
+    }
+    i
+}
+
+// Write entry r times the conjugate of entry c of the w scalars from k on of `work` to entry (r, c) of the block at `out` of `result`, for all r and c.
+pub fn write_overlaps(result: &mut [i64], out: usize, work: &[i64], k: usize, w: usize)
+    requires { ⌜ NewBlock (now result) out (now work) k w ⌝ }
+    ensures { λ _. ⌜ now (result .exit) ≡ fill (now (result .entry)) out (w * w) (blockOverlap (now (work .entry)) k w) ⌝ }
+{
+    let mut r = 0;
+    while r < w {
+        let e = next_entry(work, k, w, r);
+        clear(result, out + r * w * 5, (e - r) * w * 5);
+        if e == w {
+            return;
+        }
+        write_block_row(result, out, work, k, w, e);
+        r = e + 1;
+    }
+}
+
+// Add them to the entries of a block that is Hermitian.
 pub fn add_overlaps(result: &mut [i64], out: usize, work: &[i64], k: usize, w: usize)
     requires { ⌜ Block (now result) out (now work) k w ⌝ }
     ensures { λ _. ⌜ now (result .exit) ≡ fill (now (result .entry)) out (w * w) (blockOverlapped (now (result .entry)) out (now (work .entry)) k w) ⌝ }
 {
     let mut r = 0;
     while r < w {
-        add_row(result, out + r * w * ENTRY, work, k + r * CELL, k, w);
+        add_block_row(result, out, work, k, w, r);
         r += 1;
     }
 }

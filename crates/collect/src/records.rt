@@ -6,7 +6,7 @@ use channel::layout::RECORD_HEAD;
 use channel::layout::record_size;
 use scalar::cells::CELL;
 ghost use mathlib.Core.Path.{_≡_};
-ghost use mathlib.Core.Bool.{cond};
+ghost use mathlib.Core.Bool.{true, cond};
 ghost use Prim.Native.Nat.{_+_, _*_, _<_, _≤_};
 ghost use lib.ListN.{length};
 ghost use lib.Seq.{sets};
@@ -14,7 +14,7 @@ ghost use Rattle.algebra.specs.Words.{blocks};
 ghost use Rattle.channel.specs.Layout.{headerSize, recordSize, recordAt, side};
 ghost use Rattle.collect.specs.Bank.{storeOf, starts, storesOf, recordOf, records, Bank, Begun};
 
-// Write the record of the store of branch b, of a bank of `count` branches, to `to` on, as the last of a chain.
+// Write the record of the store of branch b, the first to survive with it, of a bank of `count` branches, to `to` on, as the last of a chain.
 fn write_record(
     result: &mut [i64],
     to: usize,
@@ -24,7 +24,7 @@ fn write_record(
     count: usize,
     b: usize,
 )
-    requires { ⌜ (b < count) × ((to + recordSize (side d) ≤ length (now result)) × Bank (now work) at d count) ⌝ }
+    requires { ⌜ (b < count) × ((starts (now work) at d b ≡ true) × ((to + recordSize (side d) ≤ length (now result)) × Bank (now work) at d count)) ⌝ }
     ensures { λ _. ⌜ now (result .exit) ≡ sets (now (result .entry)) to (recordOf (now (work .entry)) at d count (storeOf (now (work .entry)) at d b)) ⌝ }
 {
     let n = d * d * CELL;

@@ -1,85 +1,132 @@
 -- `collect::blocks::write_block` meets its contract.
-use mathlib.Core.Path.{ap, _∙_}
-use mathlib.Core.Bool.{cond}
-use Prim.Native.Nat.{ℕ, _*_, _-_, _≤_}
+use mathlib.Core.Path.{_≡_, subst}
+use mathlib.Core.Bool.{true}
+use Prim.Native.Nat.{ℕ, _+_, _*_, _-_, _<_, _≤_}
 use native.Mathlib.Omega.{arith}
-use Rattle.scalar.specs.Cells.{fill}
+use lib.ListN.{length}
 use Rattle.channel.proofs.Words.{square-small}
-use Rattle.collect.specs.Overlap.{blockOverlapped}
-use Rattle.collect.specs.Bank.{place, storeOf, has}
-use Rattle.collect.proofs.Summing.{bank-branch, Summed, Cleared, none-summed, summed-more, all-summed, cleared-room, summed-long, addable}
+use Rattle.branches.specs.Bank.{branchSize}
+use Rattle.collect.specs.Bank.{place, storeOf, has, Found}
+use Rattle.collect.proofs.Summing.{bank-branch, Summed, First, first-summed, first-room, summed-more, summed-past, all-summed, summed-long, writable, addable}
 use Rattle.collect.proofs.blocks.write_block.Statement.{statement}
 use Rattle.collect.proofs.blocks.write_block.Tie as tie
 
 abbrev Inv-loop : tie.InvT-loop
-Inv-loop result₀ out work at d count b store w j₀ result j = (j ≤ count) × Summed result₀ out work at d (storeOf work at d b) result j
+Inv-loop result₀ out work at d count b store w p j₀ result j =
+    (j ≤ count) × ((j < count → has work at d (storeOf work at d b) j ≡ true) × Summed result₀ out work at d (storeOf work at d b) result j)
 
 abbrev μ-loop : tie.MeasureT-loop
-μ-loop result₀ out work at d count b store w j₀ result j = count - j
+μ-loop result₀ out work at d count b store w p j₀ result j = count - j
 
-module _ (k : tie.After-clear Inv-loop μ-loop) where
-  abbrev start : tie.Start Inv-loop μ-loop
-  start = k .before .before .before
+abbrev start : tie.After-write-overlaps Inv-loop μ-loop → tie.Start Inv-loop μ-loop
+start k = k .before .before .before
 
-  zeroed : Cleared (start .args .result .now) (start .args .out) (start .args .d) (k .clear .last .0)
-  zeroed = record { room = start .pre .1 .0; is = k .clear .ensures }
+begun : (k : tie.After-write-overlaps Inv-loop μ-loop) → let n = start k .args in First (n .result .now) (n .out) (n .work .now) (n .at) (n .d) (n .b) (k .write-overlaps .last .0)
+begun k = let s = start k in record { first = s .pre .1 .0; room = s .pre .1 .1 .0; is = k .write-overlaps .ensures }
+
+-- what was found, for the store of branch b
+found : (k : tie.After-write-overlaps Inv-loop μ-loop) {i j : ℕ}
+    → let n = start k .args in
+    Found (has (n .work .now) (n .at) (n .d) (k .before .before .branch-store .result)) i (n .count) j → Found (has (n .work .now) (n .at) (n .d) (storeOf (n .work .now) (n .at) (n .d) (n .b))) i (n .count) j
+found k {i} {j} f = let n = start k .args in subst (λ (x : ℕ). Found (has (n .work .now) (n .at) (n .d) x) i (n .count) j) (k .before .before .branch-store .ensures) f
+
+module _ (s : tie.Start Inv-loop μ-loop) where
+  branch-in : (j : ℕ) → j < s .args .count → place (s .args .at) (s .args .d) j + branchSize (s .args .d) ≤ length (s .args .work .now)
+  branch-in j h = bank-branch (s .pre .1 .1 .1) j h .room
+
+  own-in : place (s .args .at) (s .args .d) (s .args .b) + branchSize (s .args .d) ≤ length (s .args .work .now)
+  own-in = branch-in (s .args .b) (s .pre .0)
+
+module _ (t : tie.In-loop Inv-loop μ-loop) where
+  abbrev first : tie.After-write-overlaps Inv-loop μ-loop
+  first = t .before .before .before .before
+
+  next-in : place (start first .args .at) (start first .args .d) (t .before .loop .j) + branchSize (start first .args .d) ≤ length (start first .args .work .now)
+  next-in = branch-in (start first) (t .before .loop .j) (t .loop-test .taken)
 
 branch-store-requires : tie.Need-branch-store-requires Inv-loop μ-loop
-branch-store-requires c κs = bank-branch (c .pre .1 .1) (c .args .b) (c .pre .0)
+branch-store-requires c κs = bank-branch (c .pre .1 .1 .1) (c .args .b) (c .pre .0)
 
 mul-w : tie.Need-mul-w Inv-loop μ-loop
-mul-w c = omega (arith, square-small (c .before .args .d) (c .before .pre .1 .1 .dim))
+mul-w c = omega (arith, square-small (c .before .args .d) (c .before .pre .1 .1 .1 .dim))
 
-mul-clear : tie.Need-mul-clear Inv-loop μ-loop
-mul-clear c = omega (arith, c .before .before .pre .1 .0)
+mul-p : tie.Need-mul-p Inv-loop μ-loop
+mul-p c = omega (arith, own-in (c .before))
 
-mul-clear-2 : tie.Need-mul-clear-2 Inv-loop μ-loop
-mul-clear-2 c = omega (arith, c .before .before .pre .1 .0)
+add-p : tie.Need-add-p Inv-loop μ-loop
+add-p c = omega (arith, own-in (c .before))
 
-clear-requires : tie.Need-clear-requires Inv-loop μ-loop
-clear-requires c κs = c .before .before .pre .1 .0
+mul-p-2 : tie.Need-mul-p-2 Inv-loop μ-loop
+mul-p-2 c = omega (arith, own-in (c .before))
+
+add-p-2 : tie.Need-add-p-2 Inv-loop μ-loop
+add-p-2 c = omega (arith, own-in (c .before))
+
+write-overlaps-requires : tie.Need-write-overlaps-requires Inv-loop μ-loop
+write-overlaps-requires c κs = let s = c .before .before in writable (s .pre .1 .1 .1) (s .pre .0) (s .pre .1 .1 .0)
+
+add-find-branch : tie.Need-add-find-branch Inv-loop μ-loop
+add-find-branch c = let s = start (c .before) in omega (arith, s .pre .0, s .pre .1 .1 .1 .few)
+
+find-branch-requires : tie.Need-find-branch-requires Inv-loop μ-loop
+find-branch-requires c κs = let s = start (c .before) in (omega (arith, s .pre .0), λ j h. bank-branch (s .pre .1 .1 .1) j h)
 
 loop-holds : tie.Need-loop-holds Inv-loop μ-loop
 loop-holds c =
-    let k = c .before in
-    let s = k .before .before .before in
-    (omega arith, none-summed (zeroed k) (s .args .work .now) (s .args .at) (storeOf (s .args .work .now) (s .args .at) (s .args .d) (s .args .b)))
+    let k = c .before .before in
+    let f = found k (c .find-branch .ensures) in
+    (f .high, (f .here, summed-past (first-summed (begun k)) f))
 
-add-branch-requires : tie.Need-add-branch-requires Inv-loop μ-loop
-add-branch-requires c κs =
+mul-q : tie.Need-mul-q Inv-loop μ-loop
+mul-q c = omega (arith, next-in c)
+
+add-q : tie.Need-add-q Inv-loop μ-loop
+add-q c = omega (arith, next-in c)
+
+mul-q-2 : tie.Need-mul-q-2 Inv-loop μ-loop
+mul-q-2 c = omega (arith, next-in c)
+
+add-q-2 : tie.Need-add-q-2 Inv-loop μ-loop
+add-q-2 c = omega (arith, next-in c)
+
+add-overlaps-requires : tie.Need-add-overlaps-requires Inv-loop μ-loop
+add-overlaps-requires c κs =
     let t = c .before in
-    let k = t .before .before .before in
-    let s = start k in
-    (bank-branch (s .pre .1 .1) (t .before .loop .j) (t .loop-test .taken), addable (s .pre .1 .1) (s .pre .0) (t .loop-test .taken) (cleared-room (zeroed k)) (t .before .loop .inv .1))
+    let s = start (first t) in
+    addable (s .pre .1 .1 .1) (s .pre .0) (t .loop-test .taken) (first-room (begun (first t))) (t .before .loop .inv .1 .1)
 
-add-j : tie.Need-add-j Inv-loop μ-loop
-add-j c = omega arith
+add-find-branch-2 : tie.Need-add-find-branch-2 Inv-loop μ-loop
+add-find-branch-2 c = omega arith
+
+find-branch-requires-2 : tie.Need-find-branch-requires-2 Inv-loop μ-loop
+find-branch-requires-2 c κs =
+    let t = c .before .before .before in
+    let s = start (first t) in
+    (omega (arith, t .loop-test .taken), λ j h. bank-branch (s .pre .1 .1 .1) j h)
 
 loop-less : tie.Need-loop-less Inv-loop μ-loop
-loop-less c = omega arith
+loop-less c =
+    let t = c .before .before .before .before in
+    omega (arith, t .loop-test .taken, c .find-branch2 .ensures .low)
 
 loop-again : tie.Need-loop-again Inv-loop μ-loop
 loop-again c =
-    let a = c .before in
+    let a = c .before .before in
     let t = a .before .before in
-    let k = t .before .before .before in
-    let l = t .before .loop .result in
-    let n = start k .args in
-    let w = n .d * n .d in
-    let e = ap (λ (x : ℕ). cond (has (n .work .now) (n .at) (n .d) x (t .before .loop .j)) (fill l (n .out) (w * w) (blockOverlapped l (n .out) (n .work .now) (place (n .at) (n .d) (t .before .loop .j)) w)) l) (k .before .before .branch-store .ensures) in
-    (omega arith, summed-more (cleared-room (zeroed k)) (t .before .loop .inv .1) (a .add-branch .ensures ∙ e))
+    let k = first t in
+    let v = t .before .loop .inv in
+    let f = found k (c .find-branch2 .ensures) in
+    (f .high, (f .here, summed-past (summed-more (first-room (begun k)) (v .1 .1) (v .1 .0 (t .loop-test .taken)) (a .add-overlaps .ensures)) f))
 
 same-length : tie.Need-same-length Inv-loop μ-loop
 same-length c =
     let a = c .before in
-    let k = a .before .before in
-    summed-long (zeroed k) (a .loop .inv .1)
+    summed-long (begun (a .before .before .before)) (a .loop .inv .1 .1)
 
 returns : tie.Need-returns Inv-loop μ-loop
 returns c =
     let a = c .before in
-    let k = a .before .before in
-    all-summed (zeroed k) (a .loop .inv .1) (omega (arith, a .loop .inv .0))
+    all-summed (begun (a .before .before .before)) (a .loop .inv .1 .1) (omega (arith, a .loop .inv .0))
 
 pub write-block-spec : {M : Type 1} → statement M
 write-block-spec =
@@ -89,12 +136,21 @@ write-block-spec =
     μ-loop
     branch-store-requires
     mul-w
-    mul-clear
-    mul-clear-2
-    clear-requires
+    mul-p
+    add-p
+    mul-p-2
+    add-p-2
+    write-overlaps-requires
+    add-find-branch
+    find-branch-requires
     loop-holds
-    add-branch-requires
-    add-j
+    mul-q
+    add-q
+    mul-q-2
+    add-q-2
+    add-overlaps-requires
+    add-find-branch-2
+    find-branch-requires-2
     loop-less
     loop-again
     same-length

@@ -7,7 +7,8 @@ use Rattle.scalar.specs.Exact.{Exact, exact}
 use Rattle.scalar.specs.Calls.{value}
 use Rattle.scalar.specs.Cells.{cellAt, cellWords}
 use Rattle.scalar.specs.Inner.{Coords, Room}
-use Rattle.collect.proofs.Adding.{conj-coords, overlap-none}
+use Rattle.collect.proofs.Sizes.{conj-coords}
+use Rattle.collect.proofs.Adding.{factor-readable, overlap-none}
 use borrow.Author.Needs.{needs}
 use Rattle.collect.proofs.overlaps.add_overlap.Statement.{statement}
 use Rattle.collect.proofs.overlaps.add_overlap.Tie as tie
@@ -22,7 +23,7 @@ returns c =
     overlap-none (s .args .result .now) (s .args .at) _ (value (s .args .x)) (s .args .work .now) (s .args .q) (s .pre .0) (sym (z .zero-at .ensures) ∙ c .if1 .taken)
 
 read-conj-requires : tie.Need-read-conj-requires
-read-conj-requires c κs = search needs
+read-conj-requires c κs = factor-readable (c .before .before .pre .1 .1)
 
 read-cell-requires : tie.Need-read-cell-requires
 read-cell-requires c κs = search needs

@@ -11,7 +11,7 @@ use Rattle.scalar.specs.Cells.{cellWords, cellAt}
 use Rattle.scalar.specs.Inner.{Coords}
 use Rattle.scalar.proofs.Cell.{cell-same}
 use Rattle.collect.specs.Overlap.{overlapped, Sum}
-use Rattle.collect.proofs.Adding.{row-none, sum-same}
+use Rattle.collect.proofs.Adding.{sum-same}
 use Rattle.collect.proofs.overlaps.add_row.Statement.{statement}
 use Rattle.collect.proofs.overlaps.add_row.Tie as tie
 
@@ -23,10 +23,10 @@ abbrev μ-loop : tie.MeasureT-loop
 
 module _ (t : tie.In-loop Inv-loop μ-loop) where
   abbrev s : tie.Start Inv-loop μ-loop
-  s = t .before .before .before .before .before
+  s = t .before .before .before
 
   q-in : s .args .k + t .before .loop .c * 5 + 5 ≤ length (s .args .work .now)
-  q-in = s .pre .factors (t .before .loop .c) (t .loop-test .taken) .room
+  q-in = s .pre .entries .factors (t .before .loop .c) (t .loop-test .taken) .room
 
   own : Same (t .before .loop .result) (s .args .result .now) (s .args .to + t .before .loop .c * 5) 5
   own = rest (t .before .loop .inv) (s .args .to + t .before .loop .c * 5) 5 (le-refl _)
@@ -34,16 +34,8 @@ module _ (t : tie.In-loop Inv-loop μ-loop) where
   scale : value (t .before .before .read-cell .result) ≡ cellAt (s .args .work .now) (s .args .p)
   scale = ap value (t .before .before .read-cell .ensures)
 
-zero-at-requires : tie.Need-zero-at-requires Inv-loop μ-loop
-zero-at-requires c κs = c .pre .scale .room
-
-returns : tie.Need-returns Inv-loop μ-loop
-returns c =
-    let z = c .before in
-    row-none (z .before .pre) (sym (z .zero-at .ensures) ∙ c .if1 .taken)
-
 read-cell-requires : tie.Need-read-cell-requires Inv-loop μ-loop
-read-cell-requires c κs = let s = c .before .before .pre .scale in (s .room, s .exponent)
+read-cell-requires c κs = let s = c .pre .entries .scale in (s .room, s .exponent)
 
 loop-holds : tie.Need-loop-holds Inv-loop μ-loop
 loop-holds c = begin (λ k. le-refl 5)
@@ -68,7 +60,7 @@ add-overlap-requires c κs =
     let x = sym (scale t) in
     let n = s t .args in (
       subst (λ (v : Exact). Sum (t .before .loop .result) (n .to + i * 5) (v .exp + cellAt (n .work .now) (n .k + i * 5) .exp)) x (sum-same (own t) (s t .pre .sums i h)),
-      (subst (Coords 1 28) x (s t .pre .scale .coords), s t .pre .factors i h),
+      (subst (Coords 1 28) x (s t .pre .entries .scale .coords), s t .pre .entries .factors i h),
     )
 
 add-c : tie.Need-add-c Inv-loop μ-loop
@@ -88,8 +80,8 @@ loop-again c =
 same-length : tie.Need-same-length Inv-loop μ-loop
 same-length c = long (c .before .loop .inv)
 
-returns-2 : tie.Need-returns-2 Inv-loop μ-loop
-returns-2 c = done (c .before .loop .inv) (c .loop-test .left)
+returns : tie.Need-returns Inv-loop μ-loop
+returns c = done (c .before .loop .inv) (c .loop-test .left)
 
 pub add-row-spec : {M : Type 1} → statement M
 add-row-spec =
@@ -97,8 +89,6 @@ add-row-spec =
     (tie.spec
     Inv-loop
     μ-loop
-    zero-at-requires
-    returns
     read-cell-requires
     loop-holds
     mul-add-overlap
@@ -110,4 +100,4 @@ add-row-spec =
     loop-less
     loop-again
     same-length
-    returns-2)
+    returns)

@@ -76,7 +76,7 @@ write-record-requires : tie.Need-write-record-requires
 write-record-requires c κs =
     let r = c .before in
     let s = start (r .before) in
-    (s .pre .branch, (omega (arith, inside (r .before), place r), s .pre .bank))
+    (s .pre .branch, (is-start (r .before), (omega (arith, inside (r .before), place r), s .pre .bank)))
 
 add-result : tie.Need-add-result
 add-result c =

@@ -14,7 +14,7 @@ use Rattle.collect.proofs.records.write_record.Statement.{statement}
 use Rattle.collect.proofs.records.write_record.Tie as tie
 
 branch : (s : tie.Start) → Branch (s .args .work .now) (s .args .at) (s .args .d) (s .args .b)
-branch s = bank-branch (s .pre .1 .1) (s .args .b) (s .pre .0)
+branch s = bank-branch (s .pre .1 .1 .1) (s .args .b) (s .pre .0)
 
 mul-n : tie.Need-mul-n
 mul-n c = omega (arith, branch c .room)
@@ -62,7 +62,7 @@ mul-low-2 : tie.Need-mul-low-2
 mul-low-2 c = search needs
 
 slice-set-from-low : tie.Need-slice-set-from-low
-slice-set-from-low c = simp length-set (omega (arith, c .before .before .pre .1 .0))
+slice-set-from-low c = simp length-set (omega (arith, c .before .before .pre .1 .1 .0))
 
 add-high-2 : tie.Need-add-high-2
 add-high-2 c = search needs
@@ -71,7 +71,7 @@ mul-high-2 : tie.Need-mul-high-2
 mul-high-2 c = search needs
 
 slice-set-from-high : tie.Need-slice-set-from-high
-slice-set-from-high c = simp length-set (omega (arith, c .before .before .pre .1 .0))
+slice-set-from-high c = simp length-set (omega (arith, c .before .before .pre .1 .1 .0))
 
 add-write-block : tie.Need-add-write-block
 add-write-block c = search needs
@@ -79,7 +79,7 @@ add-write-block c = search needs
 write-block-requires : tie.Need-write-block-requires
 write-block-requires c κs =
     let s = c .before .before .before in
-    (s .pre .0, (simp length-set (omega (arith, s .pre .1 .0)), s .pre .1 .1))
+    (s .pre .0, (s .pre .1 .0, (simp length-set (omega (arith, s .pre .1 .1 .0)), s .pre .1 .1 .1)))
 
 same-length : tie.Need-same-length
 same-length c = ap length (c .before .write-block .ensures) ∙ simp (length-blocks, length-set)

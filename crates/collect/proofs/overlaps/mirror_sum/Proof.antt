@@ -1,0 +1,38 @@
+-- `collect::overlaps::mirror_sum` meets its contract.
+use mathlib.Core.Path.{sym, ap, _∙_}
+use lib.Seq.{sets}
+use Rattle.scalar.specs.Exact.{Exact}
+use Rattle.scalar.specs.Cells.{cellWords}
+use Rattle.collect.proofs.Words.{cell-there}
+use borrow.Author.Needs.{needs}
+use Rattle.collect.proofs.overlaps.mirror_sum.Statement.{statement}
+use Rattle.collect.proofs.overlaps.mirror_sum.Tie as tie
+
+zero-at-requires : tie.Need-zero-at-requires
+zero-at-requires c κs = search needs
+
+returns : tie.Need-returns
+returns c =
+    let z = c .before in
+    let s = z .before in
+    let l = s .args .result .now in
+    sym (ap (λ (v : Exact). sets l (s .args .at) (cellWords v)) (s .pre .there (sym (z .zero-at .ensures) ∙ c .if1 .taken)) ∙ cell-there l (s .args .at) (s .pre .exponent))
+
+write-conj-requires : tie.Need-write-conj-requires
+write-conj-requires c κs = search needs
+
+same-length : tie.Need-same-length
+same-length c = search needs
+
+returns-2 : tie.Need-returns-2
+returns-2 c = search needs
+
+pub mirror-sum-spec : {M : Type 1} → statement M
+mirror-sum-spec =
+    tie.close
+    (tie.spec
+    zero-at-requires
+    returns
+    write-conj-requires
+    same-length
+    returns-2)

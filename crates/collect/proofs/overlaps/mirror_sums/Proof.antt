@@ -1,0 +1,114 @@
+-- `collect::overlaps::mirror_sums` meets its contract.
+use mathlib.Core.Path.{ap}
+use Prim.Native.Nat.{_+_, _*_, _-_, _≤_}
+use native.Mathlib.Nat.{le-refl}
+use native.Mathlib.Omega.{arith}
+use lib.ListN.{length}
+use Rattle.algebra.proofs.Blocks.{begin, again, done, long}
+use Rattle.scalar.specs.Cells.{cellWords}
+use Rattle.collect.proofs.Adding.{Mirroring, column-room, own-room, column-is, mirrored}
+use Rattle.collect.proofs.overlaps.mirror_sums.Statement.{statement}
+use Rattle.collect.proofs.overlaps.mirror_sums.Tie as tie
+
+abbrev Inv-loop : tie.InvT-loop
+Inv-loop result₀ out work k w r c₀ result c = Mirroring result₀ out w r result c
+
+abbrev μ-loop : tie.MeasureT-loop
+μ-loop result₀ out work k w r c₀ result c = r - c
+
+module _ (t : tie.In-loop Inv-loop μ-loop) where
+  abbrev start : tie.Start Inv-loop μ-loop
+  start = t .before .before
+
+  from-in : start .args .out + (t .before .loop .c * start .args .w + start .args .r) * 5 + 5 ≤ length (start .args .result .now)
+  from-in = column-room (start .pre .column) (t .before .loop .inv) (t .loop-test .taken)
+
+  factor-in : start .args .k + t .before .loop .c * 5 + 5 ≤ length (start .args .work .now)
+  factor-in = start .pre .row .entries .factors (t .before .loop .c) (omega (arith, t .loop-test .taken, start .pre .column .inside)) .room
+
+  to-in : start .args .out + start .args .r * start .args .w * 5 + t .before .loop .c * 5 + 5 ≤ length (start .args .result .now)
+  to-in = own-room (start .pre .column) (t .before .loop .inv) (t .loop-test .taken)
+
+loop-holds : tie.Need-loop-holds Inv-loop μ-loop
+loop-holds c = begin (λ k. le-refl 5)
+
+mul-mirror-sum : tie.Need-mul-mirror-sum Inv-loop μ-loop
+mul-mirror-sum c = omega (arith, from-in (c .before))
+
+add-mirror-sum : tie.Need-add-mirror-sum Inv-loop μ-loop
+add-mirror-sum c = omega (arith, from-in (c .before))
+
+mul-mirror-sum-2 : tie.Need-mul-mirror-sum-2 Inv-loop μ-loop
+mul-mirror-sum-2 c = omega (arith, from-in (c .before))
+
+add-mirror-sum-2 : tie.Need-add-mirror-sum-2 Inv-loop μ-loop
+add-mirror-sum-2 c = omega (arith, from-in (c .before))
+
+mul-mirror-sum-3 : tie.Need-mul-mirror-sum-3 Inv-loop μ-loop
+mul-mirror-sum-3 c = omega (arith, to-in (c .before))
+
+mul-mirror-sum-4 : tie.Need-mul-mirror-sum-4 Inv-loop μ-loop
+mul-mirror-sum-4 c = omega (arith, to-in (c .before))
+
+add-mirror-sum-3 : tie.Need-add-mirror-sum-3 Inv-loop μ-loop
+add-mirror-sum-3 c = omega (arith, to-in (c .before))
+
+mul-mirror-sum-5 : tie.Need-mul-mirror-sum-5 Inv-loop μ-loop
+mul-mirror-sum-5 c = omega (arith, to-in (c .before))
+
+add-mirror-sum-4 : tie.Need-add-mirror-sum-4 Inv-loop μ-loop
+add-mirror-sum-4 c = omega (arith, to-in (c .before))
+
+mul-mirror-sum-6 : tie.Need-mul-mirror-sum-6 Inv-loop μ-loop
+mul-mirror-sum-6 c = omega (arith, factor-in (c .before))
+
+add-mirror-sum-5 : tie.Need-add-mirror-sum-5 Inv-loop μ-loop
+add-mirror-sum-5 c = omega (arith, factor-in (c .before))
+
+mirror-sum-requires : tie.Need-mirror-sum-requires Inv-loop μ-loop
+mirror-sum-requires c κs =
+    let t = c .before in
+    mirrored (start t .pre) (t .before .loop .inv) (t .loop-test .taken)
+
+add-c : tie.Need-add-c Inv-loop μ-loop
+add-c c = omega arith
+
+loop-less : tie.Need-loop-less Inv-loop μ-loop
+loop-less c = omega arith
+
+loop-again : tie.Need-loop-again Inv-loop μ-loop
+loop-again c =
+    let a = c .before in
+    let t = a .before .before in
+    again (t .before .loop .inv) (t .loop-test .taken) (a .mirror-sum .ensures) (ap cellWords (column-is (start t .pre .column) (t .before .loop .inv) (t .loop-test .taken)))
+
+same-length : tie.Need-same-length Inv-loop μ-loop
+same-length c = long (c .before .loop .inv)
+
+returns : tie.Need-returns Inv-loop μ-loop
+returns c = done (c .before .loop .inv) (c .loop-test .left)
+
+pub mirror-sums-spec : {M : Type 1} → statement M
+mirror-sums-spec =
+    tie.close
+    (tie.spec
+    Inv-loop
+    μ-loop
+    loop-holds
+    mul-mirror-sum
+    add-mirror-sum
+    mul-mirror-sum-2
+    add-mirror-sum-2
+    mul-mirror-sum-3
+    mul-mirror-sum-4
+    add-mirror-sum-3
+    mul-mirror-sum-5
+    add-mirror-sum-4
+    mul-mirror-sum-6
+    add-mirror-sum-5
+    mirror-sum-requires
+    add-c
+    loop-less
+    loop-again
+    same-length
+    returns)

@@ -1,0 +1,96 @@
+-- `collect::overlaps::write_row` meets its contract.
+use mathlib.Core.Path.{_≡_, sym, ap, _∙_, subst}
+use Prim.Native.Nat.{ℕ, _+_, _*_, _-_, _≤_}
+use native.Mathlib.Nat.{le-refl}
+use native.Mathlib.Omega.{arith}
+use lib.ListN.{length}
+use Rattle.algebra.proofs.Blocks.{Writing, begin, again, done, long}
+use Rattle.scalar.specs.Exact.{exact, conj}
+use Rattle.scalar.specs.Calls.{value}
+use Rattle.scalar.specs.Cells.{cellWords, cellAt}
+use Rattle.scalar.specs.Inner.{Coords}
+use Rattle.collect.specs.Overlap.{overlap}
+use Rattle.collect.proofs.overlaps.write_row.Statement.{statement}
+use Rattle.collect.proofs.overlaps.write_row.Tie as tie
+
+abbrev Inv-loop : tie.InvT-loop
+Inv-loop result₀ to work p k w x c₀ result c = Writing 5 result₀ to w (λ (c : ℕ). cellWords (overlap (cellAt work p) work (k + c * 5))) result c
+
+abbrev μ-loop : tie.MeasureT-loop
+μ-loop result₀ to work p k w x c₀ result c = w - c
+
+module _ (t : tie.In-loop Inv-loop μ-loop) where
+  abbrev s : tie.Start Inv-loop μ-loop
+  s = t .before .before .before
+
+  q-in : s .args .k + t .before .loop .c * 5 + 5 ≤ length (s .args .work .now)
+  q-in = s .pre .1 .factors (t .before .loop .c) (t .loop-test .taken) .room
+
+  scale : value (t .before .before .read-cell .result) ≡ cellAt (s .args .work .now) (s .args .p)
+  scale = ap value (t .before .before .read-cell .ensures)
+
+read-cell-requires : tie.Need-read-cell-requires Inv-loop μ-loop
+read-cell-requires c κs = let s = c .pre .1 .scale in (s .room, s .exponent)
+
+loop-holds : tie.Need-loop-holds Inv-loop μ-loop
+loop-holds c = begin (λ k. le-refl 5)
+
+mul-write-overlap : tie.Need-mul-write-overlap Inv-loop μ-loop
+mul-write-overlap c = omega (arith, s (c .before) .pre .0)
+
+add-write-overlap : tie.Need-add-write-overlap Inv-loop μ-loop
+add-write-overlap c = omega (arith, s (c .before) .pre .0)
+
+mul-write-overlap-2 : tie.Need-mul-write-overlap-2 Inv-loop μ-loop
+mul-write-overlap-2 c = omega (arith, q-in (c .before))
+
+add-write-overlap-2 : tie.Need-add-write-overlap-2 Inv-loop μ-loop
+add-write-overlap-2 c = omega (arith, q-in (c .before))
+
+write-overlap-requires : tie.Need-write-overlap-requires Inv-loop μ-loop
+write-overlap-requires c κs =
+    let t = c .before in
+    let i = t .before .loop .c in
+    let h = t .loop-test .taken in (
+      omega (arith, s t .pre .0, long (t .before .loop .inv)),
+      (subst (Coords 1 28) (sym (scale t)) (s t .pre .1 .scale .coords), s t .pre .1 .factors i h),
+    )
+
+add-c : tie.Need-add-c Inv-loop μ-loop
+add-c c = omega arith
+
+loop-less : tie.Need-loop-less Inv-loop μ-loop
+loop-less c = omega arith
+
+loop-again : tie.Need-loop-again Inv-loop μ-loop
+loop-again c =
+    let a = c .before in
+    let t = a .before .before in
+    let n = s t .args in
+    let q = cellAt (n .work .now) (n .k + t .before .loop .c * 5) in
+    again (t .before .loop .inv) (t .loop-test .taken) (a .write-overlap .ensures) (ap cellWords (λ i. exact ._⊗_ (scale t i) (conj q)))
+
+same-length : tie.Need-same-length Inv-loop μ-loop
+same-length c = long (c .before .loop .inv)
+
+returns : tie.Need-returns Inv-loop μ-loop
+returns c = done (c .before .loop .inv) (c .loop-test .left)
+
+pub write-row-spec : {M : Type 1} → statement M
+write-row-spec =
+    tie.close
+    (tie.spec
+    Inv-loop
+    μ-loop
+    read-cell-requires
+    loop-holds
+    mul-write-overlap
+    add-write-overlap
+    mul-write-overlap-2
+    add-write-overlap-2
+    write-overlap-requires
+    add-c
+    loop-less
+    loop-again
+    same-length
+    returns)
