@@ -20,7 +20,7 @@ use Rattle.scalar.specs.Exact.{Exact, exact, isLowest, maxExponent}
 use Rattle.scalar.specs.Cells.{cellAt, cellWords, exponentAt, fill}
 use Rattle.scalar.specs.Inner.{Coords}
 use Rattle.scalar.proofs.Exact.{exacts}
-use Rattle.scalar.proofs.Cell.{cell-same, exponent-same}
+use Rattle.scalar.proofs.Cell.{cell-same}
 use Rattle.gate.specs.Gate.{Gate}
 use Rattle.gate.specs.Entries.{gateEntry, flips, partner, rowEntry, Ready}
 use Rattle.gate.proofs.Partner.{Two, row-two}

@@ -9,7 +9,6 @@ use lib.Dec.{leb}
 use lib.ListN.{length, replicate}
 use lib.IntN.{ℤ, pos, negsuc}
 use borrow.Author.Tests.{leb-true}
-use Rattle.algebra.specs.Lists.{allBelow}
 use Rattle.algebra.proofs.Tests.{and-split, all-at}
 use Rattle.scalar.specs.Exact.{Exact, isLowest, invSqrtTwo, within}
 use Rattle.scalar.specs.Cells.{cellAt, exponentAt}
