@@ -1,6 +1,6 @@
 -- The kinds of each arity, their qubits, and their entries by the matrices that the code embeds.
 use mathlib.Core.Path.{_≡_, refl, sym, ap, _∙_, subst}
-use mathlib.Core.Bool.{Bool, true, false, not, _&&_, _||_, or-false, true≢false}
+use mathlib.Core.Bool.{Bool, true, false, cond, not, _&&_, _||_, or-false, true≢false}
 use mathlib.Core.List.{List, [], _∷_}
 use Prim.Native.Nat.{ℕ, _≤_, _<_}
 use native.Mathlib.Omega.{arith}
@@ -15,8 +15,9 @@ use Rattle.gate.specs.Operators.{Small, operator, operators, noUnitary, 
 use Rattle.gate.specs.Embed.{embed}
 use Rattle.gate.specs.declared.judge.GateVerdict.the-variants.{Fine}
 use Rattle.gate.specs.Verdict.{firstFault, onQubits, gateVerdict, unitaryVerdict}
-use Rattle.gate.specs.Entries.{unitaryOf, targetOf, operatorAt, gateEntry, Ready, Apart2, Apart3}
+use Rattle.gate.specs.Entries.{Table, tableOf, identity, coreOf, smallOf, unitaryOf, targetOf, operatorAt, gateEntry, Ready, Apart2, Apart3}
 use Rattle.gate.proofs.Gate.{elem-in}
+use Rattle.gate.proofs.Columns.{one-table, two-table, three-table}
 use Rattle.gate.proofs.Questions.{on-one, on-two, on-three}
 
 -- ---- kinds
@@ -27,8 +28,8 @@ abbrev only : ℕ → List ℕ → ℕ → Bool
 only u kinds m = not (eqb (arity m) u && not (elem m angles)) || elem m kinds
 
 -- measure and reset, and the kinds after them
-pub is-split : (m : ℕ) → (eqb m 12 || eqb m 13) ≡ true → elem m (12 ∷ 13 ∷ []) ≡ true
-is-split m e = simp or-false e
+pub listed : (m x y : ℕ) {b : Bool} → (eqb m x || eqb m y) ≡ b → elem m (x ∷ y ∷ []) ≡ b
+listed m x y e = simp or-false e
 
 pub no-split : (m : ℕ) (ks : List ℕ) → (eqb m 12 || eqb m 13) ≡ false → elem m (12 ∷ 13 ∷ ks) ≡ true → elem m ks ≡ true
 no-split m ks = go (eqb m 12) (eqb m 13) (elem m ks)
@@ -37,13 +38,6 @@ no-split m ks = go (eqb m 12) (eqb m 13) (elem m ks)
     go true b c e h = absurd (true≢false e)
     go false true c e h = absurd (true≢false e)
     go false false c e h = h
-
--- the controlled kinds have a target
-pub target-two : (m : ℕ) → elem m (8 ∷ 9 ∷ 20 ∷ 25 ∷ []) ≡ true → elem m (8 ∷ 10 ∷ 9 ∷ 11 ∷ 20 ∷ 25 ∷ []) ≡ true
-target-two = elem-in (λ (m : ℕ). elem m (8 ∷ 10 ∷ 9 ∷ 11 ∷ 20 ∷ 25 ∷ []) ≡ true) (8 ∷ 9 ∷ 20 ∷ 25 ∷ []) (refl, (refl, (refl, (refl, tt))))
-
-pub target-three : (m : ℕ) → elem m (10 ∷ 11 ∷ []) ≡ true → elem m (8 ∷ 10 ∷ 9 ∷ 11 ∷ 20 ∷ 25 ∷ []) ≡ true
-target-three = elem-in (λ (m : ℕ). elem m (8 ∷ 10 ∷ 9 ∷ 11 ∷ 20 ∷ 25 ∷ []) ≡ true) (10 ∷ 11 ∷ []) (refl, (refl, tt))
 
 module _ {n : ℕ} {g : Gate} {j : ℕ} (ready : Ready n g j) where
   kind-low : g .kind < 27
@@ -70,6 +64,18 @@ module _ {n : ℕ} {g : Gate} {j : ℕ} (ready : Ready n g j) where
 
   pub three-kinds : arity (g .kind) ≡ 3 → elem (g .kind) (26 ∷ 10 ∷ 11 ∷ []) ≡ true
   three-kinds = kinds 3 (26 ∷ 10 ∷ 11 ∷ []) tt
+
+  pub target-kinds : eqb (arity (g .kind)) 1 ≡ false → elem (g .kind) (19 ∷ 26 ∷ []) ≡ false → elem (g .kind) (8 ∷ 10 ∷ 9 ∷ 11 ∷ 20 ∷ 25 ∷ []) ≡ true
+  target-kinds e f = go (eqb (arity (g .kind)) 1) (elem (g .kind) (19 ∷ 26 ∷ [])) (elem (g .kind) angles) (elem (g .kind) (8 ∷ 10 ∷ 9 ∷ 11 ∷ 20 ∷ 25 ∷ [])) e f able (holds-true (exhaust others 27 tt (g .kind) kind-low))
+    where
+      others : ℕ → Bool
+      others m = eqb (arity m) 1 || (elem m (19 ∷ 26 ∷ []) || (elem m angles || elem m (8 ∷ 10 ∷ 9 ∷ 11 ∷ 20 ∷ 25 ∷ [])))
+
+      go : (a b c d : Bool) → a ≡ false → b ≡ false → c ≡ false → (a || (b || (c || d))) ≡ true → d ≡ true
+      go false false false d e f h t = t
+      go false false true d e f h t = absurd (true≢false h)
+      go false true c d e f h t = absurd (true≢false f)
+      go true b c d e f h t = absurd (true≢false e)
 
   pub three-else : (u : ℕ) → u ≡ arity (g .kind) → (u ≡ 1 → ⊥) → (u ≡ 2 → ⊥) → arity (g .kind) ≡ 3
   three-else u e f h = go (eqb (arity (g .kind)) 1) refl (eqb (arity (g .kind)) 2) refl (eqb (arity (g .kind)) 3) refl (holds-true (exhaust small 27 tt (g .kind) kind-low))
@@ -106,37 +112,76 @@ module _ {n : ℕ} {g : Gate} {j : ℕ} (ready : Ready n g j) where
         other = simp or-false (not-true (eqb (g .a) (g .b) || eqb (g .a) (g .c)) (o .0));
       }
 
+-- ---- the two-by-two matrix of a gate, by the tests of its kind
+module _ (g : Gate) (j : ℕ) where
+  abbrev split : Table
+  split = tableOf (operatorAt (gate (g .kind) 0 0 0 0) j .small)
+
+  abbrev single : Table
+  single = tableOf (unitaryOf (g .kind) (g .k))
+
+  abbrev target : Bool → Table
+  target b = cond b (tableOf identity) (tableOf (targetOf (g .kind)))
+
+  abbrev other : Bool → Table
+  other b = cond b single (target (elem (g .kind) (19 ∷ 26 ∷ [])))
+
+  core-other : {b : Bool} → elem (g .kind) (12 ∷ 13 ∷ []) ≡ false → eqb (arity (g .kind)) 1 ≡ b → other b ≡ coreOf g j
+  core-other e f = sym (ap (λ (b : Bool). cond b split (other (eqb (arity (g .kind)) 1))) e ∙ ap other f)
+
+  pub core-split : elem (g .kind) (12 ∷ 13 ∷ []) ≡ true → tableOf (operatorAt (gate (g .kind) 0 0 0 0) j .small) ≡ coreOf g j
+  core-split e = sym (ap (λ (b : Bool). cond b split (other (eqb (arity (g .kind)) 1))) e)
+
+  pub core-single : elem (g .kind) (12 ∷ 13 ∷ []) ≡ false → eqb (arity (g .kind)) 1 ≡ true → tableOf (unitaryOf (g .kind) (g .k)) ≡ coreOf g j
+  core-single = core-other
+
+  pub core-swap : elem (g .kind) (12 ∷ 13 ∷ []) ≡ false → eqb (arity (g .kind)) 1 ≡ false → elem (g .kind) (19 ∷ 26 ∷ []) ≡ true → tableOf identity ≡ coreOf g j
+  core-swap e f h = sym (ap target h) ∙ core-other e f
+
+  pub core-target : elem (g .kind) (12 ∷ 13 ∷ []) ≡ false → eqb (arity (g .kind)) 1 ≡ false → elem (g .kind) (19 ∷ 26 ∷ []) ≡ false → tableOf (targetOf (g .kind)) ≡ coreOf g j
+  core-target e f h = sym (ap target h) ∙ core-other e f
+
 -- ---- entries
-module _ (n j r s : ℕ) where
+module _ (n j r s₀ : ℕ) where
   -- of the only operator
-  only-one : (qs : List ℕ) (u : Small) → j < 1 → embed exact n qs u r s ≡ embed exact n qs (getD (operator u 0 ∷ []) j (operator noUnitary 0) .small) r s
-  only-one qs u l = let e : 0 ≡ j = omega arith in ap (λ (j : ℕ). embed exact n qs (getD (operator u 0 ∷ []) j (operator noUnitary 0) .small) r s) e
+  only-one : (qs : List ℕ) (u : Small) → j < 1 → embed exact n qs u r s₀ ≡ embed exact n qs (getD (operator u 0 ∷ []) j (operator noUnitary 0) .small) r s₀
+  only-one qs u l = let e : 0 ≡ j = omega arith in ap (λ (j : ℕ). embed exact n qs (getD (operator u 0 ∷ []) j (operator noUnitary 0) .small) r s₀) e
 
   module _ (a b c k : ℕ) where
     abbrev Entry : List ℕ → Small → ℕ → Type 0
-    Entry qs u m = j < length (operators (gate m a b c k)) → embed exact n qs u r s ≡ gateEntry n (gate m a b c k) j r s
-
-    pub split-entry : (m : ℕ) → elem m (12 ∷ 13 ∷ []) ≡ true → embed exact n (a ∷ []) (operatorAt (gate m 0 0 0 0) j .small) r s ≡ gateEntry n (gate m a b c k) j r s
-    split-entry = elem-in (λ (m : ℕ). embed exact n (a ∷ []) (operatorAt (gate m 0 0 0 0) j .small) r s ≡ gateEntry n (gate m a b c k) j r s) (12 ∷ 13 ∷ []) (refl, (refl, tt))
+    Entry qs u m = j < length (operators (gate m a b c k)) → embed exact n qs u r s₀ ≡ gateEntry n (gate m a b c k) j r s₀
 
     pub split-two : (m : ℕ) → elem m (12 ∷ 13 ∷ []) ≡ true → j < length (operators (gate m a b c k)) → j < 2
     split-two = elem-in (λ (m : ℕ). j < length (operators (gate m a b c k)) → j < 2) (12 ∷ 13 ∷ []) ((λ l. l), ((λ l. l), tt))
 
-    pub unitary-entry : (m : ℕ) → elem m (2 ∷ 3 ∷ 4 ∷ 5 ∷ 6 ∷ 7 ∷ 0 ∷ 1 ∷ 15 ∷ 16 ∷ []) ≡ true → Entry (a ∷ []) (unitaryOf m k) m
-    unitary-entry = elem-in (λ (m : ℕ). Entry (a ∷ []) (unitaryOf m k) m) (2 ∷ 3 ∷ 4 ∷ 5 ∷ 6 ∷ 7 ∷ 0 ∷ 1 ∷ 15 ∷ 16 ∷ [])
-        (o 2, (o 3, (o 4, (o 5, (o 6, (o 7, (o 0, (o 1, (o 15, (o 16, tt))))))))))
+    -- by the two-by-two matrix of the gate
+    pub one-entry : (m : ℕ) → elem m (12 ∷ 13 ∷ 2 ∷ 3 ∷ 4 ∷ 5 ∷ 6 ∷ 7 ∷ 0 ∷ 1 ∷ 15 ∷ 16 ∷ []) ≡ true → Entry (a ∷ []) (smallOf (coreOf (gate m a b c k) j)) m
+    one-entry = elem-in (λ (m : ℕ). Entry (a ∷ []) (smallOf (coreOf (gate m a b c k) j)) m) (12 ∷ 13 ∷ 2 ∷ 3 ∷ 4 ∷ 5 ∷ 6 ∷ 7 ∷ 0 ∷ 1 ∷ 15 ∷ 16 ∷ [])
+        (s 12, (s 13, (o 2, (o 3, (o 4, (o 5, (o 6, (o 7, (o 0, (o 1, (o 15, (o 16, tt))))))))))))
       where
-        o : (m : ℕ) → j < 1 → embed exact n (a ∷ []) (unitaryOf m k) r s ≡ embed exact n (a ∷ []) (getD (operator (unitaryOf m k) 0 ∷ []) j (operator noUnitary 0) .small) r s
-        o m = only-one (a ∷ []) (unitaryOf m k)
+        s : (m : ℕ) → j < 2 → embed exact n (a ∷ []) (smallOf (tableOf (operatorAt (gate m 0 0 0 0) j .small))) r s₀ ≡ embed exact n (a ∷ []) (operatorAt (gate m 0 0 0 0) j .small) r s₀
+        s m l = one-table (operatorAt (gate m 0 0 0 0) j .small) n a r s₀
+
+        o : (m : ℕ) → j < 1 → embed exact n (a ∷ []) (smallOf (tableOf (unitaryOf m k))) r s₀ ≡ embed exact n (a ∷ []) (getD (operator (unitaryOf m k) 0 ∷ []) j (operator noUnitary 0) .small) r s₀
+        o m l = one-table (unitaryOf m k) n a r s₀ ∙ only-one (a ∷ []) (unitaryOf m k) l
+
+    pub controlled-core : (m : ℕ) → elem m (8 ∷ 9 ∷ 20 ∷ 25 ∷ []) ≡ true → embed exact n (a ∷ b ∷ []) (controlled (smallOf (coreOf (gate m a b c k) j))) r s₀ ≡ embed exact n (a ∷ b ∷ []) (controlled (targetOf m)) r s₀
+    controlled-core = elem-in (λ (m : ℕ). embed exact n (a ∷ b ∷ []) (controlled (smallOf (coreOf (gate m a b c k) j))) r s₀ ≡ embed exact n (a ∷ b ∷ []) (controlled (targetOf m)) r s₀) (8 ∷ 9 ∷ 20 ∷ 25 ∷ []) (o 8, (o 9, (o 20, (o 25, tt))))
+      where
+        o : (m : ℕ) → embed exact n (a ∷ b ∷ []) (controlled (smallOf (tableOf (targetOf m)))) r s₀ ≡ embed exact n (a ∷ b ∷ []) (controlled (targetOf m)) r s₀
+        o m = two-table (targetOf m) n a b r s₀
 
     pub controlled-entry : (m : ℕ) → elem m (8 ∷ 9 ∷ 20 ∷ 25 ∷ []) ≡ true → Entry (a ∷ b ∷ []) (controlled (targetOf m)) m
     controlled-entry = elem-in (λ (m : ℕ). Entry (a ∷ b ∷ []) (controlled (targetOf m)) m) (8 ∷ 9 ∷ 20 ∷ 25 ∷ []) (o 8, (o 9, (o 20, (o 25, tt))))
       where
-        o : (m : ℕ) → j < 1 → embed exact n (a ∷ b ∷ []) (controlled (targetOf m)) r s ≡ embed exact n (a ∷ b ∷ []) (getD (operator (controlled (targetOf m)) 0 ∷ []) j (operator noUnitary 0) .small) r s
+        o : (m : ℕ) → j < 1 → embed exact n (a ∷ b ∷ []) (controlled (targetOf m)) r s₀ ≡ embed exact n (a ∷ b ∷ []) (getD (operator (controlled (targetOf m)) 0 ∷ []) j (operator noUnitary 0) .small) r s₀
         o m = only-one (a ∷ b ∷ []) (controlled (targetOf m))
 
     pub swap-entry : (m : ℕ) → m ≡ 19 → Entry (a ∷ b ∷ []) swapped m
     swap-entry m e = subst (Entry (a ∷ b ∷ []) swapped) (sym e) (only-one (a ∷ b ∷ []) swapped)
+
+    pub twice-controlled-core : (m : ℕ) → elem m (10 ∷ 11 ∷ []) ≡ true → embed exact n (a ∷ b ∷ c ∷ []) (controlled (controlled (smallOf (coreOf (gate m a b c k) j)))) r s₀ ≡ embed exact n (a ∷ b ∷ c ∷ []) (controlled (controlled (targetOf m))) r s₀
+    twice-controlled-core = elem-in (λ (m : ℕ). embed exact n (a ∷ b ∷ c ∷ []) (controlled (controlled (smallOf (coreOf (gate m a b c k) j)))) r s₀ ≡ embed exact n (a ∷ b ∷ c ∷ []) (controlled (controlled (targetOf m))) r s₀) (10 ∷ 11 ∷ []) (three-table (targetOf 10) n a b c r s₀, (three-table (targetOf 11) n a b c r s₀, tt))
 
     pub twice-controlled-entry : (m : ℕ) → elem m (10 ∷ 11 ∷ []) ≡ true → Entry (a ∷ b ∷ c ∷ []) (controlled (controlled (targetOf m))) m
     twice-controlled-entry = elem-in (λ (m : ℕ). Entry (a ∷ b ∷ c ∷ []) (controlled (controlled (targetOf m))) m) (10 ∷ 11 ∷ [])

@@ -1,11 +1,14 @@
 -- Kinds that stand in a list: what is left once some are ruled out, and those whose matrix no k changes.
 use mathlib.Core.Path.{_≡_, refl, sym, ap, _∙_}
-use mathlib.Core.Bool.{Bool, true, _||_, or-false}
+use mathlib.Core.Bool.{Bool, true, false, _||_, or-false, true≢false}
 use mathlib.Core.List.{List, [], _∷_}
-use Prim.Native.Nat.{ℕ}
+use Prim.Native.Nat.{ℕ, _≤_}
+use native.Mathlib.Omega.{arith}
 use lib.Dec.{eqb}
 use borrow.Author.Tests.{eqb-true, ne-eqb}
-use Rattle.gate.specs.Gate.{elem}
+use Rattle.algebra.specs.Lists.{All}
+use Rattle.algebra.proofs.Tests.{exhaust, holds-true}
+use Rattle.gate.specs.Gate.{arity, elem}
 use Rattle.gate.specs.Entries.{tableOf, unitaryOf}
 use Rattle.gate.proofs.Gate.{elem-in}
 
@@ -18,3 +21,21 @@ elem-last k x e = eqb-true k x (sym (or-false (eqb k x)) ∙ e)
 -- the kinds whose matrix no k changes
 pub constant-kind : (k kind : ℕ) → elem kind (0 ∷ 1 ∷ 15 ∷ 16 ∷ []) ≡ true → tableOf (unitaryOf kind 0) ≡ tableOf (unitaryOf kind k)
 constant-kind k = elem-in (λ (m : ℕ). tableOf (unitaryOf m 0) ≡ tableOf (unitaryOf m k)) (0 ∷ 1 ∷ 15 ∷ 16 ∷ []) (refl, (refl, (refl, (refl, tt))))
+
+pub none-of : (m : ℕ) (xs : List ℕ) → All (λ (x : ℕ). m ≡ x → ⊥) xs → elem m xs ≡ false
+none-of m [] ps = refl
+none-of m (x ∷ xs) ps = ap (λ (b : Bool). b || elem m xs) (ne-eqb m x (ps .0)) ∙ none-of m xs (ps .1)
+
+-- the kinds on more than one qubit
+abbrev pub several : List ℕ
+several = 8 ∷ 9 ∷ 10 ∷ 11 ∷ 19 ∷ 20 ∷ 21 ∷ 22 ∷ 23 ∷ 24 ∷ 25 ∷ 26 ∷ []
+
+pub single-kind : (m : ℕ) → m ≤ 26 → elem m several ≡ false → 1 ≡ arity m
+single-kind m h e = sym (eqb-true (arity m) 1 (go (elem m several) (eqb (arity m) 1) e (holds-true (exhaust other 27 tt m (omega arith)))))
+  where
+    other : ℕ → Bool
+    other m = elem m several || eqb (arity m) 1
+
+    go : (a b : Bool) → a ≡ false → (a || b) ≡ true → b ≡ true
+    go false b e t = t
+    go true b e t = absurd (true≢false e)

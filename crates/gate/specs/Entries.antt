@@ -9,7 +9,7 @@ use lib.ListN.{length, getD}
 use Rattle.scalar.specs.declared.Scalar.{Scalar}
 use Rattle.scalar.specs.Exact.{Exact, exact}
 use Rattle.scalar.specs.Calls.{value, scalarOf}
-use Rattle.gate.specs.Gate.{Gate, arity, elem, qubits, formed, supported}
+use Rattle.gate.specs.Gate.{Gate, gate, arity, elem, qubits, formed, supported}
 use Rattle.gate.specs.Verdict.{onQubits}
 use Rattle.gate.specs.Operators.{Small, Operator, operator, operators, unitaries, noUnitary, one, none, sameBits}
 use Rattle.gate.specs.Embed.{bit, embed}
@@ -78,6 +78,12 @@ abbrev pub rowEntry : ℕ → Gate → ℕ → ℕ → Exact
 rowEntry n g j i = gateEntry n g j (i / 2) (cond (eqb (i % 2) 0) (i / 2) (partner n g (i / 2)))
 
 -- ---- what is asked
+-- the two-by-two matrix of operator j: on the only qubit, or on the target; the identity for a swap, which has none
+abbrev pub coreOf : Gate → ℕ → Table
+coreOf g j =
+    cond (elem (g .kind) (12 ∷ 13 ∷ [])) (tableOf (operatorAt (gate (g .kind) 0 0 0 0) j .small))
+    (cond (eqb (arity (g .kind)) 1) (tableOf (unitaryOf (g .kind) (g .k))) (cond (elem (g .kind) (19 ∷ 26 ∷ [])) (tableOf identity) (tableOf (targetOf (g .kind)))))
+
 -- a gate that passes the questions, with one of its operators
 pub record Ready (n : ℕ) (g : Gate) (j : ℕ) : Type 0 where
   pub known : formed g ≡ true

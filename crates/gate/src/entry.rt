@@ -22,7 +22,7 @@ ghost use Rattle.scalar.specs.Calls.{value, scalarOf};
 ghost use Rattle.gate.specs.Operators.{one, none, phase, controlled, swapped};
 ghost use Rattle.gate.specs.Embed.{embed};
 ghost use Rattle.gate.specs.Verdict.{gateOf};
-ghost use Rattle.gate.specs.Entries.{gateEntry, flips, rowEntry, Ready, unitaryOf, targetOf, operatorAt, cleared, tableOf, pick, smallOf, identity, Spot, Apart2, Apart3};
+ghost use Rattle.gate.specs.Entries.{gateEntry, flips, rowEntry, Ready, unitaryOf, targetOf, operatorAt, cleared, tableOf, coreOf, pick, smallOf, identity, Spot, Apart2, Apart3};
 
 fn zero() -> Scalar
     ensures { λ r. ⌜ r ≡ scalarOf none ⌝ }
@@ -252,53 +252,71 @@ fn target_table(kind: u32) -> [[Scalar; 2]; 2]
     }
 }
 
-fn one_qubit_entry(g: GateWords, n: u32, j: usize, row: usize, col: usize) -> Scalar
-    requires { ⌜ Spot n row col × (Ready n (gateOf g) j × (arity (g .kind) ≡ 1)) ⌝ }
-    ensures { λ r. ⌜ value r ≡ gateEntry n (gateOf g) j row col ⌝ }
+// The two-by-two matrix of operator j: on the only qubit, or on the target; the identity for a swap.
+fn core_table(g: GateWords, n: u32, j: usize) -> [[Scalar; 2]; 2]
+    requires { ⌜ Ready n (gateOf g) j ⌝ }
+    ensures { λ r. ⌜ r ≡ coreOf (gateOf g) j ⌝ }
 {
     if (g.kind == 12) | (g.kind == 13) {
-        let u = split_table(g.kind, j);
-        return one_qubit(u, n, g.a, row, col);
+        return split_table(g.kind, j);
     }
-    let u = unitary_table(g.kind, g.k);
-    one_qubit(u, n, g.a, row, col)
+    let used = qubit_count(g.kind);
+    if used == 1 {
+        return unitary_table(g.kind, g.k);
+    }
+    if (g.kind == 19) | (g.kind == 26) {
+        return identity_table();
+    }
+    target_table(g.kind)
 }
 
-fn two_qubit_entry(g: GateWords, n: u32, j: usize, row: usize, col: usize) -> Scalar
-    requires { ⌜ Spot n row col × (Ready n (gateOf g) j × (arity (g .kind) ≡ 2)) ⌝ }
+fn two_qubit_entry(
+    u: [[Scalar; 2]; 2],
+    g: GateWords,
+    n: u32,
+    j: usize,
+    row: usize,
+    col: usize,
+) -> Scalar
+    requires { ⌜ (u ≡ coreOf (gateOf g) j) × (Spot n row col × (Ready n (gateOf g) j × (arity (g .kind) ≡ 2))) ⌝ }
     ensures { λ r. ⌜ value r ≡ gateEntry n (gateOf g) j row col ⌝ }
 {
     if g.kind == 19 {
         return swap_entry(n, g.a, g.b, row, col);
     }
-    let u = target_table(g.kind);
     under_one(u, n, g.a, g.b, row, col)
 }
 
-fn three_qubit_entry(g: GateWords, n: u32, j: usize, row: usize, col: usize) -> Scalar
-    requires { ⌜ Spot n row col × (Ready n (gateOf g) j × (arity (g .kind) ≡ 3)) ⌝ }
+fn three_qubit_entry(
+    u: [[Scalar; 2]; 2],
+    g: GateWords,
+    n: u32,
+    j: usize,
+    row: usize,
+    col: usize,
+) -> Scalar
+    requires { ⌜ (u ≡ coreOf (gateOf g) j) × (Spot n row col × (Ready n (gateOf g) j × (arity (g .kind) ≡ 3))) ⌝ }
     ensures { λ r. ⌜ value r ≡ gateEntry n (gateOf g) j row col ⌝ }
 {
     if g.kind == 26 {
         return swap_under_one(n, g.a, g.b, g.c, row, col);
     }
-    let u = target_table(g.kind);
     under_two(u, n, g.a, g.b, g.c, row, col)
 }
 
-// Entry (row, col) of the matrix of operator j, on n qubits.
-pub fn gate_entry(g: GateWords, n: u32, j: usize, row: usize, col: usize) -> Scalar
-    requires { ⌜ Spot n row col × Ready n (gateOf g) j ⌝ }
+// Entry (row, col) of the matrix of operator j, on n qubits; u is its two-by-two matrix.
+fn gate_entry(u: [[Scalar; 2]; 2], g: GateWords, n: u32, j: usize, row: usize, col: usize) -> Scalar
+    requires { ⌜ (u ≡ coreOf (gateOf g) j) × (Spot n row col × Ready n (gateOf g) j) ⌝ }
     ensures { λ r. ⌜ value r ≡ gateEntry n (gateOf g) j row col ⌝ }
 {
     let used = qubit_count(g.kind);
     if used == 1 {
-        return one_qubit_entry(g, n, j, row, col);
+        return one_qubit(u, n, g.a, row, col);
     }
     if used == 2 {
-        return two_qubit_entry(g, n, j, row, col);
+        return two_qubit_entry(u, g, n, j, row, col);
     }
-    three_qubit_entry(g, n, j, row, col)
+    three_qubit_entry(u, g, n, j, row, col)
 }
 
 // The bits of a row number that a gate may change: row r has entries in columns r and r ^ flips alone.
@@ -338,11 +356,12 @@ pub fn write_rows(buf: &mut [i64], at: usize, n: u32, d: usize, g: GateWords, j:
     requires { ⌜ (m ≡ flips n (gateOf g)) × ((at + d * 2 * 5 ≤ length (now buf)) × ((n ≤ 5) × ((d ≡ 2 ^ n) × Ready n (gateOf g) j))) ⌝ }
     ensures { λ _. ⌜ now (buf .exit) ≡ fill (now (buf .entry)) at (d * 2) (rowEntry n (gateOf g) j) ⌝ }
 {
+    let u = core_table(g, n, j);
     let count = d * 2;
     let mut i = 0;
     while i < count {
         let col = column(m, i);
-        let v = gate_entry(g, n, j, i / 2, col);
+        let v = gate_entry(u, g, n, j, i / 2, col);
         let to = at + i * 5;
         write_cell(buf, to, v);
         i += 1;
@@ -354,12 +373,13 @@ pub fn write_operator(buf: &mut [i64], at: usize, n: u32, d: usize, g: GateWords
     requires { ⌜ (at + d * d * 5 ≤ length (now buf)) × ((n ≤ 5) × ((d ≡ 2 ^ n) × Ready n (gateOf g) j)) ⌝ }
     ensures { λ _. ⌜ now (buf .exit) ≡ fill (now (buf .entry)) at (d * d) (λ (i : ℕ). gateEntry n (gateOf g) j (i / d) (i % d)) ⌝ }
 {
+    let u = core_table(g, n, j);
     let count = d * d;
     let mut i = 0;
     while i < count {
         let row = i / d;
         let col = i % d;
-        let v = gate_entry(g, n, j, row, col);
+        let v = gate_entry(u, g, n, j, row, col);
         let to = at + i * 5;
         write_cell(buf, to, v);
         i += 1;

@@ -8,36 +8,6 @@ ghost use Rattle.algebra.specs.Lists.{every};
 ghost use Rattle.gate.specs.Gate.{gateAt, arity, elem, bits, formed, placed, supported, weight, splits};
 ghost use Rattle.gate.specs.Verdict.{gateOf, firstFault, onQubits, gateVerdict, unitaryVerdict, faultOf};
 
-const ARITIES: [u32; 27] = [
-    1,
-    1,
-    1,
-    1,
-    1,
-    1,
-    1,
-    1,
-    2,
-    2,
-    3,
-    3,
-    1,
-    1,
-    1,
-    1,
-    1,
-    1,
-    1,
-    2,
-    2,
-    2,
-    2,
-    2,
-    2,
-    2,
-    3,
-];
-
 // The five words of a gate.
 pub struct GateWords {
     pub kind: u32,
@@ -82,8 +52,21 @@ pub fn qubit_count(kind: u32) -> u32
     if 26 < kind {
         return 0;
     }
-    let i = kind as usize;
-    ARITIES[i]
+    match kind {
+        8 => 2,
+        9 => 2,
+        10 => 3,
+        11 => 3,
+        19 => 2,
+        20 => 2,
+        21 => 2,
+        22 => 2,
+        23 => 2,
+        24 => 2,
+        25 => 2,
+        26 => 3,
+        _ => 1,
+    }
 }
 
 // Whether the words after the first `used` of a, b, c are 0.

@@ -12,10 +12,13 @@ use Rattle.gate.proofs.entry.write_operator.Statement.{statement}
 use Rattle.gate.proofs.entry.write_operator.Tie as tie
 
 abbrev Inv-loop : tie.InvT-loop
-Inv-loop buf₀ at n d g j count i₀ buf i = Writing 5 buf₀ at (d * d) (λ (i : ℕ). cellWords (gateEntry n (gateOf g) j (i / d) (i % d))) buf i
+Inv-loop buf₀ at n d g j u count i₀ buf i = Writing 5 buf₀ at (d * d) (λ (i : ℕ). cellWords (gateEntry n (gateOf g) j (i / d) (i % d))) buf i
 
 abbrev μ-loop : tie.MeasureT-loop
-μ-loop buf₀ at n d g j count i₀ buf i = d * d - i
+μ-loop buf₀ at n d g j u count i₀ buf i = d * d - i
+
+core-table-requires : tie.Need-core-table-requires Inv-loop μ-loop
+core-table-requires c κs = c .pre .1 .1 .1
 
 mul-count : tie.Need-mul-count Inv-loop μ-loop
 mul-count c = omega arith
@@ -24,13 +27,15 @@ loop-holds : tie.Need-loop-holds Inv-loop μ-loop
 loop-holds c = begin (λ k. le-refl 5)
 
 div-row : tie.Need-div-row Inv-loop μ-loop
-div-row c = rows-some (c .before .before .args .n) (c .before .before .args .d) (c .before .before .pre .1 .1 .0)
+div-row c = let a = c .before .before .before in rows-some (a .args .n) (a .args .d) (a .pre .1 .1 .0)
 
 rem-col : tie.Need-rem-col Inv-loop μ-loop
-rem-col c = rows-some (c .before .before .args .n) (c .before .before .args .d) (c .before .before .pre .1 .1 .0)
+rem-col c = let a = c .before .before .before in rows-some (a .args .n) (a .args .d) (a .pre .1 .1 .0)
 
 gate-entry-requires : tie.Need-gate-entry-requires Inv-loop μ-loop
-gate-entry-requires c κs = (spot-at (c .before .before .args .n) (c .before .before .args .d) (c .before .loop .i) (c .before .before .pre .1 .0) (c .before .before .pre .1 .1 .0) (c .loop-test .taken), c .before .before .pre .1 .1 .1)
+gate-entry-requires c κs =
+    let a = c .before .before .before in
+    (c .before .before .core-table .ensures, (spot-at (a .args .n) (a .args .d) (c .before .loop .i) (a .pre .1 .0) (a .pre .1 .1 .0) (c .loop-test .taken), a .pre .1 .1 .1))
 
 mul-to : tie.Need-mul-to Inv-loop μ-loop
 mul-to c = omega arith
@@ -62,6 +67,7 @@ write-operator-spec =
     (tie.spec
     Inv-loop
     μ-loop
+    core-table-requires
     mul-count
     loop-holds
     div-row

@@ -13,10 +13,13 @@ use Rattle.gate.proofs.entry.write_rows.Statement.{statement}
 use Rattle.gate.proofs.entry.write_rows.Tie as tie
 
 abbrev Inv-loop : tie.InvT-loop
-Inv-loop buf₀ at n d g j m count i₀ buf i = Writing 5 buf₀ at (d * 2) (λ (i : ℕ). cellWords (rowEntry n (gateOf g) j i)) buf i
+Inv-loop buf₀ at n d g j m u count i₀ buf i = Writing 5 buf₀ at (d * 2) (λ (i : ℕ). cellWords (rowEntry n (gateOf g) j i)) buf i
 
 abbrev μ-loop : tie.MeasureT-loop
-μ-loop buf₀ at n d g j m count i₀ buf i = d * 2 - i
+μ-loop buf₀ at n d g j m u count i₀ buf i = d * 2 - i
+
+core-table-requires : tie.Need-core-table-requires Inv-loop μ-loop
+core-table-requires c κs = c .pre .1 .1 .1 .1
 
 mul-count : tie.Need-mul-count Inv-loop μ-loop
 mul-count c = omega arith
@@ -30,8 +33,9 @@ column-requires c κs = search needs
 gate-entry-requires : tie.Need-gate-entry-requires Inv-loop μ-loop
 gate-entry-requires c κs =
     let t = c .before in
-    let p = t .before .before .pre in
-    (row-spot (p .1 .1 .1 .1) (p .1 .1 .0) (p .1 .1 .1 .0) (p .0) (t .loop-test .taken) (c .column .ensures), p .1 .1 .1 .1)
+    let u = t .before .before in
+    let p = u .before .pre in
+    (u .core-table .ensures, (row-spot (p .1 .1 .1 .1) (p .1 .1 .0) (p .1 .1 .1 .0) (p .0) (t .loop-test .taken) (c .column .ensures), p .1 .1 .1 .1))
 
 mul-to : tie.Need-mul-to Inv-loop μ-loop
 mul-to c = omega arith
@@ -54,9 +58,10 @@ loop-again c =
     let v = w .before .before in
     let q = v .before in
     let t = q .before in
-    let a = t .before .before .args in
+    let o = t .before .before .before in
+    let a = o .args in
     again (t .before .loop .inv) (t .loop-test .taken) (w .write-cell .ensures)
-    (ap cellWords (v .gate-entry .ensures ∙ row-entry (a .n) (gateOf (a .g)) (a .j) (t .before .loop .i) (a .m) (q .column .result) (t .before .before .pre .0) (q .column .ensures)))
+    (ap cellWords (v .gate-entry .ensures ∙ row-entry (a .n) (gateOf (a .g)) (a .j) (t .before .loop .i) (a .m) (q .column .result) (o .pre .0) (q .column .ensures)))
 
 same-length : tie.Need-same-length Inv-loop μ-loop
 same-length c = long (c .before .loop .inv)
@@ -70,6 +75,7 @@ write-rows-spec =
     (tie.spec
     Inv-loop
     μ-loop
+    core-table-requires
     mul-count
     loop-holds
     column-requires
