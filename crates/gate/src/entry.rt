@@ -43,7 +43,10 @@ fn pick_entry(u: [[Scalar; 2]; 2], x: usize, y: usize) -> Scalar
     requires { ⌜ (x < 2) × (y < 2) ⌝ }
     ensures { λ r. ⌜ r ≡ pick u x y ⌝ }
 {
-    u[x][y]
+    if x == 0 {
+        return if y == 0 { u[0][0] } else { u[0][1] };
+    }
+    if y == 0 { u[1][0] } else { u[1][1] }
 }
 
 fn identity_table() -> [[Scalar; 2]; 2]
