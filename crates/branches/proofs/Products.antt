@@ -1,6 +1,6 @@
 -- An operator of a gate times a matrix in words, row by row: a row of the product is a sum of two rows.
 use mathlib.Core.Path.{_≡_, sym, ap, _∙_, subst}
-use mathlib.Core.Bool.{cond}
+use mathlib.Core.Bool.{cond, true}
 use mathlib.Core.List.{List}
 use Prim.Native.Nat.{ℕ, _+_, _*_, _/_, _%_, _^_, _<_, _≤_}
 use native.Mathlib.Nat.{le-refl, zero-mul}
@@ -9,24 +9,26 @@ use lib.Arith.{digits-lt, digits-div, digits-mod}
 use lib.Bits.{bitXor}
 use lib.Dec.{eqb, leb}
 use lib.ListN.{length}
-use lib.IntN.{ℤ}
+use lib.IntN.{ℤ, pos}
 use borrow.Author.Tests.{le-leb}
 use Rattle.algebra.specs.Sum.{times}
-use Rattle.algebra.specs.Words.{blocks}
+use Rattle.algebra.specs.Words.{blocks, fillWords}
 use Rattle.algebra.proofs.Semi as semi
 use Rattle.algebra.proofs.Sum.{sum-two}
+use Rattle.algebra.proofs.Tests.{all-at}
 use Rattle.algebra.proofs.Blocks.{Writing, begin, long, kept, Same, part, cut, narrow, block-in, blocks-same, blocks-more}
 use Rattle.scalar.specs.Exact.{Exact, exact, isLowest, maxExponent}
-use Rattle.scalar.specs.Cells.{cellAt, cellWords, exponentAt, fill}
+use Rattle.scalar.specs.Cells.{cellAt, cellWords, exponentAt, zeroAt, fill}
 use Rattle.scalar.specs.Inner.{Coords}
 use Rattle.scalar.proofs.Exact.{exacts}
 use Rattle.scalar.proofs.Cell.{cell-same}
 use Rattle.gate.specs.Gate.{Gate}
 use Rattle.gate.specs.Entries.{gateEntry, flips, partner, rowEntry, Ready}
 use Rattle.gate.proofs.Partner.{Two, row-two}
-use Rattle.matrix.specs.Matrix.{cell}
+use Rattle.matrix.specs.Matrix.{cell, written, zeros}
 use Rattle.matrix.specs.Factors.{Factor, Scaling, combinedRow}
-use Rattle.matrix.proofs.Terms.{factor-same}
+use Rattle.matrix.proofs.Terms.{by-zero, zero-first, row-lt, column-lt, factor-same}
+use Rattle.matrix.proofs.Rows.{zero-cells}
 use Rattle.branches.specs.Step.{rowSum, Applying, product, RowsAt}
 
 -- the rows of an operator, from cells that hold its entries
@@ -152,6 +154,22 @@ module _ {l : List ℤ} {m op old new d : ℕ} (p : Applying l m op old new d) {
 
       rows : r * d + d ≡ (r + 1) * d
       rows = omega arith
+
+-- ---- a zero matrix: so is its product
+module _ {l : List ℤ} {m op old new d : ℕ} (p : Applying l m op old new d) (z : zeros l old (d * d) ≡ true) where
+  zero-entry : (k c : ℕ) → k < d → c < d → zeroAt l (old + k * d * 5 + c * 5) ≡ true
+  zero-entry k c hk hc = ap (zeroAt l) (row-place old d k c) ∙ all-at (d * d) (λ (i : ℕ). zeroAt l (old + i * 5)) z (k * d + c) (digits-lt hk hc)
+
+  zero-sum : (r c : ℕ) → r < d → c < d → rowSum l m op old d r c ≡ exact .𝟘
+  zero-sum r c hr hc =
+      let x = cellAt l (op + r * 10) in
+      let y = cellAt l (op + r * 10 + 5) in
+      let s = cellAt l (old + r * d * 5 + c * 5) in
+      let t = cellAt l (old + bitXor r m * d * 5 + c * 5) in
+      zero-first x s y t (by-zero x s (zero-entry r c hr hc)) ∙ by-zero y t (zero-entry (bitXor r m) c (p .below r hr) hc)
+
+  pub zero-applied : {b : List ℤ} → b ≡ fillWords l new (d * d * 5) (λ (i : ℕ). pos 0) → b ≡ written l new d (rowSum l m op old d)
+  zero-applied e = e ∙ zero-cells l new (d * d) ∙ blocks-same 5 l new (d * d) _ _ (λ i h. ap cellWords (sym (zero-sum (i / d) (i % d) (row-lt i d h) (column-lt i d h))))
 
 -- ---- an operator of a gate, by its rows
 module _ {l : List ℤ} {n : ℕ} {g : Gate} {j d m op : ℕ} (ready : Ready n g j) (few : n ≤ 5) (dim : d ≡ 2 ^ n) (e : m ≡ flips n g) (rows : RowsAt l op n g j d)

@@ -1,12 +1,14 @@
 // A gate's operator applied to the matrix of a branch.
 use matrix::linear::combine_rows;
+use matrix::words::clear;
+use matrix::words::is_zero;
 use scalar::cells::read_cell;
 ghost use mathlib.Core.Path.{_≡_};
 ghost use Rattle.matrix.specs.Matrix.{written};
 ghost use Rattle.branches.specs.Step.{Applying, rowSum};
 
 // Write an operator times the matrix at `old` to `new`, row by row. Row r of the operator has entries in columns r and r ^ m alone, which lie at op + 10·r.
-pub fn apply_operator(work: &mut [i64], m: usize, op: usize, old: usize, new: usize, d: usize)
+fn apply_rows(work: &mut [i64], m: usize, op: usize, old: usize, new: usize, d: usize)
     requires { ⌜ Applying (now work) m op old new d ⌝ }
     ensures { λ _. ⌜ now (work .exit) ≡ written (now (work .entry)) new d (rowSum (now (work .entry)) m op old d) ⌝ }
 {
@@ -23,4 +25,17 @@ pub fn apply_operator(work: &mut [i64], m: usize, op: usize, old: usize, new: us
         combine_rows(work, x, p, y, q, to, d);
         r += 1;
     }
+}
+
+// The same; zeros for a zero matrix.
+pub fn apply_operator(work: &mut [i64], m: usize, op: usize, old: usize, new: usize, d: usize)
+    requires { ⌜ Applying (now work) m op old new d ⌝ }
+    ensures { λ _. ⌜ now (work .exit) ≡ written (now (work .entry)) new d (rowSum (now (work .entry)) m op old d) ⌝ }
+{
+    let entries = d * d;
+    if is_zero(work, old, entries) {
+        clear(work, new, entries * 5);
+        return;
+    }
+    apply_rows(work, m, op, old, new, d);
 }

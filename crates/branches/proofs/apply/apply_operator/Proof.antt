@@ -1,162 +1,50 @@
 -- `apply_operator` meets its contract.
-use mathlib.Core.Path.{_≡_, sym, ap, _∙_, subst}
-use Prim.Native.Nat.{ℕ, _+_, _*_, _-_, _≤_, _<_}
-use native.Mathlib.Nat.{mul-le-mul, le-refl}
-use native.Mathlib.Omega.{arith}
-use lib.Bits.{bitXor}
-use lib.ListN.{length}
-use Rattle.algebra.proofs.Blocks.{done, long, block-in}
-use Rattle.scalar.specs.Calls.{value}
-use Rattle.scalar.specs.Cells.{cellAt}
-use Rattle.scalar.specs.Inner.{Coords}
-use Rattle.scalar.proofs.Cell.{cell-same, exponent-same}
-use Rattle.branches.proofs.Products.{Applied, none-applied, own-same, other-same, scaling, applied-more}
+use mathlib.Core.Path.{sym, _∙_}
+use borrow.Author.Needs.{needs}
+use Rattle.branches.proofs.Products.{zero-applied}
 use Rattle.branches.proofs.apply.apply_operator.Statement.{statement}
 use Rattle.branches.proofs.apply.apply_operator.Tie as tie
 
-abbrev Inv-loop : tie.InvT-loop
-Inv-loop work₀ m op old new d r₀ work r = Applied work₀ m op old new d work r
+mul-entries : tie.Need-mul-entries
+mul-entries c = search needs
 
-abbrev μ-loop : tie.MeasureT-loop
-μ-loop work₀ m op old new d r₀ work r = d - r
+is-zero-requires : tie.Need-is-zero-requires
+is-zero-requires c κs = search needs
 
-loop-holds : tie.Need-loop-holds Inv-loop μ-loop
-loop-holds c = let a = c .args in none-applied (a .work .now) (a .m) (a .op) (a .old) (a .new) (a .d)
+mul-clear : tie.Need-mul-clear
+mul-clear c = search needs
 
--- a row, and its partner
-module _ (t : tie.In-loop Inv-loop μ-loop) where
-  abbrev s : tie.Start Inv-loop μ-loop
-  s = t .before .before
+clear-requires : tie.Need-clear-requires
+clear-requires c κs = search needs
 
-  abbrev r : ℕ
-  r = t .before .loop .r
+same-length : tie.Need-same-length
+same-length c = search needs
 
-  row-in : (k : ℕ) → k < s .args .d → s .args .old + k * s .args .d * 5 + s .args .d * 5 ≤ length (s .args .work .now)
-  row-in k h = omega (arith, s .pre .old-room, block-in h (s .args .d))
-
-  other-lt : bitXor r (s .args .m) < s .args .d
-  other-lt = s .pre .below r (t .loop-test .taken)
-
-  new-in : s .args .new + r * s .args .d * 5 + s .args .d * 5 ≤ length (s .args .work .now)
-  new-in = omega (arith, s .pre .new-room, block-in (t .loop-test .taken) (s .args .d))
-
-  entries-in : s .args .op + r * 10 + 10 ≤ length (s .args .work .now)
-  entries-in = omega (arith, s .pre .op-room, t .loop-test .taken)
-
-  same-size : length (t .before .loop .work) ≡ length (s .args .work .now)
-  same-size = long (t .before .loop .inv)
-
-mul-a : tie.Need-mul-a Inv-loop μ-loop
-mul-a c = omega (arith, entries-in c)
-
-add-a : tie.Need-add-a Inv-loop μ-loop
-add-a c = omega (arith, entries-in c)
-
-add-b : tie.Need-add-b Inv-loop μ-loop
-add-b c = omega (arith, entries-in c)
-
-read-cell-requires : tie.Need-read-cell-requires Inv-loop μ-loop
-read-cell-requires c κs = let t = c .before in (omega (arith, entries-in t, same-size t), exponent-same (own-same (s t .pre) (t .loop-test .taken) (t .before .loop .inv)) ∙ s t .pre .own (r t) (t .loop-test .taken) .exponent)
-
-read-cell-requires-2 : tie.Need-read-cell-requires-2 Inv-loop μ-loop
-read-cell-requires-2 c κs =
+returns : tie.Need-returns
+returns c =
     let t = c .before .before .before in
-    (omega (arith, entries-in t, same-size t), exponent-same (other-same (s t .pre) (t .loop-test .taken) (t .before .loop .inv)) ∙ s t .pre .other (r t) (t .loop-test .taken) .exponent)
+    let z = t .before in
+    zero-applied (z .before .before .pre) (sym (z .is-zero .ensures) ∙ t .if1 .taken) (c .before .clear .ensures)
 
-mul-p : tie.Need-mul-p Inv-loop μ-loop
-mul-p c = let t = c .before .before .before .before in omega (arith, row-in t (r t) (t .loop-test .taken))
+apply-rows-requires : tie.Need-apply-rows-requires
+apply-rows-requires c κs = search needs
 
-mul-p-2 : tie.Need-mul-p-2 Inv-loop μ-loop
-mul-p-2 c = let t = c .before .before .before .before in omega (arith, row-in t (r t) (t .loop-test .taken))
+same-length-2 : tie.Need-same-length-2
+same-length-2 c = search needs
 
-add-p : tie.Need-add-p Inv-loop μ-loop
-add-p c = let t = c .before .before .before .before in omega (arith, row-in t (r t) (t .loop-test .taken))
-
-mul-q : tie.Need-mul-q Inv-loop μ-loop
-mul-q c = let t = c .before .before .before .before in omega (arith, row-in t (bitXor (r t) (s t .args .m)) (other-lt t))
-
-mul-q-2 : tie.Need-mul-q-2 Inv-loop μ-loop
-mul-q-2 c = let t = c .before .before .before .before in omega (arith, row-in t (bitXor (r t) (s t .args .m)) (other-lt t))
-
-add-q : tie.Need-add-q Inv-loop μ-loop
-add-q c = let t = c .before .before .before .before in omega (arith, row-in t (bitXor (r t) (s t .args .m)) (other-lt t))
-
-mul-to : tie.Need-mul-to Inv-loop μ-loop
-mul-to c = omega (arith, new-in (c .before .before .before .before))
-
-mul-to-2 : tie.Need-mul-to-2 Inv-loop μ-loop
-mul-to-2 c = omega (arith, new-in (c .before .before .before .before))
-
-add-to : tie.Need-add-to Inv-loop μ-loop
-add-to c = omega (arith, new-in (c .before .before .before .before))
-
--- the two entries that were read
-module _ (y : tie.After-read-cell2 Inv-loop μ-loop) where
-  abbrev x : tie.After-read-cell Inv-loop μ-loop
-  x = y .before .before
-
-  abbrev t : tie.In-loop Inv-loop μ-loop
-  t = x .before .before
-
-  own-is : value (x .read-cell .result) ≡ cellAt (s t .args .work .now) (s t .args .op + r t * 10)
-  own-is = ap value (x .read-cell .ensures) ∙ cell-same (own-same (s t .pre) (t .loop-test .taken) (t .before .loop .inv))
-
-  partner-is : value (y .read-cell2 .result) ≡ cellAt (s t .args .work .now) (s t .args .op + r t * 10 + 5)
-  partner-is = ap value (y .read-cell2 .ensures) ∙ cell-same (other-same (s t .pre) (t .loop-test .taken) (t .before .loop .inv))
-
-combine-rows-requires : tie.Need-combine-rows-requires Inv-loop μ-loop
-combine-rows-requires c κs =
-    let y = c .before in
-    let u = t y in
-    let p = s u .pre in
-    let h = u .loop-test .taken in (
-      scaling p h (u .before .loop .inv) (r u) h (subst (Coords 1 28) (sym (own-is y)) (p .own (r u) h .coords)),
-      scaling p h (u .before .loop .inv) (bitXor (r u) (s u .args .m)) (other-lt u) (subst (Coords 1 28) (sym (partner-is y)) (p .other (r u) h .coords)),
-    )
-
-add-r : tie.Need-add-r Inv-loop μ-loop
-add-r c = omega arith
-
-loop-less : tie.Need-loop-less Inv-loop μ-loop
-loop-less c = omega arith
-
-loop-again : tie.Need-loop-again Inv-loop μ-loop
-loop-again c =
-    let f = c .before in
-    let y = f .before .before in
-    let u = t y in
-    applied-more (s u .pre) (u .loop-test .taken) (u .before .loop .inv) (own-is y) (partner-is y) (f .combine-rows .ensures)
-
-same-length : tie.Need-same-length Inv-loop μ-loop
-same-length c = long (c .before .loop .inv)
-
-returns : tie.Need-returns Inv-loop μ-loop
-returns c = done (c .before .loop .inv) (mul-le-mul (c .loop-test .left) (le-refl (c .before .before .args .d)))
+returns-2 : tie.Need-returns-2
+returns-2 c = search needs
 
 pub apply-operator-spec : {M : Type 1} → statement M
 apply-operator-spec =
     tie.close
     (tie.spec
-    Inv-loop
-    μ-loop
-    loop-holds
-    mul-a
-    add-a
-    add-b
-    read-cell-requires
-    read-cell-requires-2
-    mul-p
-    mul-p-2
-    add-p
-    mul-q
-    mul-q-2
-    add-q
-    mul-to
-    mul-to-2
-    add-to
-    combine-rows-requires
-    add-r
-    loop-less
-    loop-again
+    mul-entries
+    is-zero-requires
+    mul-clear
+    clear-requires
     same-length
-    returns)
+    returns
+    apply-rows-requires
+    same-length-2
+    returns-2)
