@@ -39,6 +39,7 @@ fn unit() -> Scalar
     }
 }
 
+// The entry of a row's bit and a column's bit.
 fn pick_entry(u: [[Scalar; 2]; 2], x: usize, y: usize) -> Scalar
     requires { ⌜ (x < 2) × (y < 2) ⌝ }
     ensures { λ r. ⌜ r ≡ pick u x y ⌝ }
