@@ -10,18 +10,19 @@ use lib.Bits.{bitXor}
 use lib.Dec.{T, eqb, ltb}
 use lib.ListN.{length, getD}
 use lib.Pow.{pow-mono}
-use borrow.Author.Tests.{ltb-true, eqb-false, ne-eqb, not-true}
+use borrow.Author.Tests.{ltb-true, eqb-true, eqb-false, eq-eqb, ne-eqb, not-true}
 use Rattle.algebra.specs.Lists.{allBelow}
-use Rattle.algebra.proofs.Tests.{exhaust, holds-true}
+use Rattle.algebra.proofs.Tests.{exhaust, and-split, holds-true}
 use Rattle.scalar.specs.Exact.{Exact, exact}
+use Rattle.scalar.specs.Calls.{value}
 use Rattle.gate.specs.Gate.{Gate, gate, arity, elem}
 use Rattle.gate.specs.Operators.{Small, one, none, operators, controlled, swapped}
 use Rattle.gate.specs.Embed.{bit, bitsOf, embed}
-use Rattle.gate.specs.Entries.{operatorAt, targetOf, gateEntry, flips, partner, rowEntry, Ready, Spot, Apart2, Apart3}
+use Rattle.gate.specs.Entries.{cleared, Table, pick, smallOf, coreOf, operatorAt, targetOf, gateEntry, flips, partner, rowEntry, Ready, Spot, Apart2, Apart3}
 use Rattle.gate.proofs.Embedding.{respects-identity}
 use Rattle.gate.proofs.Columns.{agree-one, embed-controlled, embed-swap}
 use Rattle.gate.proofs.Gate.{elem-in}
-use Rattle.gate.proofs.Dispatch.{one-kinds, two-kinds, three-kinds, three-else, one-on, two-on, three-on, controlled-entry, swap-entry, twice-controlled-entry, controlled-swap-entry}
+use Rattle.gate.proofs.Dispatch.{one-kinds, two-kinds, three-kinds, three-else, one-on, two-on, three-on, one-entry, controlled-entry, swap-entry, twice-controlled-entry, controlled-swap-entry}
 
 -- row r has entries in columns r and s alone, below d
 pub record Two (d : ℕ) (row : ℕ → Exact) (r s : ℕ) : Type 0 where
@@ -83,6 +84,32 @@ one-two n q r few l hr u =
 
     lw5 : w < 5
     lw5 = omega arith
+
+-- one bit flipped: the other bits are the same
+abbrev one-flipped : ℕ → ℕ → Bool
+one-flipped w r = eqb (clr w r) (clr w (bitXor r (2 ^ w))) && eqb (1 - r / 2 ^ w % 2) (bitXor r (2 ^ w) / 2 ^ w % 2)
+
+flipped-computed : T (allBelow 5 (λ (w : ℕ). allBelow 32 (one-flipped w)))
+flipped-computed = tt
+
+-- the two entries of a row of a matrix on one qubit
+module _ (n q r : ℕ) (few : n ≤ 5) (l : q < n) (hr : r < 2 ^ n) (u : Small) where
+  single-own : u (bit n q r ∷ []) (bit n q r ∷ []) ≡ embed exact n (q ∷ []) u r r
+  single-own = sym (ap (λ (t : Bool). cond t (u (bit n q r ∷ []) (bit n q r ∷ [])) none) (agree-one n q r r few l hr hr ∙ eq-eqb (cleared n q r) (cleared n q r) refl))
+
+  single-other : u (bit n q r ∷ []) ((1 - bit n q r) ∷ []) ≡ embed exact n (q ∷ []) u r (bitXor r (2 ^ (n - 1 - q)))
+  single-other =
+      ap (λ (y : ℕ). u (bit n q r ∷ []) (y ∷ [])) (eqb-true (1 - bit n q r) (bit n q s) (tests .1))
+      ∙ sym (ap (λ (t : Bool). cond t (u (bit n q r ∷ []) (bit n q s ∷ [])) none) (agree-one n q r s few l hr (one-two n q r few l hr u .below) ∙ tests .0))
+    where
+      w : ℕ
+      w = n - 1 - q
+
+      s : ℕ
+      s = bitXor r (2 ^ w)
+
+      tests : (eqb (clr w r) (clr w s) ≡ true) × (eqb (1 - r / 2 ^ w % 2) (s / 2 ^ w % 2) ≡ true)
+      tests = and-split _ _ (holds-true (exhaust (one-flipped w) 32 (exhaust (λ (w : ℕ). allBelow 32 (one-flipped w)) 5 flipped-computed w (omega arith)) r (small few r hr)))
 
 -- ---- a control
 control-two : (n q : ℕ) (qs : List ℕ) (u : Small) {r s : ℕ} → r < 2 ^ n → q < n → elem q qs ≡ false → Two (2 ^ n) (embed exact n qs u r) r s → Two (2 ^ n) (embed exact n (q ∷ qs) (controlled u) r) r s
@@ -249,3 +276,26 @@ row-spot {n} {g} {i = i} {m} {c} ready few e f h q = record { few = few; row-in 
 
 pub row-entry : (n : ℕ) (g : Gate) (j i m c : ℕ) → m ≡ flips n g → c ≡ cond (eqb (i % 2) 0) (i / 2) (bitXor (i / 2) m) → gateEntry n g j (i / 2) c ≡ rowEntry n g j i
 row-entry n g j i m c f q = ap (gateEntry n g j (i / 2)) (q ∙ ap (λ (m : ℕ). cond (eqb (i % 2) 0) (i / 2) (bitXor (i / 2) m)) f)
+
+-- entry i of the rows of a gate on one qubit, whose bit in the row is x
+module _ {n : ℕ} {g : Gate} {j i : ℕ} (ready : Ready n g j) (few : n ≤ 5) (single : arity (g .kind) ≡ 1) (h : i < 2 ^ n * 2) {u : Table} (e : u ≡ coreOf g j) {x : ℕ} (b : x ≡ bit n (g .a) (i / 2)) where
+  row : i / 2 < 2 ^ n
+  row = omega arith
+
+  entry-at : (c : ℕ) → embed exact n (g .a ∷ []) (smallOf (coreOf g j)) (i / 2) c ≡ gateEntry n g j (i / 2) c
+  entry-at c = one-entry n j (i / 2) c (g .a) (g .b) (g .c) (g .k) (g .kind) (one-kinds ready single) (ready .which)
+
+  one-flips : (m : ℕ) → elem m (12 ∷ 13 ∷ 2 ∷ 3 ∷ 4 ∷ 5 ∷ 6 ∷ 7 ∷ 0 ∷ 1 ∷ 15 ∷ 16 ∷ []) ≡ true → 2 ^ (n - 1 - g .a) ≡ flips n (gate m (g .a) (g .b) (g .c) (g .k))
+  one-flips = elem-in (λ (m : ℕ). 2 ^ (n - 1 - g .a) ≡ flips n (gate m (g .a) (g .b) (g .c) (g .k))) (12 ∷ 13 ∷ 2 ∷ 3 ∷ 4 ∷ 5 ∷ 6 ∷ 7 ∷ 0 ∷ 1 ∷ 15 ∷ 16 ∷ [])
+      (refl, (refl, (refl, (refl, (refl, (refl, (refl, (refl, (refl, (refl, (refl, (refl, tt))))))))))))
+
+  pub own-entry : i % 2 ≡ 0 → value (pick u x x) ≡ rowEntry n g j i
+  own-entry z =
+      (λ k. value (pick (e k) (b k) (b k))) ∙ single-own n (g .a) (i / 2) few (one-on ready single) row (smallOf (coreOf g j)) ∙ entry-at (i / 2)
+      ∙ sym (ap (λ (t : Bool). gateEntry n g j (i / 2) (cond t (i / 2) (partner n g (i / 2)))) (eq-eqb (i % 2) 0 z))
+
+  pub other-entry : i % 2 ≢ 0 → value (pick u x (1 - x)) ≡ rowEntry n g j i
+  other-entry z =
+      (λ k. value (pick (e k) (b k) (1 - b k))) ∙ single-other n (g .a) (i / 2) few (one-on ready single) row (smallOf (coreOf g j)) ∙ entry-at (bitXor (i / 2) (2 ^ (n - 1 - g .a)))
+      ∙ ap (λ (m : ℕ). gateEntry n g j (i / 2) (bitXor (i / 2) m)) (one-flips (g .kind) (one-kinds ready single))
+      ∙ sym (ap (λ (t : Bool). gateEntry n g j (i / 2) (cond t (i / 2) (partner n g (i / 2)))) (ne-eqb (i % 2) 0 z))

@@ -355,6 +355,24 @@ fn column(m: usize, i: usize) -> usize
     if i % 2 == 0 { i / 2 } else { (i / 2) ^ m }
 }
 
+// Entry i of the rows of operator j; u is its two-by-two matrix, and m are the bits that the gate may change.
+fn row_entry(u: [[Scalar; 2]; 2], g: GateWords, n: u32, j: usize, i: usize, m: usize) -> Scalar
+    requires { ⌜ (u ≡ coreOf (gateOf g) j) × ((m ≡ flips n (gateOf g)) × ((i < 2 ^ n * 2) × ((n ≤ 5) × Ready n (gateOf g) j))) ⌝ }
+    ensures { λ r. ⌜ value r ≡ rowEntry n (gateOf g) j i ⌝ }
+{
+    let used = qubit_count(g.kind);
+    if used == 1 {
+        let x = bit_of(n, g.a, i / 2);
+        return if i % 2 == 0 {
+            pick_entry(u, x, x)
+        } else {
+            pick_entry(u, x, 1 - x)
+        };
+    }
+    let col = column(m, i);
+    gate_entry(u, g, n, j, i / 2, col)
+}
+
 // Write the two entries of each row of operator j, on n qubits with d rows and columns, to `at` on; m are the bits that the gate may change.
 pub fn write_rows(buf: &mut [i64], at: usize, n: u32, d: usize, g: GateWords, j: usize, m: usize)
     requires { ⌜ (m ≡ flips n (gateOf g)) × ((at + d * 2 * 5 ≤ length (now buf)) × ((n ≤ 5) × ((d ≡ 2 ^ n) × Ready n (gateOf g) j))) ⌝ }
@@ -364,8 +382,7 @@ pub fn write_rows(buf: &mut [i64], at: usize, n: u32, d: usize, g: GateWords, j:
     let count = d * 2;
     let mut i = 0;
     while i < count {
-        let col = column(m, i);
-        let v = gate_entry(u, g, n, j, i / 2, col);
+        let v = row_entry(u, g, n, j, i, m);
         let to = at + i * 5;
         write_cell(buf, to, v);
         i += 1;

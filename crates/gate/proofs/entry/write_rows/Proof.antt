@@ -1,6 +1,6 @@
 -- The invariant: the first i entries are written.
-use mathlib.Core.Path.{ap, _∙_}
-use Prim.Native.Nat.{ℕ, _*_, _-_}
+use mathlib.Core.Path.{ap, subst}
+use Prim.Native.Nat.{ℕ, _*_, _-_, _<_}
 use native.Mathlib.Nat.{le-refl}
 use native.Mathlib.Omega.{arith}
 use borrow.Author.Needs.{needs}
@@ -8,7 +8,6 @@ use Rattle.algebra.proofs.Blocks.{Writing, begin, again, done, long}
 use Rattle.scalar.specs.Cells.{cellWords}
 use Rattle.gate.specs.Verdict.{gateOf}
 use Rattle.gate.specs.Entries.{rowEntry}
-use Rattle.gate.proofs.Partner.{row-spot, row-entry}
 use Rattle.gate.proofs.entry.write_rows.Statement.{statement}
 use Rattle.gate.proofs.entry.write_rows.Tie as tie
 
@@ -27,15 +26,11 @@ mul-count c = omega arith
 loop-holds : tie.Need-loop-holds Inv-loop μ-loop
 loop-holds c = begin (λ k. le-refl 5)
 
-column-requires : tie.Need-column-requires Inv-loop μ-loop
-column-requires c κs = search needs
-
-gate-entry-requires : tie.Need-gate-entry-requires Inv-loop μ-loop
-gate-entry-requires c κs =
-    let t = c .before in
-    let u = t .before .before in
+row-entry-requires : tie.Need-row-entry-requires Inv-loop μ-loop
+row-entry-requires c κs =
+    let u = c .before .before in
     let p = u .before .pre in
-    (u .core-table .ensures, (row-spot (p .1 .1 .1 .1) (p .1 .1 .0) (p .1 .1 .1 .0) (p .0) (t .loop-test .taken) (c .column .ensures), p .1 .1 .1 .1))
+    (u .core-table .ensures, (p .0, (subst (λ (d : ℕ). c .before .loop .i < d * 2) (p .1 .1 .1 .0) (c .loop-test .taken), (p .1 .1 .0, p .1 .1 .1 .1))))
 
 mul-to : tie.Need-mul-to Inv-loop μ-loop
 mul-to c = omega arith
@@ -44,7 +39,7 @@ add-to : tie.Need-add-to Inv-loop μ-loop
 add-to c = omega arith
 
 write-cell-requires : tie.Need-write-cell-requires Inv-loop μ-loop
-write-cell-requires c κs = omega (arith, long (c .before .before .before .before .loop .inv))
+write-cell-requires c κs = omega (arith, long (c .before .before .before .loop .inv))
 
 add-i : tie.Need-add-i Inv-loop μ-loop
 add-i c = omega arith
@@ -56,12 +51,8 @@ loop-again : tie.Need-loop-again Inv-loop μ-loop
 loop-again c =
     let w = c .before in
     let v = w .before .before in
-    let q = v .before in
-    let t = q .before in
-    let o = t .before .before .before in
-    let a = o .args in
-    again (t .before .loop .inv) (t .loop-test .taken) (w .write-cell .ensures)
-    (ap cellWords (v .gate-entry .ensures ∙ row-entry (a .n) (gateOf (a .g)) (a .j) (t .before .loop .i) (a .m) (q .column .result) (o .pre .0) (q .column .ensures)))
+    let t = v .before in
+    again (t .before .loop .inv) (t .loop-test .taken) (w .write-cell .ensures) (ap cellWords (v .row-entry .ensures))
 
 same-length : tie.Need-same-length Inv-loop μ-loop
 same-length c = long (c .before .loop .inv)
@@ -78,8 +69,7 @@ write-rows-spec =
     core-table-requires
     mul-count
     loop-holds
-    column-requires
-    gate-entry-requires
+    row-entry-requires
     mul-to
     add-to
     write-cell-requires
