@@ -4,7 +4,7 @@ use super::blocks::write_block;
 use channel::layout::HEADER;
 use channel::layout::RECORD_HEAD;
 use channel::layout::record_size;
-use scalar::cells::CELL;
+use cells::CELL;
 ghost use mathlib.Core.Path.{_≡_};
 ghost use mathlib.Core.Bool.{true, cond};
 ghost use Prim.Native.Nat.{_+_, _*_, _<_, _≤_};

@@ -12,8 +12,8 @@ use lib.Pow.{pow-mono, pow-pos}
 use borrow.Author.Tests.{eqb-true, eqb-false, eq-eqb, ne-eqb}
 use Rattle.algebra.specs.Lists.{All, allBelow}
 use Rattle.algebra.proofs.Tests.{exhaust, and-split}
+use Rattle.exact.specs.Exact.{Exact, exact}
 use Rattle.scalar.specs.declared.Scalar.{Scalar}
-use Rattle.scalar.specs.Exact.{Exact, exact}
 use Rattle.scalar.specs.Calls.{value, scalarOf}
 use Rattle.gate.specs.Gate.{elem}
 use Rattle.gate.specs.Operators.{Small, one, none, sameBits, controlled, swapped}

@@ -13,7 +13,7 @@ use lib.Pow.{pow-mono}
 use borrow.Author.Tests.{ltb-true, eqb-false, ne-eqb, not-true}
 use Rattle.algebra.specs.Lists.{allBelow}
 use Rattle.algebra.proofs.Tests.{exhaust, holds-true}
-use Rattle.scalar.specs.Exact.{Exact, exact}
+use Rattle.exact.specs.Exact.{Exact, exact}
 use Rattle.gate.specs.Gate.{Gate, gate, arity, elem}
 use Rattle.gate.specs.Operators.{Small, one, none, operators, controlled, swapped}
 use Rattle.gate.specs.Embed.{bit, bitsOf, embed}

@@ -8,7 +8,7 @@ use lib.ListN.{getD}
 use lib.IntN.{ℤ, pos, negsuc}
 use Rattle.algebra.specs.Ops.{Ops}
 use Rattle.algebra.specs.Dyadic.{Frac, frac}
-use Rattle.scalar.specs.Exact.{Exact, exact, number, imaginary, invSqrtTwo, omega}
+use Rattle.exact.specs.Exact.{Exact, exact, number, imaginary, invSqrtTwo, omega}
 use Rattle.gate.specs.Gate.{Gate, measure, reset}
 
 abbrev pub Small : Type 0

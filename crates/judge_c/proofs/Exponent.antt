@@ -10,7 +10,7 @@ use mir.Val.{toZ, ofZ, Fits, SFits}
 use mir.Facts.{toZ-ofZ}
 use Rattle.algebra.specs.Words.{upTo}
 use Rattle.algebra.proofs.Signed.{below-zero, above-top, up-to, cast-ok}
-use Rattle.scalar.specs.Exact.{maxExponent}
+use Rattle.exact.specs.Exact.{maxExponent}
 use Rattle.judge_c.specs.Interface.{exponentOf}
 
 module _ (z : ℤ) (f : SFits w64 z) where

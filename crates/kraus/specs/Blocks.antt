@@ -6,8 +6,8 @@ use lib.ListN.{getD}
 use Rattle.algebra.specs.Ops.{Ops}
 use Rattle.algebra.specs.Lists.{every, filterBy}
 use Rattle.algebra.specs.Dyadic.{Frac}
-use Rattle.scalar.specs.Exact.{Exact, exact, conj}
-use Rattle.scalar.specs.Cells.{isZero}
+use Rattle.exact.specs.Exact.{Exact, exact, conj}
+use Rattle.cells.specs.Cells.{isZero}
 use Rattle.gate.specs.Gate.{Gate}
 use Rattle.gate.specs.Operators.{sameBits}
 use Rattle.kraus.specs.Dense.{table}

@@ -14,8 +14,8 @@ use Rattle.algebra.specs.Lists.{every, total}
 use Rattle.algebra.specs.Words.{fillWords}
 use Rattle.algebra.proofs.Tests.{and-split}
 use Rattle.algebra.proofs.Blocks.{written-over}
-use Rattle.scalar.specs.Exact.{exact}
-use Rattle.scalar.specs.Cells.{fill, cells}
+use Rattle.exact.specs.Exact.{exact}
+use Rattle.cells.specs.Cells.{fill, cells}
 use Rattle.gate.specs.declared.judge.GateVerdict.{GateVerdict}
 use Rattle.gate.specs.declared.judge.GateVerdict.the-variants.{Fine, Malformed, Operand, Unsupported}
 use Rattle.gate.specs.declared.judge.Asking.the-variants.{Unitary}

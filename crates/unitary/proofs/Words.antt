@@ -8,8 +8,8 @@ use lib.Seq.{ext-getD}
 use lib.IntN.{ℤ, pos}
 use Rattle.algebra.specs.Words.{fillWords, joined}
 use Rattle.algebra.proofs.Blocks.{Writing, again-word, blocks-joined, length-joined, joined-at}
-use Rattle.scalar.specs.Exact.{Exact}
-use Rattle.scalar.specs.Cells.{cellWords, fill, cells}
+use Rattle.exact.specs.Exact.{Exact}
+use Rattle.cells.specs.Cells.{cellWords, fill, cells}
 use Rattle.branches.specs.Bank.{Holds}
 
 -- one word more from the start
