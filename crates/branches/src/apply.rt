@@ -1,6 +1,6 @@
 // A gate's operator applied to the matrix of a branch.
-use matrix::linear::combine_rows;
 use cells::read_cell;
+use matrix::linear::combine_rows;
 ghost use mathlib.Core.Path.{_≡_};
 ghost use Rattle.matrix.specs.Matrix.{written};
 ghost use Rattle.branches.specs.Step.{Applying, rowSum};

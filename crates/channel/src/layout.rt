@@ -1,7 +1,7 @@
 // The words of a channel: sizes, starts of records, stores and their order, and the chain.
-use scalar::Scalar;
 use cells::CELL;
 use cells::read_cell;
+use scalar::Scalar;
 ghost use mathlib.Core.Path.{_≡_};
 ghost use mathlib.Core.Bool.{true};
 ghost use Prim.Native.Nat.{_+_, _<_, _≤_, _^_, _-_};

@@ -1,9 +1,9 @@
-use matrix::words::clear;
-use scalar::Scalar;
+use cells::products::fma;
 use cells::read_cell;
 use cells::write_cell;
 use cells::zero_at;
-use cells::products::fma;
+use matrix::words::clear;
+use scalar::Scalar;
 use scalar::numerators::reduce;
 ghost use mathlib.Core.Path.{_≡_};
 ghost use mathlib.Core.Bool.{not};

@@ -1,4 +1,5 @@
 // The effects of a channel's blocks. The sums are tried before the first word is written, so that a refusal leaves the result as it was.
+use cells::write_cell;
 use channel::layout::ENTRY;
 use channel::layout::HEADER;
 use channel::layout::RECORD_HEAD;
@@ -8,7 +9,6 @@ use channel::well_formed::judge;
 use scalar::Answer;
 use scalar::Scalar;
 use scalar::Verdict;
-use cells::write_cell;
 use scalar::refused;
 ghost use mathlib.Core.Path.{_≡_};
 ghost use mathlib.Core.Bool.{true, cond};

@@ -1,11 +1,11 @@
 use super::Phase;
 use super::PhaseAnswer;
 use super::words::is_zero;
-use scalar::Scalar;
-use scalar::Verdict;
 use cells::read_cell;
 use cells::well_formed_at;
 use cells::zero_at;
+use scalar::Scalar;
+use scalar::Verdict;
 ghost use mathlib.Core.Path.{_≡_};
 ghost use mathlib.Core.Bool.{true};
 ghost use Prim.Native.Nat.{ℕ, _*_, _<_, _≤_};

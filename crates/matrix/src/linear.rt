@@ -1,12 +1,12 @@
 // Rows of numbers in words: one multiplied, or two multiplied and added.
 use super::words::clear;
 use super::words::copy;
-use scalar::Scalar;
+use cells::products::sum_of_products;
+use cells::products::times;
 use cells::read_cell;
 use cells::write_cell;
 use cells::zero_at;
-use cells::products::sum_of_products;
-use cells::products::times;
+use scalar::Scalar;
 ghost use mathlib.Core.Path.{_≡_};
 ghost use Rattle.exact.specs.Exact.{exact, equal};
 ghost use Rattle.exact.specs.Inner.{Coords};

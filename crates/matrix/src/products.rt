@@ -1,5 +1,5 @@
-use scalar::Scalar;
 use cells::write_cell;
+use scalar::Scalar;
 ghost use mathlib.Core.Path.{_≡_};
 ghost use Prim.Native.Nat.{_+_, _*_, _≤_};
 ghost use lib.ListN.{length};
