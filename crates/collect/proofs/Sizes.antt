@@ -1,18 +1,18 @@
 -- Sizes of overlaps and of their sums: conjugates of them can be taken.
-use mathlib.Core.Path.{_≡_, sym, ap, _∙_, subst}
+use mathlib.Core.Path.{_≡_, sym, _∙_, subst}
 use mathlib.Core.Bool.{Bool, true, false, cond}
 use Prim.Native.Nat.{ℕ, zero, suc, _+_, _*_, _-_, _^_, _≤_}
 use native.Mathlib.Nat.{le-trans, le-of-eq}
 use native.Mathlib.Decide.{decLe}
 use native.Mathlib.Omega.{arith}
 use lib.Dec.{lit≤}
-use lib.IntN.{ℤ, pos, negsuc, natAbs, _+ℤ_}
+use lib.IntN.{ℤ, pos, negsuc, natAbs}
 use Rattle.algebra.specs.Dyadic.{frac, halfℤ, by}
 use Rattle.algebra.proofs.Parts.{abs-neg, abs-add}
 use Rattle.algebra.proofs.Quadratic.{ℤ√2i}
 use Rattle.algebra.proofs.Dyadic.{low-exp}
-use Rattle.exact.specs.Exact.{Exact, Number, number, numbers, numberHalves, exact, lowest, conj}
-use Rattle.exact.specs.Inner.{Within, scaled, Coords, Room, roomNumerator, roomExponent}
+use Rattle.exact.specs.Exact.{Exact, Number, numbers, numberHalves, exact, lowest, conj}
+use Rattle.exact.specs.Inner.{Within, Coords, Room, roomNumerator, roomExponent}
 use Rattle.exact.proofs.Exact.{exacts, exactHalving}
 use Rattle.exact.proofs.Align.{widen, power-within, raised, scaled-none, aligned, fused, product-within, small}
 

@@ -1,6 +1,6 @@
 // The questions that are asked of four numerators: ranges, and whether all are even.
 ghost use mathlib.Core.Path.{_≡_};
-ghost use Prim.Native.Nat.{_≤_, _^_};
+ghost use Prim.Native.Nat.{_≤_};
 ghost use lib.Dec.{leb};
 ghost use lib.IntN.{pos, natAbs};
 ghost use Rattle.exact.specs.Exact.{numberHalves, within};

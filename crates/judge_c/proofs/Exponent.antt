@@ -1,7 +1,7 @@
 -- The exponent of a word, by its two tests.
 use mathlib.Core.Path.{_≡_, ap, sym}
 use mathlib.Core.Bool.{Bool, true, false, cond}
-use Prim.Native.Nat.{ℕ, suc, _^_}
+use Prim.Native.Nat.{suc}
 use lib.Dec.{T, lit<}
 use lib.IntN.{ℤ, pos, natAbs}
 use lib.Signed.{ltZ, nonNeg}

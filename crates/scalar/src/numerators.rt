@@ -5,7 +5,7 @@ use exact::numerators::least;
 use exact::numerators::scaled4;
 use exact::numerators::sum4;
 ghost use mathlib.Core.Path.{_≡_};
-ghost use Prim.Native.Nat.{_-_, _≤_, _^_};
+ghost use Prim.Native.Nat.{_-_, _≤_};
 ghost use Rattle.algebra.specs.Dyadic.{frac};
 ghost use Rattle.exact.specs.Exact.{number, exact, lowest};
 ghost use Rattle.exact.specs.Inner.{numberOf, Within, scaled, roomNumerator};

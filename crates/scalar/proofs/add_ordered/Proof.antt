@@ -1,6 +1,6 @@
 -- `add_ordered` meets its contract: where the first term cannot be scaled, the sum is too large.
 use mathlib.Core.Path.{ap, sym, _∙_}
-use Prim.Native.Nat.{_-_, _^_}
+use Prim.Native.Nat.{_-_}
 use native.Mathlib.Omega.{arith}
 use borrow.Author.Needs.{needs}
 use Rattle.exact.specs.Exact.{exact}

@@ -1,9 +1,7 @@
 -- `collect::overlaps::times_conj` meets its contract.
 use mathlib.Core.Path.{ap, _∙_}
-use mathlib.Core.List.{List}
 use Prim.Native.Nat.{_+_, _*_, _^_}
 use lib.Dec.{lit≤}
-use lib.IntN.{ℤ}
 use Rattle.exact.specs.Exact.{Exact, Number, lowest}
 use Rattle.exact.specs.Inner.{numberOf, Within, Coords}
 use Rattle.exact.proofs.Sizes.{number-back}

@@ -1,7 +1,7 @@
 -- `sum4` meets its contract.
 use mathlib.Core.Path.{_≡_}
 use mathlib.Core.List.{[], _∷_}
-use Prim.Native.Nat.{_^_, _≤_}
+use Prim.Native.Nat.{_≤_}
 use lib.IntN.{ℤ, natAbs, _+ℤ_}
 use mir.Syntax.{w64}
 use mir.Val.{SFits, toZ, ofZ}

@@ -1,7 +1,6 @@
 -- `aligned_sum` meets its contract.
 use mathlib.Core.Path.{ap, _∙_}
 use mathlib.Core.List.{List}
-use Prim.Native.Nat.{_-_}
 use lib.IntN.{ℤ}
 use Rattle.algebra.specs.Dyadic.{frac}
 use Rattle.exact.specs.Exact.{Number, numbers, lowest}
