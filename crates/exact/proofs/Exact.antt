@@ -49,7 +49,7 @@ lowest-form z (suc e) = go (numberHalves .even z) refl (lowest-form (numberHalve
 pub lowest-is : (x : Exact) → lowest (x .num) (x .exp) ≡ x → isLowest x ≡ true
 lowest-is x h = ap isLowest (sym h) ∙ lowest-form (x .num) (x .exp)
 
--- sums, products and halves are in lowest form
+-- sums and products are in lowest form
 pub add-lowest : (x y : Exact) → isLowest (exact ._⊕_ x y) ≡ true
 add-lowest x y = lowest-form (plus numbers x y .num) (x .exp + y .exp)
 

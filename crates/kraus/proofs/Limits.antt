@@ -71,7 +71,7 @@ pub record Fitting (e : ℕ) (x : Exact) : Type 0 where
   pub well-formed : wellFormed x ≡ true
   pub room : (t : ℕ) → t ≤ e → Room t x
 
--- all numbers that come up: E bounds the exponents of the branches' entries
+-- the numbers that are kept: E bounds the exponents of the branches' entries
 pub record Enough (E n : ℕ) (bs : List Branch) : Type 0 where
   -- the entries of the branches
   pub entries : All (λ (b : Branch). (i : ℕ) → i < 2 ^ n * 2 ^ n → Kraus E (getD (b .matrix) i (exact .𝟘))) bs
