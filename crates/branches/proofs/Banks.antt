@@ -13,10 +13,10 @@ use Rattle.algebra.specs.Sum.{δ}
 use Rattle.algebra.specs.Words.{fromBits, blocks, upTo}
 use Rattle.algebra.proofs.Lists.{concat-length, concat-at}
 use Rattle.algebra.proofs.Blocks.{Same, length-blocks, blocks-at, block-in, append-block}
-use Rattle.scalar.specs.Exact.{Exact, exact, maxExponent}
-use Rattle.scalar.specs.Cells.{cellWords, cellAt, exponentAt, cells}
-use Rattle.scalar.specs.Inner.{Coords}
-use Rattle.scalar.proofs.Cell.{cell-is, exponent-is, length-cells, cells-at, cells-same, fill-block}
+use Rattle.exact.specs.Exact.{Exact, exact, maxExponent}
+use Rattle.exact.specs.Inner.{Coords}
+use Rattle.cells.specs.Cells.{cellWords, cellAt, exponentAt, cells}
+use Rattle.cells.proofs.Cell.{cell-is, exponent-is, length-cells, cells-at, cells-same, fill-block}
 use Rattle.matrix.specs.Matrix.{identified}
 use Rattle.matrix.specs.Factors.{Factor}
 use Rattle.kraus.specs.Dense.{table}

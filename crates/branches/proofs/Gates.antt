@@ -11,8 +11,8 @@ use lib.Seq.{sets}
 use lib.IntN.{ℤ}
 use Rattle.algebra.specs.Words.{blocks}
 use Rattle.algebra.proofs.Blocks.{blocks-step}
-use Rattle.scalar.specs.Cells.{fill}
-use Rattle.scalar.proofs.Cell.{fill-block}
+use Rattle.cells.specs.Cells.{fill}
+use Rattle.cells.proofs.Cell.{fill-block}
 use Rattle.gate.specs.Gate.{Gate, gateAt, elem, measure, reset, splits}
 use Rattle.gate.specs.Operators.{operators}
 use Rattle.gate.specs.Entries.{flips, rowEntry, Ready}

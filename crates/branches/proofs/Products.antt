@@ -17,11 +17,11 @@ use Rattle.algebra.proofs.Semi as semi
 use Rattle.algebra.proofs.Sum.{sum-two}
 use Rattle.algebra.proofs.Tests.{all-at}
 use Rattle.algebra.proofs.Blocks.{Writing, begin, long, kept, Same, part, cut, narrow, block-in, blocks-same, blocks-more}
-use Rattle.scalar.specs.Exact.{Exact, exact, isLowest, maxExponent}
-use Rattle.scalar.specs.Cells.{cellAt, cellWords, exponentAt, zeroAt, fill}
-use Rattle.scalar.specs.Inner.{Coords}
-use Rattle.scalar.proofs.Exact.{exacts}
-use Rattle.scalar.proofs.Cell.{cell-same}
+use Rattle.exact.specs.Exact.{Exact, exact, isLowest, maxExponent}
+use Rattle.exact.specs.Inner.{Coords}
+use Rattle.exact.proofs.Exact.{exacts}
+use Rattle.cells.specs.Cells.{cellAt, cellWords, exponentAt, zeroAt, fill}
+use Rattle.cells.proofs.Cell.{cell-same}
 use Rattle.gate.specs.Gate.{Gate}
 use Rattle.gate.specs.Entries.{gateEntry, flips, partner, rowEntry, Ready}
 use Rattle.gate.proofs.Partner.{Two, row-two}

@@ -16,7 +16,7 @@ use Rattle.algebra.specs.Words.{blocks, Apart}
 use Rattle.algebra.proofs.Lists.{every-all, all-getD}
 use Rattle.algebra.proofs.Totals.{sub-whole, sub-take, sub-total}
 use Rattle.algebra.proofs.Blocks.{Writing, wrote, kept, long, block-in, sets-at, sets-above}
-use Rattle.scalar.proofs.Cell.{length-cells, block-cell, block-word, exponent-is}
+use Rattle.cells.proofs.Cell.{length-cells, block-cell, block-word, exponent-is}
 use Rattle.gate.specs.Gate.{Gate, gateAt, gatesOf, valid, splits}
 use Rattle.gate.specs.Operators.{operators}
 use Rattle.gate.specs.Entries.{flips, rowEntry, Ready}
@@ -195,7 +195,7 @@ module _ {l₀ : List ℤ} {ws : List ℕ} {σ : Store} {n banks : ℕ} (r : Run
     apart = ⊎-elim (λ e. inl (omega (arith, count-size))) (λ e. inr (omega (arith, next-size))) (w .place)
 
     enough : Enough 25 n (after i)
-    enough = never-48 n (length σ) σ (gatesOf ws) (r .few) (r .accepted) (r .light) i
+    enough = never-48 n (length σ) σ (gatesOf ws) (r .accepted) (r .light) i
 
     running-ready : GateStep l ws (i * 5) (2 * (banks * branchSize (2 ^ n))) n (2 ^ n) from (banks * branchSize (2 ^ n) - from) count
     running-ready = record {

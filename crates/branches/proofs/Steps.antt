@@ -10,9 +10,9 @@ use lib.Seq.{sets}
 use lib.IntN.{ℤ}
 use Rattle.algebra.specs.Words.{Apart, upTo}
 use Rattle.algebra.proofs.Blocks.{Writing, again, kept, wrote, Same, same-trans, part, cut, narrow, block-in, append-block}
-use Rattle.scalar.specs.Exact.{Exact, isLowest}
-use Rattle.scalar.specs.Cells.{cells}
-use Rattle.scalar.proofs.Cell.{fill-block, length-cells, cell-same, cells-same}
+use Rattle.exact.specs.Exact.{Exact, isLowest}
+use Rattle.cells.specs.Cells.{cells}
+use Rattle.cells.proofs.Cell.{fill-block, length-cells, cell-same, cells-same}
 use Rattle.matrix.specs.Matrix.{written}
 use Rattle.matrix.proofs.Terms.{row-lt, column-lt, factor-same}
 use Rattle.branches.specs.Store.{StoreAt, outcomePair, outcomeWords}

@@ -6,8 +6,8 @@ use lib.ListN.{length, getD}
 use lib.IntN.{ℤ, pos}
 use Rattle.algebra.specs.Lists.{concatMap}
 use Rattle.algebra.specs.Sum.{δ}
-use Rattle.scalar.specs.Exact.{exact}
-use Rattle.scalar.specs.Cells.{cellSize, cells}
+use Rattle.exact.specs.Exact.{exact}
+use Rattle.cells.specs.Cells.{cellSize, cells}
 use Rattle.kraus.specs.Dense.{table}
 use Rattle.kraus.specs.Branch.{Store, Branch}
 use Rattle.branches.specs.Store.{storeWords}

@@ -7,7 +7,7 @@ use lib.ListN.{length, getD}
 use lib.IntN.{ℤ, pos}
 use Rattle.algebra.specs.Lists.{every, total}
 use Rattle.algebra.specs.Words.{blocks}
-use Rattle.scalar.specs.Cells.{cells}
+use Rattle.cells.specs.Cells.{cells}
 use Rattle.gate.specs.Gate.{Gate, gateAt, gatesOf, valid, weight, splits}
 use Rattle.gate.specs.Operators.{operators}
 use Rattle.gate.specs.Entries.{flips, rowEntry, Ready}

@@ -8,8 +8,8 @@ use lib.ListN.{length}
 use lib.IntN.{ℤ}
 use Rattle.algebra.specs.Sum.{times}
 use Rattle.algebra.specs.Words.{Apart}
-use Rattle.scalar.specs.Exact.{Exact, exact, isLowest}
-use Rattle.scalar.specs.Cells.{cellAt, exponentAt, cells}
+use Rattle.exact.specs.Exact.{Exact, exact, isLowest}
+use Rattle.cells.specs.Cells.{cellAt, exponentAt, cells}
 use Rattle.gate.specs.Gate.{Gate}
 use Rattle.gate.specs.Entries.{gateEntry, partner}
 use Rattle.matrix.specs.Matrix.{cell}

@@ -1,8 +1,8 @@
 // A gate's operator applied to the matrix of a branch.
+use cells::read_cell;
 use matrix::linear::combine_rows;
 use matrix::words::clear;
 use matrix::words::is_zero;
-use scalar::cells::read_cell;
 ghost use mathlib.Core.Path.{_≡_};
 ghost use Rattle.matrix.specs.Matrix.{written};
 ghost use Rattle.branches.specs.Step.{Applying, rowSum};

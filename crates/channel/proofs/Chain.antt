@@ -12,7 +12,7 @@ use lib.Signed.{nonNeg}
 use borrow.Author.Tests.{eqb-true}
 use Rattle.algebra.specs.Words.{eqℤ, upTo}
 use Rattle.algebra.proofs.Tests.{and-split, all-at}
-use Rattle.scalar.specs.Cells.{exponentAt, wellFormedAt}
+use Rattle.cells.specs.Cells.{exponentAt, wellFormedAt}
 use Rattle.channel.specs.Layout.{headerSize, recordSize, entryPlace, side, word, storeAt, dimAt, bitsAt, countAt}
 use Rattle.channel.specs.WellFormed.{storeOk, rises, recordOk, chainOk, wellFormed, Onward}
 use Rattle.channel.proofs.Words.{Starts, starts, starts-inside}

@@ -9,9 +9,9 @@ use lib.Dec.{eqb}
 use lib.IntN.{ℤ}
 use borrow.Author.Tests.{eq-eqb, eqb-true}
 use Rattle.algebra.proofs.Tests.{eqb-same}
-use Rattle.scalar.specs.Exact.{equal}
+use Rattle.exact.specs.Exact.{equal}
+use Rattle.exact.proofs.Equal.{equal-swap}
 use Rattle.scalar.specs.Calls.{scalarOf}
-use Rattle.scalar.proofs.Equal.{equal-swap}
 use Rattle.channel.specs.declared.compare.Place.{Place}
 use Rattle.channel.specs.declared.compare.Found.{Found}
 use Rattle.channel.specs.declared.compare.Found.the-variants.{Refused, Same, Dimensions, Entry}

@@ -8,8 +8,8 @@ use native.Mathlib.Omega.{arith}
 use lib.Dec.{eqb, ltb}
 use borrow.Author.Tests.{eq-eqb, eqb-true, ltb-true}
 use Rattle.algebra.proofs.Tests.{and-split}
-use Rattle.scalar.specs.Exact.{equal}
-use Rattle.scalar.proofs.Equal.{equal-true, equal-of}
+use Rattle.exact.specs.Exact.{equal}
+use Rattle.exact.proofs.Equal.{equal-true, equal-of}
 use Rattle.channel.specs.declared.compare.Difference.{Difference}
 use Rattle.channel.specs.declared.compare.Found.the-variants.{Same}
 use Rattle.channel.specs.Layout.{before}

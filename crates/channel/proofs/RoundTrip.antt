@@ -13,7 +13,7 @@ use borrow.Author.Tests.{le-leb, lt-ltb, ne-eqb}
 use Rattle.algebra.specs.Lists.{All}
 use Rattle.algebra.specs.Words.{eqℤ, upTo}
 use Rattle.algebra.proofs.Tests.{all-by}
-use Rattle.scalar.specs.Cells.{wellFormedAt}
+use Rattle.cells.specs.Cells.{wellFormedAt}
 use Rattle.channel.specs.Layout.{Block, headerSize, recordSize, recordAt, entryPlace, side, word, storeAt, before, least, link, next, readBack}
 use Rattle.channel.specs.WellFormed.{storeOk, entriesOk, recordOk, chainOk, headerOk, wellFormed}
 use Rattle.channel.specs.Claims.{entryOf, places, rising, storesOf, Writable, ReadsBack, RoundTrip}

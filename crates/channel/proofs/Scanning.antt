@@ -7,7 +7,7 @@ use native.Mathlib.Numerals.{add-one}
 use native.Mathlib.Omega.{arith}
 use lib.Arith.{digits-div, digits-mod}
 use Rattle.channel.specs.declared.compare.Found.the-variants.{Same}
-use Rattle.scalar.specs.Exact.{equal}
+use Rattle.exact.specs.Exact.{equal}
 use Rattle.channel.specs.Compare.{Both, plain, entry, scan}
 
 module _ (b : Both) (w m k : ℕ) (h : k < m) where

@@ -11,7 +11,7 @@ use lib.IntN.{ℤ, natAbs}
 use borrow.Author.Tests.{eq-eqb, ne-eqb, eqb-true, eqb-false, ltb-true}
 use Rattle.algebra.specs.Words.{upTo}
 use Rattle.algebra.proofs.Tests.{and-split}
-use Rattle.scalar.specs.Exact.{Exact, exact}
+use Rattle.exact.specs.Exact.{Exact, exact}
 use Rattle.channel.specs.Layout.{Block, side, word, storeAt, before, dimAt, bitsAt, countAt, chain, readBack}
 use Rattle.channel.specs.WellFormed.{storeOk, rises, entriesOk, chainOk, wellFormed}
 use Rattle.channel.specs.Compare.{Both, leftOnly, rightOnly, paired, merge}

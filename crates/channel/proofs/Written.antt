@@ -9,9 +9,9 @@ use lib.Seq.{getD-append-add}
 use lib.IntN.{ℤ, pos, natAbs}
 use Rattle.algebra.specs.Words.{joined}
 use Rattle.algebra.proofs.Blocks.{length-joined, joined-at, block-in}
-use Rattle.scalar.specs.Exact.{wellFormed}
-use Rattle.scalar.specs.Cells.{cellWords, wellFormedAt}
-use Rattle.scalar.proofs.Cell.{length-cells, cells-at, cell-is, well-formed-is}
+use Rattle.exact.specs.Exact.{wellFormed}
+use Rattle.cells.specs.Cells.{cellWords, wellFormedAt}
+use Rattle.cells.proofs.Cell.{length-cells, cells-at, cell-is, well-formed-is}
 use Rattle.channel.specs.Layout.{Block, recordSize, recordAt, entryPlace, entryAt, side, word, storeAt, recordWords, next, header, channelWords}
 
 module _ (d m n : ℕ) (block : ℕ → Block) (rest : List ℤ) where

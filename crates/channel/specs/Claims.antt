@@ -6,8 +6,8 @@ use Prim.Native.Nat.{ℕ, zero, suc, _+_, _*_, _-_, _/_, _^_, _<_, _≤_}
 use lib.Dec.{eqb, ltb}
 use lib.IntN.{ℤ, pos, natAbs}
 use Rattle.algebra.specs.Lists.{total}
-use Rattle.scalar.specs.Exact.{Exact, exact}
-use Rattle.scalar.specs.Exact as numbers
+use Rattle.exact.specs.Exact.{Exact, exact}
+use Rattle.exact.specs.Exact as numbers
 use Rattle.scalar.specs.Calls.{scalarOf}
 use Rattle.channel.specs.declared.compare.Place.{Place}
 use Rattle.channel.specs.declared.compare.Found.the-variants.{Same, Entry}

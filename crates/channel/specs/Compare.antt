@@ -4,7 +4,7 @@ use mathlib.Core.List.{List, [], _∷_, map}
 use Prim.Native.Nat.{ℕ, zero, suc, _*_, _/_, _%_}
 use lib.Dec.{eqb}
 use lib.IntN.{ℤ}
-use Rattle.scalar.specs.Exact.{Exact, exact, equal}
+use Rattle.exact.specs.Exact.{Exact, exact, equal}
 use Rattle.scalar.specs.Calls.{scalarOf}
 use Rattle.channel.specs.declared.compare.Found.{Found}
 use Rattle.channel.specs.declared.compare.Found.the-variants.{Refused, Same, Dimensions, Entry}

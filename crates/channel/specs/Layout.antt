@@ -7,8 +7,8 @@ use lib.ListN.{getD}
 use lib.IntN.{ℤ, pos, natAbs}
 use Rattle.algebra.specs.Sum.{sum}
 use Rattle.algebra.specs.Words.{joined}
-use Rattle.scalar.specs.Exact.{Exact, exact}
-use Rattle.scalar.specs.Cells.{cellSize, cellAt, cells}
+use Rattle.exact.specs.Exact.{Exact, exact}
+use Rattle.cells.specs.Cells.{cellSize, cellAt, cells}
 
 -- ---- sizes and places
 -- dim, bit count, block count, index of the first block

@@ -6,8 +6,8 @@ use Prim.Native.Nat.{ℕ, _+_, _-_, _≤_}
 use lib.Dec.{eqb, ltb}
 use lib.ListN.{length}
 use lib.IntN.{ℤ, natAbs}
-use Rattle.scalar.specs.Exact.{Exact, exact}
-use Rattle.scalar.specs.Cells.{exponentAt}
+use Rattle.exact.specs.Exact.{Exact, exact}
+use Rattle.cells.specs.Cells.{exponentAt}
 use Rattle.channel.specs.declared.compare.Turn.{Turn}
 use Rattle.channel.specs.declared.compare.Cursor.{Cursor}
 use Rattle.channel.specs.Layout.{entrySize, side, dimAt, countAt, word, entryPlace, entryAt, storeAt, before}

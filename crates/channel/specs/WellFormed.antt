@@ -8,7 +8,7 @@ use lib.ListN.{length}
 use lib.IntN.{ℤ, pos, negsuc, natAbs}
 use Rattle.algebra.specs.Lists.{allBelow}
 use Rattle.algebra.specs.Words.{eqℤ, upTo}
-use Rattle.scalar.specs.Cells.{wellFormedAt}
+use Rattle.cells.specs.Cells.{wellFormedAt}
 use Rattle.channel.specs.declared.Shape.{Shape}
 use Rattle.channel.specs.declared.well_formed.Judged.{Judged}
 use Rattle.channel.specs.Layout.{headerSize, recordSize, entryPlace, side, word, storeFrom, before, storeAt, dimAt, bitsAt, countAt}

@@ -1,7 +1,7 @@
 // The words of a channel: sizes, starts of records, stores and their order, and the chain.
+use cells::CELL;
+use cells::read_cell;
 use scalar::Scalar;
-use scalar::cells::CELL;
-use scalar::cells::read_cell;
 ghost use mathlib.Core.Path.{_≡_};
 ghost use mathlib.Core.Bool.{true};
 ghost use Prim.Native.Nat.{_+_, _<_, _≤_, _^_, _-_};
@@ -10,7 +10,7 @@ ghost use lib.ListN.{length};
 ghost use lib.IntN.{pos, natAbs};
 ghost use Rattle.algebra.specs.Words.{upTo};
 ghost use Rattle.scalar.specs.Calls.{scalarOf};
-ghost use Rattle.scalar.specs.Cells.{exponentAt};
+ghost use Rattle.cells.specs.Cells.{exponentAt};
 ghost use Rattle.channel.specs.Layout.{recordHead, entrySize, blockSize, recordSize, entryPlace, entryAt, storeFrom, before, storeAt, word};
 ghost use Rattle.channel.specs.WellFormed.{isStart};
 

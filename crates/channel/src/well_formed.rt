@@ -8,7 +8,7 @@ use super::layout::is_start;
 use super::layout::join;
 use super::layout::record_size;
 use super::layout::up_to;
-use scalar::cells::well_formed_at;
+use cells::well_formed_at;
 ghost use mathlib.Core.Path.{_≡_};
 ghost use mathlib.Core.Bool.{true, false};
 ghost use Prim.Native.Nat.{_+_, _≤_};

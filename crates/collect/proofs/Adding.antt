@@ -12,14 +12,14 @@ use lib.ListN.{length}
 use lib.Seq.{sets}
 use lib.IntN.{ℤ, pos, natAbs}
 use borrow.Author.Tests.{le-leb}
-use Rattle.algebra.specs.Words.{blocks, fillWords}
+use Rattle.algebra.specs.Words.{fillWords}
 use Rattle.algebra.proofs.Parts.{abs-neg}
 use Rattle.algebra.proofs.Blocks.{Writing, begin, wrote, long, kept, rest, Same, block-in, blocks-same, blocks-more}
-use Rattle.scalar.specs.Exact.{Exact, exact, conj, isLowest, maxExponent}
-use Rattle.scalar.specs.Cells.{cellAt, cellWords, exponentAt, isZero, zeroAt, fill}
-use Rattle.scalar.specs.Inner.{Within, Coords, Room}
-use Rattle.scalar.proofs.Exact.{exacts, conj-plus, conj-by, conj-conj}
-use Rattle.scalar.proofs.Cell.{cell-same, exponent-same, cell-filled, exponent-filled}
+use Rattle.exact.specs.Exact.{Exact, exact, conj, isLowest, maxExponent}
+use Rattle.exact.specs.Inner.{Within, Room}
+use Rattle.exact.proofs.Exact.{exacts, conj-plus, conj-by, conj-conj}
+use Rattle.cells.specs.Cells.{cellAt, cellWords, exponentAt, isZero, zeroAt, fill}
+use Rattle.cells.proofs.Cell.{cell-same, exponent-same, cell-filled, exponent-filled}
 use Rattle.matrix.specs.Factors.{Factor}
 use Rattle.matrix.proofs.Terms.{zero-by, zero-left, zero-right}
 use Rattle.matrix.proofs.Rows.{zero-cells}

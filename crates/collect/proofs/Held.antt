@@ -14,8 +14,8 @@ use Rattle.algebra.specs.Lists.{All, every, total, filterBy}
 use Rattle.algebra.proofs.Lists.{all-getD, all-map, all-concat}
 use Rattle.algebra.proofs.Totals.{sub-whole, sub-filter, sub-take}
 use Rattle.algebra.proofs.Bits.{bits-below, bits-parts}
-use Rattle.scalar.specs.Exact.{Exact, exact}
-use Rattle.scalar.specs.Inner.{Room}
+use Rattle.exact.specs.Exact.{Exact, exact}
+use Rattle.exact.specs.Inner.{Room}
 use Rattle.matrix.specs.Factors.{Factor}
 use Rattle.gate.specs.Gate.{Gate, valid, weight, splits}
 use Rattle.gate.specs.Operators.{Operator, operators}
@@ -68,7 +68,7 @@ circuit-held n σ gs ok bits light narrow small few holds = record {
   narrow = narrow;
   small = small;
   few = omega (arith, branch-count n σ gs);
-  enough = subst (λ (hs : List Gate). Enough 25 n (branches n σ hs)) (take-length gs) (never-48 n (length σ) σ gs (omega arith) ok light (length gs));
+  enough = subst (λ (hs : List Gate). Enough 25 n (branches n σ hs)) (take-length gs) (never-48 n (length σ) σ gs ok light (length gs));
 }
 
 -- ---- what a bank that holds them is read as

@@ -13,9 +13,9 @@ use lib.IntN.{ℤ, pos, natAbs}
 use Rattle.algebra.specs.Words.{blocks}
 use Rattle.algebra.proofs.Blocks.{Writing, begin, again, done, long, block-in, append-block}
 use Rattle.algebra.proofs.Signed.{word-is}
-use Rattle.scalar.specs.Exact.{Exact}
-use Rattle.scalar.specs.Cells.{cells, fill}
-use Rattle.scalar.proofs.Cell.{fill-block, length-cells}
+use Rattle.exact.specs.Exact.{Exact}
+use Rattle.cells.specs.Cells.{cells, fill}
+use Rattle.cells.proofs.Cell.{fill-block, length-cells}
 use Rattle.branches.specs.Store.{StoreAt}
 use Rattle.channel.specs.Layout.{headerSize, recordSize, side, word, storeFrom, recordWords, Block}
 use Rattle.collect.specs.Bank.{storeOf, starts, storesOf, overlaps, recordOf, records, Bank, Begun}

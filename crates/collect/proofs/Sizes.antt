@@ -1,20 +1,20 @@
 -- Sizes of overlaps and of their sums: conjugates of them can be taken.
-use mathlib.Core.Path.{_≡_, sym, ap, _∙_, subst}
+use mathlib.Core.Path.{_≡_, sym, _∙_, subst}
 use mathlib.Core.Bool.{Bool, true, false, cond}
 use Prim.Native.Nat.{ℕ, zero, suc, _+_, _*_, _-_, _^_, _≤_}
 use native.Mathlib.Nat.{le-trans, le-of-eq}
 use native.Mathlib.Decide.{decLe}
 use native.Mathlib.Omega.{arith}
 use lib.Dec.{lit≤}
-use lib.IntN.{ℤ, pos, negsuc, natAbs, _+ℤ_}
+use lib.IntN.{ℤ, pos, negsuc, natAbs}
 use Rattle.algebra.specs.Dyadic.{frac, halfℤ, by}
 use Rattle.algebra.proofs.Parts.{abs-neg, abs-add}
 use Rattle.algebra.proofs.Quadratic.{ℤ√2i}
 use Rattle.algebra.proofs.Dyadic.{low-exp}
-use Rattle.scalar.specs.Exact.{Exact, Number, number, numbers, numberHalves, exact, lowest, conj}
-use Rattle.scalar.specs.Inner.{Within, scaled, Coords, Room}
-use Rattle.scalar.proofs.Exact.{exacts, exactHalving}
-use Rattle.scalar.proofs.Align.{widen, power-within, raised, scaled-none, aligned, fused, product-within, small}
+use Rattle.exact.specs.Exact.{Exact, Number, numbers, numberHalves, exact, lowest, conj}
+use Rattle.exact.specs.Inner.{Within, Coords, Room, roomNumerator, roomExponent}
+use Rattle.exact.proofs.Exact.{exacts, exactHalving}
+use Rattle.exact.proofs.Align.{widen, power-within, raised, scaled-none, aligned, fused, product-within, small}
 
 -- ---- conjugates
 pub conj-coords : (m k : ℕ) (x : Exact) → Coords m k x → Coords m k (conj x)
@@ -61,11 +61,11 @@ module _ (x y : Exact) (cx : Coords 1 28 x) (cy : Coords 1 28 y) where
   term : Within (8 * 2 ^ (x .exp + y .exp)) (numbers ._⊗_ (x .num) (y .num))
   term = product-within x y (cx .size) (cy .size)
 
-  under : x .exp + y .exp ≤ 56
+  under : x .exp + y .exp ≤ roomExponent
   under = omega (arith, cx .exponent, cy .exponent)
 
   pub product-fits : Fits (exact ._⊗_ x y)
-  product-fits = lowest-fits (numbers ._⊗_ (x .num) (y .num)) (x .exp + y .exp) (omega (arith, under)) (widen (2 ^ 61) (2 ^ 62) (numbers ._⊗_ (x .num) (y .num)) (lit≤ tt) (small (x .exp + y .exp) _ under term))
+  product-fits = lowest-fits (numbers ._⊗_ (x .num) (y .num)) (x .exp + y .exp) (omega (arith, under)) (widen roomNumerator (2 ^ 62) (numbers ._⊗_ (x .num) (y .num)) (lit≤ tt) (small (x .exp + y .exp) _ under term))
 
   pub sum-fits : (a : Exact) → Room (x .exp + y .exp) a → Fits (exact ._⊕_ a (exact ._⊗_ x y))
   sum-fits a r = subst Fits (sym (fused a x y)) (go (decLe (a .exp) (x .exp + y .exp)))
@@ -73,7 +73,7 @@ module _ (x y : Exact) (cx : Coords 1 28 x) (cy : Coords 1 28 y) where
       p : Exact
       p = by numbers x y
 
-      plus-within : (u v : Number) → Within (2 ^ 61) u → Within (2 ^ 61) v → Within (2 ^ 62) (numbers ._⊕_ u v)
+      plus-within : (u v : Number) → Within roomNumerator u → Within roomNumerator v → Within (2 ^ 62) (numbers ._⊕_ u v)
       plus-within u v h k = record {
         w0 = omega (arith, abs-add (u .re .re) (v .re .re), h .w0, k .w0);
         w1 = omega (arith, abs-add (u .re .im) (v .re .im), h .w1, k .w1);
@@ -87,4 +87,4 @@ module _ (x y : Exact) (cx : Coords 1 28 x) (cy : Coords 1 28 y) where
           let none : x .exp + y .exp - a .exp ≡ 0 = omega arith in
           let le : x .exp + y .exp ≤ a .exp = omega arith in
           subst Fits (aligned (by numbers x y) a le ∙ exacts .add-comm (by numbers x y) a)
-          (lowest-fits _ (a .exp) (omega (arith, r .exponent)) (plus-within _ _ (small (a .exp) _ (r .exponent) (raised 8 (x .exp + y .exp) (a .exp) _ le term)) (subst (Within (2 ^ 61)) (scaled-none (a .num) (x .exp + y .exp - a .exp) none) (r .size))))
+          (lowest-fits _ (a .exp) (omega (arith, r .exponent)) (plus-within _ _ (small (a .exp) _ (r .exponent) (raised 8 (x .exp + y .exp) (a .exp) _ le term)) (subst (Within roomNumerator) (scaled-none (a .num) (x .exp + y .exp - a .exp) none) (r .size))))

@@ -13,11 +13,11 @@ use lib.Dec.{leb}
 use borrow.Author.Tests.{le-leb, eq-eqb, not-true}
 use Rattle.algebra.proofs.Tests.{and-split, all-at}
 use Rattle.algebra.proofs.Blocks.{Writing, wrote, long, length-blocks, block-in, blocks-same, blocks-over}
-use Rattle.scalar.specs.Exact.{Exact, exact, conj, isLowest, maxExponent}
-use Rattle.scalar.specs.Cells.{cellAt, cellWords, exponentAt, fill}
-use Rattle.scalar.specs.Inner.{Room}
-use Rattle.scalar.proofs.Exact.{add-lowest, mul-lowest, zero-plus, conj-𝟘}
-use Rattle.scalar.proofs.Cell.{cell-filled, exponent-filled}
+use Rattle.exact.specs.Exact.{Exact, exact, conj, isLowest, maxExponent}
+use Rattle.exact.specs.Inner.{Room}
+use Rattle.exact.proofs.Exact.{add-lowest, mul-lowest, zero-plus, conj-𝟘}
+use Rattle.cells.specs.Cells.{cellAt, cellWords, exponentAt, fill}
+use Rattle.cells.proofs.Cell.{cell-filled, exponent-filled}
 use Rattle.branches.specs.Bank.{branchSize}
 use Rattle.collect.specs.Overlap.{blockOverlap, blockOverlapped, Sum, NewBlock, Block}
 use Rattle.collect.specs.Bank.{place, storeOf, entry, survives, has, isFirst, starts, overlaps, Branch, Found, Bank}

@@ -13,8 +13,8 @@ use borrow.Author.Tests.{le-leb}
 use Rattle.algebra.specs.Words.{blocks, upTo}
 use Rattle.algebra.specs.Words as words
 use Rattle.algebra.proofs.Blocks.{wrote, rest, block-in, length-blocks, blocks-at, blocks-same, blocks-over, blocks-parts, length-joined, joined-same}
-use Rattle.scalar.specs.Cells.{cells}
-use Rattle.scalar.proofs.Cell.{cells-same}
+use Rattle.cells.specs.Cells.{cells}
+use Rattle.cells.proofs.Cell.{cells-same}
 use Rattle.channel.specs.Layout.{Block, headerSize, recordSize, recordAt, word, side, storeFrom, before, link, next, first, header, recordWords, channelWords}
 use Rattle.channel.proofs.Words.{square-small}
 use Rattle.collect.specs.Links.{blockIn, linked, headed, Records}

@@ -10,8 +10,8 @@ use lib.Seq.{sets, set-getD}
 use lib.IntN.{ℤ, pos}
 use Rattle.algebra.specs.Words.{blocks}
 use Rattle.algebra.proofs.Signed.{word-is}
-use Rattle.scalar.specs.Exact.{Exact, maxExponent}
-use Rattle.scalar.specs.Cells.{cellWords, cellAt, exponentAt, fill}
+use Rattle.exact.specs.Exact.{Exact, maxExponent}
+use Rattle.cells.specs.Cells.{cellWords, cellAt, exponentAt, fill}
 
 pub sets-there : (vs l : List ℤ) (at : ℕ) → ((k : ℕ) → k < length vs → getD l (at + k) (pos 0) ≡ getD vs k (pos 0)) → sets l at vs ≡ l
 sets-there [] l at h = refl

@@ -7,9 +7,9 @@ use lib.Dec.{eqb}
 use lib.ListN.{length, getD}
 use lib.IntN.{ℤ}
 use Rattle.algebra.specs.Lists.{allBelow}
-use Rattle.scalar.specs.Exact.{Exact, exact, conj}
-use Rattle.scalar.specs.Cells.{cellSize, cellAt}
-use Rattle.scalar.specs.Inner.{Room}
+use Rattle.exact.specs.Exact.{Exact, exact, conj}
+use Rattle.exact.specs.Inner.{Room}
+use Rattle.cells.specs.Cells.{cellSize, cellAt}
 use Rattle.matrix.specs.Matrix.{zeros}
 use Rattle.matrix.specs.Factors.{Factor}
 use Rattle.kraus.specs.Dense.{tabulate}

@@ -5,9 +5,9 @@ use mathlib.Core.List.{List}
 use Prim.Native.Nat.{ℕ, _+_, _*_, _/_, _%_, _^_, _<_, _≤_}
 use lib.ListN.{length}
 use lib.IntN.{ℤ}
-use Rattle.scalar.specs.Exact.{Exact, exact, conj, isLowest}
-use Rattle.scalar.specs.Cells.{cellSize, cellAt, exponentAt, zeroAt}
-use Rattle.scalar.specs.Inner.{Within, Room}
+use Rattle.exact.specs.Exact.{Exact, exact, conj, isLowest}
+use Rattle.exact.specs.Inner.{Within, Room}
+use Rattle.cells.specs.Cells.{cellSize, cellAt, exponentAt, zeroAt}
 use Rattle.matrix.specs.Factors.{Factor}
 
 -- x times the conjugate of the number at q of m

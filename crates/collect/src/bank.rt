@@ -1,6 +1,6 @@
+use cells::CELL;
 use channel::layout::store_from;
 use matrix::words::is_zero;
-use scalar::cells::CELL;
 ghost use mathlib.Core.Path.{_≡_};
 ghost use Prim.Native.Nat.{ℕ, _<_, _≤_};
 ghost use Rattle.collect.specs.Bank.{storeOf, survives, has, isFirst, Branch, Branches, Found};

@@ -1,10 +1,10 @@
 use super::bank::is_alive;
 use super::bank::is_first;
 use super::blocks::write_block;
+use cells::CELL;
 use channel::layout::HEADER;
 use channel::layout::RECORD_HEAD;
 use channel::layout::record_size;
-use scalar::cells::CELL;
 ghost use mathlib.Core.Path.{_≡_};
 ghost use mathlib.Core.Bool.{true, cond};
 ghost use Prim.Native.Nat.{_+_, _*_, _<_, _≤_};

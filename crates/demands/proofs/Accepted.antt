@@ -15,7 +15,7 @@ use Rattle.algebra.specs.Lists.{All, every, total, marks}
 use Rattle.algebra.proofs.Tests.{and-split, exhaust, holds-true}
 use Rattle.algebra.proofs.Lists.{every-all}
 use Rattle.algebra.proofs.Totals.{sub-whole, sub-filter}
-use Rattle.scalar.specs.Exact as scalar
+use Rattle.exact.specs.Exact as scalar
 use Rattle.gate.specs.Gate.{Gate, gatesOf, valid, splits, weight}
 use Rattle.gate.proofs.Bits.{Word}
 use Rattle.kraus.specs.Branch.{Store, Branch, branches}
@@ -122,7 +122,7 @@ module _ {n m : ℕ} {σ : List ℕ} {gs : List Gate} {result work : ℕ} (s : S
   count = length (stores (survivors (branches n σ gs)))
 
   pub enough : (k : ℕ) → Enough 25 n (branches n σ (take k gs))
-  enough = never-48 n m σ gs (omega (arith, s .qubit-count)) (s .valid-gates) (s .light)
+  enough = never-48 n m σ gs (s .valid-gates) (s .light)
 
   pub block-fine : (τ : Store) (i j : ℕ) → i < side (2 ^ n) → j < side (2 ^ n) → scalar.wellFormed (block (survivors (branches n σ gs)) τ i j) ≡ true
   block-fine τ i j p q = block-fits (subst (λ (hs : List Gate). Enough 25 n (branches n σ hs)) (take-length gs) (enough (length gs)))

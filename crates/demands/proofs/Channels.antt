@@ -14,8 +14,8 @@ use Rattle.algebra.specs.Words.{fromBits}
 use Rattle.algebra.proofs.Sum.{sum-same}
 use Rattle.algebra.proofs.Trace.{same, join, all-back, some-of}
 use Rattle.algebra.proofs.Perm.{Perm, perm-path, map-of, gather}
-use Rattle.scalar.specs.Exact.{Exact, exact, conj}
-use Rattle.scalar.proofs.Exact.{exacts}
+use Rattle.exact.specs.Exact.{Exact, exact, conj}
+use Rattle.exact.proofs.Exact.{exacts}
 use Rattle.gate.specs.Gate.{Gate}
 use Rattle.gate.proofs.Bits.{Word}
 use Rattle.kraus.specs.Branch.{Store, Branch, branches}

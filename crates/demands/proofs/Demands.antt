@@ -15,7 +15,7 @@ use Rattle.algebra.proofs.Lists.{all-imp}
 use Rattle.algebra.proofs.Blocks.{blocks-parts}
 use Rattle.algebra.proofs.Trace.{length-of}
 use Rattle.algebra.proofs.Perm.{Perm, perm-path, perm-sym}
-use Rattle.scalar.specs.Exact.{exact, narrow}
+use Rattle.exact.specs.Exact.{exact, narrow}
 use Rattle.gate.specs.Gate.{Gate, gatesOf, valid}
 use Rattle.gate.proofs.Listed.{gates-length}
 use Rattle.kraus.specs.Branch.{Branch, branches}

@@ -12,7 +12,7 @@ use Rattle.algebra.proofs.Bits.{bits-below}
 use Rattle.algebra.proofs.Lists.{all-getD}
 use Rattle.algebra.proofs.Trace.{join, all-back}
 use Rattle.algebra.proofs.Perm.{Perm, perm-path, map-of}
-use Rattle.scalar.specs.Exact.{wellFormed}
+use Rattle.exact.specs.Exact.{wellFormed}
 use Rattle.gate.specs.Operators.{sameBits}
 use Rattle.gate.proofs.Bits.{Word, same-true, same-refl}
 use Rattle.kraus.specs.Branch.{Store, Branch}

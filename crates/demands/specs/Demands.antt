@@ -12,8 +12,8 @@ use Rattle.algebra.specs.Lists.{All, every, some}
 use Rattle.algebra.specs.Sum.{δ}
 use Rattle.algebra.specs.Schedule.{Schedule}
 use Rattle.algebra.specs.Words.{fromBits}
-use Rattle.scalar.specs.Exact as scalar
-use Rattle.scalar.specs.Exact.{Exact, exact, conj, narrow}
+use Rattle.exact.specs.Exact as scalar
+use Rattle.exact.specs.Exact.{Exact, exact, conj, narrow}
 use Rattle.gate.specs.Gate.{gate, gatesOf, share}
 use Rattle.kraus.specs.Branch.{Store, Branch, branches}
 use Rattle.kraus.specs.Blocks.{survivors, stores, block}

@@ -7,7 +7,7 @@ use native.Mathlib.Nat.{mul-le-mul, le-refl}
 use native.Mathlib.Omega.{arith}
 use lib.ListN.{length}
 use lib.IntN.{ℤ, pos, natAbs}
-use Rattle.scalar.proofs.Cell.{length-cells}
+use Rattle.cells.proofs.Cell.{length-cells}
 use Rattle.channel.specs.Layout.{headerSize, recordSize, recordAt, side, word, dimAt, countAt}
 use Rattle.channel.specs.WellFormed.{wellFormed, Onward}
 use Rattle.channel.proofs.Judging.{formed}

@@ -8,12 +8,12 @@ use native.Mathlib.Omega.{arith}
 use lib.Arith.{digits-lt}
 use Rattle.algebra.specs.Sum.{sum}
 use Rattle.algebra.proofs.Tests.{all-at, all-step, all-no}
+use Rattle.exact.specs.Exact.{Exact, exact, inRange, wellFormed}
+use Rattle.exact.proofs.Exact.{add-lowest}
 use Rattle.scalar.specs.declared.Scalar.{Scalar}
 use Rattle.scalar.specs.declared.Answer.{Answer}
 use Rattle.scalar.specs.declared.Verdict.the-variants.{TooLarge, Malformed}
-use Rattle.scalar.specs.Exact.{Exact, exact, inRange, wellFormed}
 use Rattle.scalar.specs.Calls.{value, scalarOf, accepted, refusedWith, fitting, addAnswer}
-use Rattle.scalar.proofs.Exact.{add-lowest}
 use Rattle.channel.specs.Layout.{side}
 use Rattle.effects.specs.Effects.{termPlace, partialsFit}
 use Rattle.effects.specs.Readable.{isAccepted, Dim}

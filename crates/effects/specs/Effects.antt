@@ -9,8 +9,8 @@ use lib.IntN.{ℤ, pos, negsuc}
 use Rattle.algebra.specs.Sum.{sum}
 use Rattle.algebra.specs.Lists.{allBelow}
 use Rattle.algebra.specs.Words.{blocks}
-use Rattle.scalar.specs.Exact.{Exact, exact, inRange}
-use Rattle.scalar.specs.Cells.{cells}
+use Rattle.exact.specs.Exact.{Exact, exact, inRange}
+use Rattle.cells.specs.Cells.{cells}
 use Rattle.channel.specs.Layout.{headerSize, recordSize, recordAt, side, word, entryAt, effectPlace, effectOf, dimAt, countAt}
 use Rattle.channel.specs.WellFormed.{wellFormed}
 use Rattle.effects.specs.declared.Outcome.{Outcome}

@@ -7,7 +7,7 @@ use lib.ListN.{length}
 use lib.IntN.{ℤ, pos, natAbs}
 use Rattle.scalar.specs.declared.Verdict.{Verdict}
 use Rattle.scalar.specs.declared.Verdict.the-variants.{Accepted, TooLarge, Malformed}
-use Rattle.scalar.specs.Cells.{wellFormedAt}
+use Rattle.cells.specs.Cells.{wellFormedAt}
 use Rattle.channel.specs.Layout.{headerSize, recordSize, recordAt, entryPlace, side, word}
 
 abbrev pub isAccepted : Verdict → Bool

@@ -1,4 +1,5 @@
 // The effects of a channel's blocks. The sums are tried before the first word is written, so that a refusal leaves the result as it was.
+use cells::write_cell;
 use channel::layout::ENTRY;
 use channel::layout::HEADER;
 use channel::layout::RECORD_HEAD;
@@ -8,7 +9,6 @@ use channel::well_formed::judge;
 use scalar::Answer;
 use scalar::Scalar;
 use scalar::Verdict;
-use scalar::cells::write_cell;
 use scalar::refused;
 ghost use mathlib.Core.Path.{_≡_};
 ghost use mathlib.Core.Bool.{true, cond};
@@ -18,7 +18,7 @@ ghost use lib.ListN.{length};
 ghost use lib.Seq.{sets};
 ghost use Rattle.scalar.specs.Calls.{accepted, refusedWith};
 ghost use Rattle.scalar.specs.declared.Verdict.the-variants.{TooLarge};
-ghost use Rattle.scalar.specs.Cells.{fill};
+ghost use Rattle.cells.specs.Cells.{fill};
 ghost use Rattle.channel.specs.Layout.{headerSize, blockSize, recordSize, word};
 ghost use Rattle.effects.specs.Effects.{termPlace, term, effectAt, partialsFit, recordFits, sumsFit, relink, effectHeader, effectRecord, withRecords, outcomeOf, resultOf};
 ghost use Rattle.effects.specs.Readable.{isAccepted, Dim, Readable, Records, Linked};

@@ -1,7 +1,7 @@
 -- Entries of embedded matrices: on one qubit by its cleared and its set column, under a control, and of a swap.
 use mathlib.Core.Path.{_≡_, refl, sym, ap, ap₂, _∙_, subst}
 use mathlib.Core.Logic.{_≢_}
-use mathlib.Core.Bool.{Bool, true, false, cond, not, _&&_, _||_, or-false, true≢false}
+use mathlib.Core.Bool.{Bool, true, false, cond, _&&_, _||_, or-false, true≢false}
 use mathlib.Core.List.{List, [], _∷_}
 use Prim.Native.Nat.{ℕ, zero, suc, _+_, _-_, _*_, _/_, _%_, _^_, _≤_, _<_}
 use native.Mathlib.Nat.{mod-lt, div-lt-iff-lt-mul}
@@ -9,11 +9,11 @@ use native.Mathlib.Omega.{arith}
 use lib.Dec.{T, eqb, eqb→eq}
 use lib.ListN.{getD}
 use lib.Pow.{pow-mono, pow-pos}
-use borrow.Author.Tests.{eqb-true, eqb-false, eq-eqb, ne-eqb}
-use Rattle.algebra.specs.Lists.{All, allBelow}
-use Rattle.algebra.proofs.Tests.{exhaust, and-split}
+use borrow.Author.Tests.{eqb-true, eq-eqb, ne-eqb}
+use Rattle.algebra.specs.Lists.{allBelow}
+use Rattle.algebra.proofs.Tests.{exhaust}
+use Rattle.exact.specs.Exact.{Exact, exact}
 use Rattle.scalar.specs.declared.Scalar.{Scalar}
-use Rattle.scalar.specs.Exact.{Exact, exact}
 use Rattle.scalar.specs.Calls.{value, scalarOf}
 use Rattle.gate.specs.Gate.{elem}
 use Rattle.gate.specs.Operators.{Small, one, none, sameBits, controlled, swapped}

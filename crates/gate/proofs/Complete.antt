@@ -11,9 +11,9 @@ use Rattle.algebra.specs.Sum.{listSum}
 use Rattle.algebra.specs.Lists.{allBelow, every}
 use Rattle.algebra.proofs.Tests.{and-split, all-at}
 use Rattle.algebra.proofs.Adjoint.{Star}
-use Rattle.scalar.specs.Exact.{exact, conj, equal}
-use Rattle.scalar.proofs.Equal.{equal-true}
-use Rattle.scalar.proofs.Exact.{exacts, conj-plus, conj-by, conj-𝟘, one-by, mul-lowest}
+use Rattle.exact.specs.Exact.{exact, conj, equal}
+use Rattle.exact.proofs.Equal.{equal-true}
+use Rattle.exact.proofs.Exact.{exacts, conj-plus, conj-by, conj-𝟘, one-by, mul-lowest}
 use Rattle.gate.specs.Gate.{Gate, gate, rz, arity, qubits, unused, supported, valid}
 use Rattle.gate.specs.Operators.{Operator, operators, one, none, sameBits}
 use Rattle.gate.specs.Embedding.{adjoint, basis, product, Complete}

@@ -9,7 +9,7 @@ use lib.ListN.{length, getD}
 use borrow.Author.Tests.{leb-true, ltb-true, eqb-true, eq-eqb, not-true}
 use Rattle.algebra.specs.Lists.{allBelow, every}
 use Rattle.algebra.proofs.Tests.{exhaust, and-split, holds-true}
-use Rattle.scalar.specs.Exact.{exact}
+use Rattle.exact.specs.Exact.{exact}
 use Rattle.gate.specs.Gate.{Gate, gate, arity, qubits, bits, elem, distinct, rz, formed, placed, supported, splits, valid}
 use Rattle.gate.specs.Operators.{Small, operator, operators, noUnitary, controlled, swapped}
 use Rattle.gate.specs.Embed.{embed}

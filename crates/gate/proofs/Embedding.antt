@@ -1,5 +1,5 @@
 -- The laws of embedded matrices hold.
-use Rattle.scalar.proofs.Exact.{exacts}
+use Rattle.exact.proofs.Exact.{exacts}
 use Rattle.gate.specs.Embedding.{RespectsProducts, RespectsAdjoints, RespectsIdentity, Commute}
 use Rattle.gate.proofs.Gate.{meet-no}
 use Rattle.gate.proofs.Embed.{embeds-commute}

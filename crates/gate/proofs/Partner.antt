@@ -13,7 +13,7 @@ use lib.Pow.{pow-mono}
 use borrow.Author.Tests.{ltb-true, eqb-true, eqb-false, eq-eqb, ne-eqb, not-true}
 use Rattle.algebra.specs.Lists.{allBelow}
 use Rattle.algebra.proofs.Tests.{exhaust, and-split, holds-true}
-use Rattle.scalar.specs.Exact.{Exact, exact}
+use Rattle.exact.specs.Exact.{Exact, exact}
 use Rattle.scalar.specs.Calls.{value}
 use Rattle.gate.specs.Gate.{Gate, gate, arity, elem}
 use Rattle.gate.specs.Operators.{Small, one, none, operators, controlled, swapped}

@@ -7,7 +7,7 @@ use lib.ListN.{length}
 use Rattle.algebra.specs.Ops.{Ops}
 use Rattle.algebra.specs.Sum.{listSum, times, δ}
 use Rattle.algebra.specs.Lists.{All}
-use Rattle.scalar.specs.Exact.{Exact, exact, conj}
+use Rattle.exact.specs.Exact.{Exact, exact, conj}
 use Rattle.gate.specs.Gate.{Gate, distinct, meet, qubits, valid}
 use Rattle.gate.specs.Operators.{Small, Operator, operators}
 use Rattle.gate.specs.Embed.{embed}

@@ -6,8 +6,8 @@ use Prim.Native.Nat.{ℕ, _+_, _-_, _*_, _/_, _%_, _^_, _≤_, _<_}
 use lib.Bits.{bitXor}
 use lib.Dec.{eqb}
 use lib.ListN.{length, getD}
+use Rattle.exact.specs.Exact.{Exact, exact}
 use Rattle.scalar.specs.declared.Scalar.{Scalar}
-use Rattle.scalar.specs.Exact.{Exact, exact}
 use Rattle.scalar.specs.Calls.{value, scalarOf}
 use Rattle.gate.specs.Gate.{Gate, gate, arity, elem, qubits, formed, supported}
 use Rattle.gate.specs.Verdict.{onQubits}

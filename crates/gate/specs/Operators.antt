@@ -5,10 +5,9 @@ use mathlib.Core.List.{List, [], _∷_}
 use Prim.Native.Nat.{ℕ}
 use lib.Dec.{eqb}
 use lib.ListN.{getD}
-use lib.IntN.{ℤ, pos, negsuc}
-use Rattle.algebra.specs.Ops.{Ops}
-use Rattle.algebra.specs.Dyadic.{Frac, frac}
-use Rattle.scalar.specs.Exact.{Exact, exact, number, imaginary, invSqrtTwo, omega}
+use lib.IntN.{pos, negsuc}
+use Rattle.algebra.specs.Dyadic.{frac}
+use Rattle.exact.specs.Exact.{Exact, exact, number, imaginary, invSqrtTwo, omega}
 use Rattle.gate.specs.Gate.{Gate, measure, reset}
 
 abbrev pub Small : Type 0

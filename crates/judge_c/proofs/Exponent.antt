@@ -1,7 +1,7 @@
 -- The exponent of a word, by its two tests.
 use mathlib.Core.Path.{_≡_, ap, sym}
 use mathlib.Core.Bool.{Bool, true, false, cond}
-use Prim.Native.Nat.{ℕ, suc, _^_}
+use Prim.Native.Nat.{suc}
 use lib.Dec.{T, lit<}
 use lib.IntN.{ℤ, pos, natAbs}
 use lib.Signed.{ltZ, nonNeg}
@@ -10,7 +10,7 @@ use mir.Val.{toZ, ofZ, Fits, SFits}
 use mir.Facts.{toZ-ofZ}
 use Rattle.algebra.specs.Words.{upTo}
 use Rattle.algebra.proofs.Signed.{below-zero, above-top, up-to, cast-ok}
-use Rattle.scalar.specs.Exact.{maxExponent}
+use Rattle.exact.specs.Exact.{maxExponent}
 use Rattle.judge_c.specs.Interface.{exponentOf}
 
 module _ (z : ℤ) (f : SFits w64 z) where

@@ -6,13 +6,14 @@ use lib.ListN.{getD}
 use lib.IntN.{ℤ, pos, natAbs}
 use Rattle.algebra.specs.Dyadic.{frac}
 use Rattle.algebra.specs.Words.{upTo}
+use Rattle.exact.specs.Exact.{Exact, maxExponent}
+use Rattle.exact.specs.Inner.{numberOf}
 use Rattle.scalar.specs.declared.Scalar.{Scalar}
 use Rattle.scalar.specs.declared.Answer.{Answer}
 use Rattle.scalar.specs.declared.Verdict.{Verdict}
 use Rattle.scalar.specs.declared.Verdict.the-variants.{Accepted, TooLarge, Malformed}
-use Rattle.scalar.specs.Exact.{Exact, maxExponent}
-use Rattle.scalar.specs.Calls.{numberOf, value}
-use Rattle.scalar.specs.Cells.{cellWords}
+use Rattle.scalar.specs.Calls.{value}
+use Rattle.cells.specs.Cells.{cellWords}
 use Rattle.circuit.specs.declared.limits.Limits.{Limits}
 use Rattle.channel.specs.declared.compare.Found.{Found}
 use Rattle.channel.specs.declared.compare.Found.the-variants.{Refused, Same, Dimensions, Entry}

@@ -4,9 +4,9 @@ use scalar::MAX_EXPONENT;
 use scalar::Scalar;
 use scalar::Verdict;
 ghost use mathlib.Core.Path.{_≡_};
-ghost use Rattle.scalar.specs.Exact.{exact, imaginary, invSqrtTwo};
+ghost use Rattle.exact.specs.Exact.{exact, imaginary, invSqrtTwo};
 ghost use Rattle.scalar.specs.Calls.{value, scalarOf, verdictNumber, accepted, integerAnswer, omegaAnswer, negAnswer, conjAnswer, halfAnswer, addAnswer, mulAnswer};
-ghost use Rattle.scalar.specs.Cells.{cellWords};
+ghost use Rattle.cells.specs.Cells.{cellWords};
 ghost use Rattle.judge_c.specs.Interface.{exponentOf, operand, answerWords};
 
 fn verdict_number(v: Verdict) -> u32

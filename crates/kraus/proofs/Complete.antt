@@ -8,8 +8,8 @@ use Rattle.algebra.specs.Lists.{All, every}
 use Rattle.algebra.proofs.Lists.{every-all}
 use Rattle.algebra.proofs.Sum.{listSum-same, listSum-map, listSum-concat, zero-sum}
 use Rattle.algebra.proofs.Adjoint.{dot, dot-same, dot-one, keep-dot}
-use Rattle.scalar.specs.Exact.{Exact, exact}
-use Rattle.scalar.proofs.Exact.{exacts}
+use Rattle.exact.specs.Exact.{Exact, exact}
+use Rattle.exact.proofs.Exact.{exacts}
 use Rattle.gate.specs.Gate.{Gate, qubits, valid}
 use Rattle.gate.specs.Operators.{Operator, operators}
 use Rattle.gate.specs.Embed.{embed}

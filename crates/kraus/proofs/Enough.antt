@@ -1,4 +1,4 @@
--- Sizes of the numbers of a circuit: entries of its branches, sums that blocks and effects are made by, and sums of one product of matrices.
+-- Sizes of the numbers of a circuit: entries of its branches and operators, and sums that blocks and effects are made by.
 -- All from Σ K†K = 1 and a bound E on the exponents.
 use mathlib.Core.Path.{_≡_, ap, _∙_, subst, subst₂}
 use mathlib.Core.Bool.{true}
@@ -14,19 +14,19 @@ use Rattle.algebra.specs.Lists.{All, total}
 use Rattle.algebra.proofs.Parts.{abs-mul}
 use Rattle.algebra.proofs.Perm.{gather}
 use Rattle.algebra.proofs.Lists.{all-imp, all-both, all-turn}
-use Rattle.algebra.proofs.Totals.{Sub, total-each, total-grow, nsum, nsum-each, nsum-at-most}
+use Rattle.algebra.proofs.Totals.{Sub, total-grow, nsum, nsum-each}
 use Rattle.algebra.proofs.Adjoint.{dot, δ-same}
 use Rattle.algebra.proofs.Quadratic.{ℤ√2i}
 use Rattle.algebra.proofs.Dyadic.{numAt, Fits, fits-exp}
-use Rattle.scalar.specs.Exact.{Exact, exact, isLowest}
-use Rattle.scalar.specs.Inner.{Within, scaled, Coords}
-use Rattle.scalar.proofs.Exact.{exactHalving, exacts, lowest-form}
+use Rattle.exact.specs.Exact.{Exact, exact, isLowest}
+use Rattle.exact.specs.Inner.{Within, scaled, Coords}
+use Rattle.exact.proofs.Exact.{exactHalving, exacts, lowest-form}
 use Rattle.gate.proofs.Complete.{conjugation}
 use Rattle.kraus.specs.Dense.{cell}
 use Rattle.kraus.specs.Branch.{Branch}
 use Rattle.kraus.specs.Blocks.{overlap}
 use Rattle.kraus.proofs.Complete.{gram}
-use Rattle.kraus.proofs.Size.{Bounded, norms, units, block-bounded, products-bounded, effect-bounded}
+use Rattle.kraus.proofs.Size.{Bounded, norms, units, block-bounded, effect-bounded}
 use Rattle.kraus.proofs.Measured.{form, size, measure}
 
 -- a number in lowest form with coordinates from −1 to 1, over at most 2^e
@@ -132,12 +132,9 @@ module _ (n E : ℕ) (bs : List Branch) (whole : Whole n E bs) where
 abbrev pub Matrix : Type 0
 Matrix = ℕ → ℕ → Exact
 
--- what holds of every entry of a matrix, and of every entry (r, c) of it times a branch's matrix, summed over the columns below k
+-- what holds of every entry of a matrix
 abbrev pub Everywhere : (Exact → Type 0) → ℕ → Matrix → Type 0
 Everywhere P n M = (c : ℕ) → c < 2 ^ n → (r : ℕ) → r < 2 ^ n → P (M r c)
-
-abbrev pub Along : (Exact → Type 0) → ℕ → Matrix → Branch → Type 0
-Along P n M b = (c : ℕ) → c < 2 ^ n → (r k : ℕ) → r < 2 ^ n → k ≤ 2 ^ n → P (sum exact k (λ (j : ℕ). exact ._⊗_ (M r j) (cell exact (2 ^ n) (b .matrix) j c)))
 
 pub record Operators (n e : ℕ) (os : List Matrix) : Type 0 where
   pub complete : (k l : ℕ) → k < 2 ^ n → l < 2 ^ n → listSum exact (λ (M : Matrix). dot exacts conjugation (2 ^ n) M k l) os ≡ δ exact k l
@@ -153,31 +150,9 @@ module _ (n e : ℕ) (os : List Matrix) (op : Operators n e os) where
   op-column : (c : ℕ) → c < 2 ^ n → total (λ (M : Matrix). nsum (2 ^ n) (λ (r : ℕ). forms M r c)) os ≡ 2 ^ (e + e)
   op-column c l = norms ℤ√2i exactHalving conjugation measure e (2 ^ n) c os (λ (M : Matrix). M) (op-fits c) (op .complete c c l l ∙ δ-same exact c)
 
-  op-row : All (λ (M : Matrix). (r : ℕ) → r < 2 ^ n → nsum (2 ^ n) (forms M r) ≤ 2 ^ n * 2 ^ (e + e)) os
-  op-row =
-      all-imp (λ (M : Matrix). (c : ℕ) → c < 2 ^ n → nsum (2 ^ n) (λ (r : ℕ). forms M r c) ≤ 2 ^ (e + e)) _ os
-      (λ M h r l. nsum-at-most (2 ^ n) (2 ^ (e + e)) (forms M r) (λ k j. omega (arith, h k j, nsum-each (2 ^ n) (λ (r : ℕ). forms M r k) r l)))
-      (all-turn (2 ^ n) (λ (c : ℕ) (M : Matrix). nsum (2 ^ n) (λ (r : ℕ). forms M r c) ≤ 2 ^ (e + e)) os (λ c l.
-      subst (λ (k : ℕ). All (λ (M : Matrix). nsum (2 ^ n) (λ (r : ℕ). forms M r c) ≤ k) os) (op-column c l) (total-each (λ (M : Matrix). nsum (2 ^ n) (λ (r : ℕ). forms M r c)) os)))
-
   -- each entry of each operator
   pub operator-entries : All (Everywhere (Entry e) n) os
   operator-entries = all-turn (2 ^ n) (λ (c : ℕ) (M : Matrix). (r : ℕ) → r < 2 ^ n → Entry e (M r c)) os (λ c l.
       all-both (λ (M : Matrix). (r : ℕ) → r < 2 ^ n → Fit e (M r c)) (λ (M : Matrix). (r : ℕ) → r < 2 ^ n → (i : ℕ) → size i (M r c .num) ≤ 2 ^ M r c .exp) _ os
       (λ M f h r k. entry-of e (M r c) (f r k) (h r k)) (op-fits c)
       (units ℤ√2i exactHalving conjugation measure e (2 ^ n) c os (λ (M : Matrix). M) (op-fits c) (op-column c l)))
-
-  -- PRODUCTS: an operator times a branch's matrix
-  pub products : (E : ℕ) (bs : List Branch) → Whole n E bs
-      → All (λ (M : Matrix). All (Along (Sum (e + E) (2 ^ n * 2 ^ (e + e) + 2 ^ (E + E))) n M) bs) os
-  products E bs whole =
-      all-both (λ (M : Matrix). (r c : ℕ) → Fit e (M r c)) (λ (M : Matrix). (r : ℕ) → r < 2 ^ n → nsum (2 ^ n) (forms M r) ≤ 2 ^ n * 2 ^ (e + e)) _ os
-      (λ M fo bo. all-turn (2 ^ n) _ bs (λ c l.
-      all-both (λ (b : Branch). (i : ℕ) → Fit E (getD (b .matrix) i (exact .𝟘))) (λ (b : Branch). nsum (2 ^ n) (λ (r : ℕ). formAt n E bs whole r c b) ≤ 2 ^ (E + E)) _ bs
-      (λ b fb bb r k hr hk. sum-of (e + E) (2 ^ n * 2 ^ (e + e) + 2 ^ (E + E)) _
-      (products-bounded ℤ√2i exactHalving conjugation measure e E (2 ^ n) k (2 ^ n * 2 ^ (e + e)) (2 ^ (E + E)) (λ (j : ℕ). M r j) (λ (j : ℕ). cell exact (2 ^ n) (b .matrix) j c) hk
-      (λ j i. fo r j) (λ j i. fb (j * 2 ^ n + c)) (bo r hr) bb))
-      (whole .fits)
-      (subst (λ (k : ℕ). All (λ (b : Branch). nsum (2 ^ n) (λ (r : ℕ). formAt n E bs whole r c b) ≤ k) bs) (column n E bs whole c l)
-      (total-each (λ (b : Branch). nsum (2 ^ n) (λ (r : ℕ). formAt n E bs whole r c b)) bs))))
-      (op .fits) op-row

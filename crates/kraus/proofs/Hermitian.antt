@@ -6,8 +6,8 @@ use lib.ListN.{getD}
 use lib.IntN.{ℤ, pos, negsuc, negℤ, pos-ne-negsuc}
 use Rattle.algebra.specs.Lists.{filterBy}
 use Rattle.algebra.proofs.Perm.{gather}
-use Rattle.scalar.specs.Exact.{Exact, exact, conj}
-use Rattle.scalar.proofs.Exact.{exacts, conj-plus, conj-by, conj-conj}
+use Rattle.exact.specs.Exact.{Exact, exact, conj}
+use Rattle.exact.proofs.Exact.{exacts, conj-plus, conj-by, conj-conj}
 use Rattle.kraus.specs.Branch.{Store, Branch}
 use Rattle.kraus.specs.Blocks.{having, overlap, block}
 

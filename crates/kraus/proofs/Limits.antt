@@ -17,11 +17,11 @@ use Rattle.algebra.proofs.Sum.{listSum-map}
 use Rattle.algebra.proofs.Adjoint.{dot}
 use Rattle.algebra.proofs.Quadratic.{ℤ√2i}
 use Rattle.algebra.proofs.Dyadic.{fits-low, fits-grow}
-use Rattle.scalar.specs.Exact.{Exact, exact, narrow, wellFormed, maxNumerator, maxExponent, narrowNumerator, narrowExponent}
-use Rattle.scalar.specs.Inner.{Within, scaled, Coords, Room}
-use Rattle.scalar.proofs.Exact.{exactHalving, exacts}
-use Rattle.scalar.proofs.Sizes.{of-within}
-use Rattle.scalar.proofs.Align.{widen, power-within, scaled-none}
+use Rattle.exact.specs.Exact.{Exact, exact, narrow, wellFormed, maxNumerator, maxExponent, narrowNumerator, narrowExponent}
+use Rattle.exact.specs.Inner.{Within, scaled, Coords, Room, roomNumerator, roomExponent}
+use Rattle.exact.proofs.Exact.{exactHalving, exacts}
+use Rattle.exact.proofs.Sizes.{of-within}
+use Rattle.exact.proofs.Align.{widen, power-within, scaled-none}
 use Rattle.gate.specs.Gate.{Gate, qubits, valid, weight}
 use Rattle.gate.specs.Operators.{Operator, operators}
 use Rattle.gate.specs.Embed.{embed}
@@ -32,7 +32,7 @@ use Rattle.kraus.proofs.Complete.{completeness}
 use Rattle.kraus.proofs.Filtration.{Exp, exp-is}
 use Rattle.kraus.proofs.Weigh.{Light, Entries, embed-part}
 use Rattle.kraus.proofs.Weights.{graded, weighs, light, branch-parts}
-use Rattle.kraus.proofs.Enough.{Entry, Sum, Fit, Whole, Matrix, Everywhere, Along, Operators, entries, overlaps, effects, operator-entries, products}
+use Rattle.kraus.proofs.Enough.{Entry, Sum, Fit, Whole, Matrix, Everywhere, Operators, entries, overlaps, effects, operator-entries}
 
 -- ---- a circuit's branches, and a gate's operators
 -- the exponent that a weight allows
@@ -71,12 +71,10 @@ pub record Fitting (e : ℕ) (x : Exact) : Type 0 where
   pub well-formed : wellFormed x ≡ true
   pub room : (t : ℕ) → t ≤ e → Room t x
 
--- all numbers that come up: E bounds the exponents of the branches' entries
+-- the numbers that are kept: E bounds the exponents of the branches' entries
 pub record Enough (E n : ℕ) (bs : List Branch) : Type 0 where
   -- the entries of the branches
   pub entries : All (λ (b : Branch). (i : ℕ) → i < 2 ^ n * 2 ^ n → Kraus E (getD (b .matrix) i (exact .𝟘))) bs
-  -- the sums of a product of a gate's operator and a branch's matrix
-  pub products : (m : ℕ) (g : Gate) → valid n m g ≡ true → All (λ (o : Operator). All (Along (Fitting (1 + E)) n (matrixOf n g o)) bs) (operators g)
   -- entry (i, j) of a block, summed over any of the branches, in their order
   pub blocks : (xs : List Branch) → Sub xs bs → (i j : ℕ) → i < 2 ^ n * 2 ^ n → j < 2 ^ n * 2 ^ n → Fitting (E + E) (gather (exact ._⊕_) (overlap i j) (exact .𝟘) xs)
   -- entry (r, c) of their effect, summed over the outputs below k
@@ -87,8 +85,8 @@ pub record Enough (E n : ℕ) (bs : List Branch) : Type 0 where
 pub record Suits (E : ℕ) : Type 0 where
   pub narrow-exponent : E ≤ narrowExponent
   pub narrow-numerator : 2 ^ E ≤ narrowNumerator
-  pub exponent : E + E ≤ 56
-  pub numerator : 128 + 2 ^ (E + E) ≤ maxNumerator
+  pub exponent : E + E ≤ roomExponent
+  pub numerator : 2 ^ (E + E) ≤ maxNumerator
 
 module _ (E : ℕ) (suits : Suits E) where
   kraus : (e : ℕ) (x : Exact) → e ≤ E → Entry e x → Kraus e x
@@ -110,31 +108,21 @@ module _ (E : ℕ) (suits : Suits E) where
       wide : 2 ^ E ≤ maxNumerator
       wide = omega (arith, suits .numerator, pow-mono {i = E} {j = E + E} (omega arith))
 
-fitting : (e s : ℕ) (x : Exact) → e ≤ 56 → s ≤ maxNumerator → Sum e s x → Fitting e x
+fitting : (e s : ℕ) (x : Exact) → e ≤ roomExponent → s ≤ maxNumerator → Sum e s x → Fitting e x
 fitting e s x l m h = record {
   well-formed = λ i. (of-within maxNumerator (x .num) (widen s maxNumerator (x .num) m plain) i && le-leb (x .exp) maxExponent (omega (arith, h .exponent)) i) && h .lowest i;
-  room = λ t k. record { exponent = omega (arith, h .exponent); size = widen s (2 ^ 61) (scaled (x .num) (t - x .exp)) (omega arith) (h .sizes t k) };
+  room = λ t k. record { exponent = omega (arith, h .exponent); size = widen s roomNumerator (scaled (x .num) (t - x .exp)) (omega arith) (h .sizes t k) };
 }
   where
     plain : Within s (x .num)
     plain = let n : 0 - x .exp ≡ 0 = omega arith in subst (Within s) (scaled-none (x .num) (0 - x .exp) n) (h .sizes 0 (omega arith))
 
-pub enough : (E n : ℕ) (bs : List Branch) → Suits E → n ≤ 5 → Whole n E bs → Enough E n bs
-enough E n bs suits small whole = record {
+pub enough : (E n : ℕ) (bs : List Branch) → Suits E → Whole n E bs → Enough E n bs
+enough E n bs suits whole = record {
   entries = all-imp (λ (b : Branch). (i : ℕ) → i < 2 ^ n * 2 ^ n → Entry E (getD (b .matrix) i (exact .𝟘))) _ bs (λ b h i l. kraus E suits E _ (omega arith) (h i l)) (entries n E bs whole);
-  products = λ m g ok. all-unmap (λ (M : Matrix). All (Along (Fitting (1 + E)) n M) bs) (matrixOf n g) (operators g)
-      (all-imp (λ (M : Matrix). All (Along (Sum (1 + E) top) n M) bs) (λ (M : Matrix). All (Along (Fitting (1 + E)) n M) bs) (map (matrixOf n g) (operators g))
-      (λ M. all-imp (Along (Sum (1 + E) top) n M) (Along (Fitting (1 + E)) n M) bs (λ b h c l r j hr hj. fitting (1 + E) top _ (omega (arith, suits .exponent)) wide (h c l r j hr hj)))
-      (products n 1 (map (matrixOf n g) (operators g)) (gate-operators n m g ok) E bs whole));
   blocks = λ xs s i j k l. fitting (E + E) (2 ^ (E + E)) _ (omega (arith, suits .exponent)) (omega (arith, suits .numerator)) (overlaps n E bs whole xs s i j k l);
   effects = λ xs s r c k hr hc hk. fitting (E + E) (2 ^ (E + E)) _ (omega (arith, suits .exponent)) (omega (arith, suits .numerator)) (effects n E bs whole xs s r c k hr hc hk);
 }
-  where
-    top : ℕ
-    top = 2 ^ n * 2 ^ (1 + 1) + 2 ^ (E + E)
-
-    wide : top ≤ maxNumerator
-    wide = omega (arith, suits .numerator, pow-mono {i = n} {j = 5} small)
 
 -- the entries of a gate's matrices
 pub gate-entries : (n m : ℕ) (g : Gate) → valid n m g ≡ true → All (λ (o : Operator). Everywhere (Kraus 1) n (matrixOf n g o)) (operators g)
@@ -169,11 +157,11 @@ lighter [] (suc k) = omega arith
 lighter (g ∷ gs) (suc k) = omega (arith, lighter gs k)
 
 -- NEVER TOO LARGE: circuits of weight at most W, after every k gates
-pub never-too-large : (W : ℕ) → Suits (exponentOf W) → (n m : ℕ) (σ : Store) (gs : List Gate) → n ≤ 5 → every (valid n m) gs ≡ true → total weight gs ≤ W
+pub never-too-large : (W : ℕ) → Suits (exponentOf W) → (n m : ℕ) (σ : Store) (gs : List Gate) → every (valid n m) gs ≡ true → total weight gs ≤ W
     → (k : ℕ) → Enough (exponentOf W) n (branches n σ (take k gs))
-never-too-large W suits n m σ gs small ok light k =
-    enough (exponentOf W) n (branches n σ (take k gs)) suits small (circuit-whole W n m σ (take k gs) (first n m gs k ok) (omega (arith, lighter gs k)))
+never-too-large W suits n m σ gs ok light k =
+    enough (exponentOf W) n (branches n σ (take k gs)) suits (circuit-whole W n m σ (take k gs) (first n m gs k ok) (omega (arith, lighter gs k)))
 
 -- with the weight of question 9
-pub never-48 : (n m : ℕ) (σ : Store) (gs : List Gate) → n ≤ 5 → every (valid n m) gs ≡ true → total weight gs ≤ 48 → (k : ℕ) → Enough 25 n (branches n σ (take k gs))
+pub never-48 : (n m : ℕ) (σ : Store) (gs : List Gate) → every (valid n m) gs ≡ true → total weight gs ≤ 48 → (k : ℕ) → Enough 25 n (branches n σ (take k gs))
 never-48 = never-too-large 48 (record { narrow-exponent = omega arith; narrow-numerator = omega arith; exponent = omega arith; numerator = omega arith })

@@ -12,9 +12,9 @@ use Rattle.algebra.proofs.Ring.{ℤR}
 use Rattle.algebra.proofs.Solver.{Expr, con, var, _⊞_, _⊠_, ⊟, eqn, look, ⟦_⟧}
 use Rattle.algebra.proofs.Bound as Bound
 use Rattle.algebra.proofs.Quadratic.{ℤ√2i}
-use Rattle.scalar.specs.Exact.{Number, numbers, root2}
-use Rattle.scalar.proofs.Exact.{exactHalving, conj-lowest}
-use Rattle.scalar.proofs.Coordinates.{formulas, x, xy, eight}
+use Rattle.exact.specs.Exact.{Number, numbers, root2}
+use Rattle.exact.proofs.Exact.{exactHalving, conj-lowest}
+use Rattle.exact.proofs.Coordinates.{formulas, x, xy, eight}
 use Rattle.gate.proofs.Complete.{conjugation}
 use Rattle.kraus.proofs.Size.{Measure}
 

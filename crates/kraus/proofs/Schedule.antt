@@ -14,8 +14,8 @@ use Rattle.algebra.proofs.Lists.{every-all}
 use Rattle.algebra.proofs.Trace.{Trace, join, same, foldl-of, all-back}
 use Rattle.algebra.proofs.Schedule.{schedule-trace}
 use Rattle.algebra.proofs.Perm.{Perm, concat-of, steps-commute, split, splits-commute, filter-of}
-use Rattle.scalar.specs.Exact.{Exact, exact}
-use Rattle.scalar.proofs.Exact.{exacts}
+use Rattle.exact.specs.Exact.{Exact, exact}
+use Rattle.exact.proofs.Exact.{exacts}
 use Rattle.gate.specs.Gate.{Gate, elem, meet, qubits, bits, share, valid}
 use Rattle.gate.specs.Operators.{Operator, operators}
 use Rattle.gate.specs.Embed.{embed}

@@ -1,4 +1,4 @@
--- Sizes of numbers whose squares add up to 1: of entries, of sums over branches, and of sums of products.
+-- Sizes of numbers whose squares add up to 1: of entries, of sums over branches, and of effects.
 use mathlib.Core.Path.{_≡_, refl, sym, ap, ap₂, _∙_, subst}
 use mathlib.Core.List.{List, [], _∷_}
 use Prim.Native.Nat.{ℕ, zero, suc, _+_, _*_, _-_, _^_, _≤_, _<_}
@@ -187,24 +187,6 @@ module _ (𝓚 : CommRing) (𝓗 : Halving 𝓚) (𝓢 : Star (fractions 𝓚 �
     block-bounded B xs ys s fx fy bx by =
         bounded (E + E) B _ (gather _⊕_ cross 𝟘 xs) (block-value xs (sub-all (λ (b : A). Fit E (x b)) s fx) (sub-all (λ (b : A). Fit E (y b)) s fy))
         (λ i. omega (arith, block-size i xs, sub-total (λ (b : A). Q (at E (x b))) s, sub-total (λ (b : A). Q (at E (y b))) s))
-
-  -- a sum of products G k ⊗ H k, at the exponents E and E′
-  pub products-bounded : (E E′ d m B B′ : ℕ) (G H : ℕ → F) → m ≤ d → ((k : ℕ) → k < d → Fit E (G k)) → ((k : ℕ) → k < d → Fit E′ (H k))
-      → nsum d (λ (k : ℕ). Q (at E (G k))) ≤ B → nsum d (λ (k : ℕ). Q (at E′ (H k))) ≤ B′
-      → Bounded (E + E′) (B + B′) (sum (𝓡 .ops) m (λ (k : ℕ). 𝓡 .ops ._⊗_ (G k) (H k)))
-  products-bounded E E′ d m B B′ G H l fg fh bg bh =
-      bounded (E + E′) (B + B′) _ (sum ops m both)
-      (sum-same 𝓡 m _ _ (λ k j. ap₂ (𝓡 .ops ._⊗_) (fg k (omega arith)) (fh k (omega arith)) ∙ value-mul 𝓚 𝓗 E E′ (at E (G k)) (at E′ (H k))) ∙ sum-value 𝓚 𝓗 (E + E′) m both)
-      (λ i. omega (
-        arith,
-        sum-size i m both,
-        nsum-two m (λ (k : ℕ). size i (both k)) (λ (k : ℕ). Q (at E (G k))) (λ (k : ℕ). Q (at E′ (H k))) (λ k j. size-mul i (at E (G k)) (at E′ (H k))),
-        nsum-grow m d (λ (k : ℕ). Q (at E (G k))) l,
-        nsum-grow m d (λ (k : ℕ). Q (at E′ (H k))) l,
-      ))
-    where
-      both : ℕ → K
-      both k = at E (G k) ⊗ at E′ (H k)
 
   -- an effect's entry, or what a loop has of it before it ends: a sum over rows of sums over branches
   pub effect-bounded : {A : Type 0} (E d m B : ℕ) (x y : ℕ → A → F) (xs ys : List A) → Sub xs ys → m ≤ d

@@ -11,8 +11,8 @@ use Rattle.algebra.specs.Lists.{All, some, filterBy}
 use Rattle.algebra.proofs.Lists.{all-imp, filter-all, filter-true, filter-length, filter-none, filter-some, filter-swap}
 use Rattle.algebra.proofs.Trace.{nil, keep, swap, join, same}
 use Rattle.algebra.proofs.Perm.{Perm, perm-path, map-of, filter-of, gather-of}
-use Rattle.scalar.specs.Exact.{Exact, exact}
-use Rattle.scalar.proofs.Exact.{exacts}
+use Rattle.exact.specs.Exact.{Exact, exact}
+use Rattle.exact.proofs.Exact.{exacts}
 use Rattle.gate.specs.Operators.{sameBits}
 use Rattle.gate.proofs.Bits.{same-true, same-sym}
 use Rattle.kraus.specs.Dense.{table, cell}

@@ -8,7 +8,7 @@ use lib.ListN.{getD}
 use Rattle.algebra.specs.Sum.{sum}
 use Rattle.algebra.specs.Lists.{All, total}
 use Rattle.algebra.proofs.Lists.{all-map, all-concat}
-use Rattle.scalar.specs.Exact.{Exact, exact}
+use Rattle.exact.specs.Exact.{Exact, exact}
 use Rattle.gate.specs.Gate.{Gate, qubits, weight}
 use Rattle.gate.specs.Operators.{Small, Operator, operators}
 use Rattle.gate.specs.Embed.{agree, bitsOf, embed}

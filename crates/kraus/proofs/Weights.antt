@@ -14,8 +14,8 @@ use Rattle.algebra.specs.Lists.{All, total}
 use Rattle.algebra.proofs.Semi.{zero-mul}
 use Rattle.algebra.proofs.Ring.{CommRing, ℤR, semi, add-zero, mul-zero}
 use Rattle.algebra.proofs.Quadratic.{quad, ℤ√2i}
-use Rattle.scalar.specs.Exact.{Exact, exact, number, imaginary, invSqrtTwo, powerOf, omega as omegaPower}
-use Rattle.scalar.proofs.Exact.{exactHalving}
+use Rattle.exact.specs.Exact.{Exact, exact, number, imaginary, invSqrtTwo, powerOf, omega as omegaPower}
+use Rattle.exact.proofs.Exact.{exactHalving}
 use Rattle.gate.specs.Gate.{Gate, elem, measure, reset, weight}
 use Rattle.gate.specs.Operators.{Small, one, none, two, sameBits, controlled, hadamard, pauliX, pauliY, phase, rootX, swapped, noUnitary, unitaries, Operator, operator, projectors, resetters}
 use Rattle.kraus.specs.Branch.{Store, start, branches}

@@ -3,11 +3,9 @@ use mathlib.Core.Bool.{Bool, not}
 use mathlib.Core.List.{List, [], _∷_, foldl, map}
 use Prim.Native.Nat.{ℕ, _^_}
 use lib.ListN.{getD}
-use Rattle.algebra.specs.Ops.{Ops}
 use Rattle.algebra.specs.Lists.{every, filterBy}
-use Rattle.algebra.specs.Dyadic.{Frac}
-use Rattle.scalar.specs.Exact.{Exact, exact, conj}
-use Rattle.scalar.specs.Cells.{isZero}
+use Rattle.exact.specs.Exact.{Exact, exact, conj}
+use Rattle.cells.specs.Cells.{isZero}
 use Rattle.gate.specs.Gate.{Gate}
 use Rattle.gate.specs.Operators.{sameBits}
 use Rattle.kraus.specs.Dense.{table}

@@ -4,7 +4,7 @@ use Prim.Native.Nat.{ℕ, _^_}
 use lib.ListN.{set}
 use Rattle.algebra.specs.Lists.{concatMap}
 use Rattle.algebra.specs.Sum.{δ}
-use Rattle.scalar.specs.Exact.{Exact, exact}
+use Rattle.exact.specs.Exact.{Exact, exact}
 use Rattle.gate.specs.Gate.{Gate, qubits, bits}
 use Rattle.gate.specs.Operators.{Operator, operators}
 use Rattle.gate.specs.Embed.{embed}

@@ -2,7 +2,7 @@
 use mathlib.Core.Path.{_≡_, refl, sym, ap, _∙_}
 use mathlib.Core.Bool.{Bool, true, false, cond}
 use mathlib.Core.List.{List, [], _∷_, _++_}
-use Prim.Native.Nat.{ℕ, zero, suc, _+_, _*_, _-_, _/_, _%_, _≤_}
+use Prim.Native.Nat.{ℕ, zero, suc, _+_, _*_, _/_, _%_, _≤_}
 use native.Mathlib.Nat.{le-refl, le-trans, suc-mul}
 use native.Mathlib.Numerals.{add-one}
 use native.Mathlib.Omega.{arith}
@@ -11,8 +11,8 @@ use lib.ListN.{length, drop, set, length-set, length-append, length-map}
 use lib.Seq.{sets, sets-eq}
 use lib.IntN.{ℤ, pos, negsuc, natAbs}
 use Rattle.algebra.specs.Lists.{concatMap}
-use Rattle.scalar.specs.Exact.{Exact}
-use Rattle.scalar.specs.Cells.{cellWords, isZero}
+use Rattle.exact.specs.Exact.{Exact}
+use Rattle.cells.specs.Cells.{cellWords, isZero}
 use Rattle.channel.specs.Layout.{Block, recordSize, side, bits, word, dimAt, bitsAt, countAt, chain}
 use Rattle.channel.specs.WellFormed.{wellFormed}
 use Rattle.channel.proofs.Judging.{formed}

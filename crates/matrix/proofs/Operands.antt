@@ -9,12 +9,12 @@ use lib.IntN.{ℤ, natAbs}
 use Rattle.algebra.specs.Lists.{allBelow}
 use Rattle.algebra.proofs.Tests.{and-split, all-at}
 use Rattle.algebra.proofs.Parts.{abs-neg}
+use Rattle.exact.specs.Exact.{Exact, conj, within, maxNumerator, maxExponent, narrowNumerator, narrowExponent, wellFormed, narrow}
+use Rattle.exact.proofs.Exact.{conj-form}
 use Rattle.scalar.specs.declared.Answer.{Answer}
-use Rattle.scalar.specs.Exact.{Exact, conj, within, maxNumerator, maxExponent, narrowNumerator, narrowExponent, wellFormed, narrow}
 use Rattle.scalar.specs.Calls.{value, scalarOf, mulAnswer, conjAnswer}
-use Rattle.scalar.specs.Cells.{exponentAt, wellFormedAt}
-use Rattle.scalar.proofs.Exact.{conj-form}
 use Rattle.scalar.proofs.Questions.{asked-yes, mul-yes}
+use Rattle.cells.specs.Cells.{exponentAt, wellFormedAt}
 use Rattle.matrix.specs.Phase.{_·_, entryOf}
 use Rattle.matrix.specs.Operands.{Operand, Operands}
 

@@ -11,11 +11,11 @@ use Rattle.algebra.proofs.Ring.{semi}
 use Rattle.algebra.proofs.Quadratic.{ℤ√2i}
 use Rattle.algebra.proofs.Dyadic.{low-zero}
 use Rattle.algebra.proofs.Blocks.{Same}
-use Rattle.scalar.specs.Exact.{Exact, exact, Number, numbers, lowest, isLowest}
-use Rattle.scalar.specs.Cells.{isZero}
-use Rattle.scalar.specs.Inner.{Coords}
-use Rattle.scalar.proofs.Exact.{exacts, exactHalving, plus-zero}
-use Rattle.scalar.proofs.Cell.{zero-is, cell-same, exponent-same}
+use Rattle.exact.specs.Exact.{Exact, exact, Number, numbers, lowest, isLowest}
+use Rattle.exact.specs.Inner.{Coords}
+use Rattle.exact.proofs.Exact.{exacts, exactHalving, plus-zero}
+use Rattle.cells.specs.Cells.{isZero}
+use Rattle.cells.proofs.Cell.{zero-is, cell-same, exponent-same}
 use Rattle.matrix.specs.Factors.{Factor}
 
 -- ---- a zero factor

@@ -10,10 +10,10 @@ use lib.ListN.{length, replicate}
 use lib.IntN.{ℤ, pos, negsuc}
 use borrow.Author.Tests.{leb-true}
 use Rattle.algebra.proofs.Tests.{and-split, all-at}
-use Rattle.scalar.specs.Exact.{Exact, isLowest, invSqrtTwo, within}
-use Rattle.scalar.specs.Cells.{cellAt, exponentAt}
-use Rattle.scalar.specs.Inner.{Coords}
-use Rattle.scalar.proofs.Sizes.{within-of}
+use Rattle.exact.specs.Exact.{Exact, isLowest, invSqrtTwo, within}
+use Rattle.exact.specs.Inner.{Coords}
+use Rattle.exact.proofs.Sizes.{within-of}
+use Rattle.cells.specs.Cells.{cellAt, exponentAt}
 use Rattle.matrix.specs.Factors.{Factor, Scaling}
 
 -- ---- the records by tests

@@ -6,9 +6,9 @@ use Prim.Native.Nat.{ℕ, _+_, _*_, _<_, _≤_}
 use lib.ListN.{length}
 use lib.IntN.{ℤ}
 use Rattle.algebra.specs.Words.{Apart}
-use Rattle.scalar.specs.Exact.{Exact, exact, isLowest}
-use Rattle.scalar.specs.Cells.{cellAt, exponentAt}
-use Rattle.scalar.specs.Inner.{Coords}
+use Rattle.exact.specs.Exact.{Exact, exact, isLowest}
+use Rattle.exact.specs.Inner.{Coords}
+use Rattle.cells.specs.Cells.{cellAt, exponentAt}
 
 -- a factor: its coordinates lie from −1 to 1, over at most 2^28
 pub record Factor (l : List ℤ) (at : ℕ) : Type 0 where

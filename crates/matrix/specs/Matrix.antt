@@ -5,8 +5,8 @@ use Prim.Native.Nat.{ℕ, _+_, _*_, _/_, _%_}
 use lib.IntN.{ℤ}
 use Rattle.algebra.specs.Lists.{allBelow}
 use Rattle.algebra.specs.Sum.{δ}
-use Rattle.scalar.specs.Exact.{Exact, exact}
-use Rattle.scalar.specs.Cells.{cellSize, cellAt, zeroAt, fill}
+use Rattle.exact.specs.Exact.{Exact, exact}
+use Rattle.cells.specs.Cells.{cellSize, cellAt, zeroAt, fill}
 
 -- entry i, counted row by row, of the matrix that lies from `at` on
 abbrev pub entry : List ℤ → ℕ → ℕ → Exact

@@ -5,8 +5,8 @@ use mathlib.Core.List.{List}
 use Prim.Native.Nat.{ℕ, _*_, _<_, _≤_}
 use lib.ListN.{length}
 use lib.IntN.{ℤ}
-use Rattle.scalar.specs.Exact.{Exact, wellFormed, narrow}
-use Rattle.scalar.specs.Cells.{cellSize, exponentAt}
+use Rattle.exact.specs.Exact.{Exact, wellFormed, narrow}
+use Rattle.cells.specs.Cells.{cellSize, exponentAt}
 use Rattle.matrix.specs.Phase.{entryOf}
 
 pub record Operand (x : Exact) : Type 0 where

@@ -1,19 +1,19 @@
 use super::Phase;
 use super::PhaseAnswer;
 use super::words::is_zero;
+use cells::read_cell;
+use cells::well_formed_at;
+use cells::zero_at;
 use scalar::Scalar;
 use scalar::Verdict;
-use scalar::cells::read_cell;
-use scalar::cells::well_formed_at;
-use scalar::cells::zero_at;
 ghost use mathlib.Core.Path.{_≡_};
 ghost use mathlib.Core.Bool.{true};
 ghost use Prim.Native.Nat.{ℕ, _*_, _<_, _≤_};
 ghost use lib.ListN.{length};
 ghost use Rattle.algebra.specs.Lists.{allBelow};
-ghost use Rattle.scalar.specs.Exact.{conj, narrow};
+ghost use Rattle.exact.specs.Exact.{conj, narrow};
 ghost use Rattle.scalar.specs.Calls.{value, scalarOf};
-ghost use Rattle.scalar.specs.Cells.{wellFormedAt};
+ghost use Rattle.cells.specs.Cells.{wellFormedAt};
 ghost use Rattle.matrix.specs.Phase.{_·_, isDim, entryOf, wellFormedMatrix, equalRatios, pivot, inPhaseAt, inPhase, answered, refusedPhase, phaseAnswer};
 ghost use Rattle.matrix.specs.Operands.{Operand, Operands};
 

@@ -1,17 +1,17 @@
 // Rows of numbers in words: one multiplied, or two multiplied and added.
 use super::words::clear;
 use super::words::copy;
+use cells::products::sum_of_products;
+use cells::products::times;
+use cells::read_cell;
+use cells::write_cell;
+use cells::zero_at;
 use scalar::Scalar;
-use scalar::cells::read_cell;
-use scalar::cells::write_cell;
-use scalar::cells::zero_at;
-use scalar::numerators::sum_of_products;
-use scalar::numerators::times;
 ghost use mathlib.Core.Path.{_≡_};
-ghost use Rattle.scalar.specs.Exact.{exact, equal};
+ghost use Rattle.exact.specs.Exact.{exact, equal};
+ghost use Rattle.exact.specs.Inner.{Coords};
 ghost use Rattle.scalar.specs.Calls.{value};
-ghost use Rattle.scalar.specs.Cells.{cellAt, isZero, fill};
-ghost use Rattle.scalar.specs.Inner.{Coords};
+ghost use Rattle.cells.specs.Cells.{cellAt, isZero, fill};
 ghost use Rattle.matrix.specs.Factors.{Factor, Scaling, scaledRow, combinedRow};
 
 fn is_zero(x: Scalar) -> bool

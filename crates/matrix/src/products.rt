@@ -1,10 +1,10 @@
+use cells::write_cell;
 use scalar::Scalar;
-use scalar::cells::write_cell;
 ghost use mathlib.Core.Path.{_≡_};
 ghost use Prim.Native.Nat.{_+_, _*_, _≤_};
 ghost use lib.ListN.{length};
 ghost use Rattle.algebra.specs.Sum.{δ};
-ghost use Rattle.scalar.specs.Exact.{exact};
+ghost use Rattle.exact.specs.Exact.{exact};
 ghost use Rattle.scalar.specs.Calls.{scalarOf};
 ghost use Rattle.matrix.specs.Matrix.{identified};
 

@@ -1,4 +1,4 @@
-use scalar::cells::zero_at;
+use cells::zero_at;
 ghost use mathlib.Core.Path.{_≡_};
 ghost use Prim.Native.Nat.{ℕ, _+_, _*_, _≤_};
 ghost use lib.ListN.{length, getD};

@@ -1,10 +1,2 @@
-pub mod Exact
-pub mod Zeros
-pub mod Coordinates
-pub mod Align
-pub mod Cell
-pub mod Sizes
 pub mod Questions
-pub mod Overflow
 pub mod Claims
-pub mod Equal

@@ -1,22 +1,14 @@
 -- What the scalar calls answer: the exact result, or the refusal by the first question that fails.
 use mathlib.Core.Bool.{cond, _&&_}
-use mathlib.Core.List.{List, [], _∷_}
 use Prim.Native.Nat.{ℕ}
-use lib.ListN.{getD}
-use lib.IntN.{ℤ, pos}
+use lib.IntN.{ℤ}
 use Rattle.algebra.specs.Dyadic.{frac}
+use Rattle.exact.specs.Exact.{Exact, exact, conj, half, omega, inRange, wellFormed, narrow}
+use Rattle.exact.specs.Inner.{numberOf, listOf}
 use Rattle.scalar.specs.declared.Scalar.{Scalar}
 use Rattle.scalar.specs.declared.Answer.{Answer}
 use Rattle.scalar.specs.declared.Verdict.{Verdict}
 use Rattle.scalar.specs.declared.Verdict.the-variants.{Accepted, TooLarge, Malformed}
-use Rattle.scalar.specs.Exact.{Exact, exact, Number, number, conj, half, omega, inRange, wellFormed, narrow}
-
--- four numbers of a list, and as a list
-abbrev pub numberOf : List ℤ → Number
-numberOf l = number (getD l 0 (pos 0)) (getD l 1 (pos 0)) (getD l 2 (pos 0)) (getD l 3 (pos 0))
-
-abbrev pub listOf : Number → List ℤ
-listOf z = z .re .re ∷ z .re .im ∷ z .im .re ∷ z .im .im ∷ []
 
 -- the struct's number, and a number's struct
 abbrev pub value : Scalar → Exact

@@ -7,8 +7,8 @@ use lib.Dec.{eqb}
 use lib.IntN.{pos}
 use Rattle.algebra.specs.Dyadic.{frac}
 use Rattle.algebra.specs.Lists.{every}
+use Rattle.exact.specs.Exact.{number, Exact, exact, equal, imaginary, invSqrtTwo, omega}
 use Rattle.scalar.specs.declared.Answer.{Answer}
-use Rattle.scalar.specs.Exact.{number, Exact, exact, equal, imaginary, invSqrtTwo, omega}
 use Rattle.scalar.specs.Calls.{value, verdictNumber, integerAnswer, omegaAnswer, negAnswer, conjAnswer, halfAnswer, addAnswer, mulAnswer}
 
 -- an answer, document 01's number for its verdict, and the number that it hands back

@@ -1,5 +1,2 @@
-pub mod Exact
 pub mod Calls
-pub mod Cells
-pub mod Inner
 pub mod Claims

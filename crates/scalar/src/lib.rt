@@ -2,21 +2,19 @@
 ghost use mathlib.Core.Path.{_≡_};
 ghost use mathlib.Core.Bool.{true};
 ghost use Prim.Native.Nat.{_≤_};
-ghost use Rattle.algebra.specs.Ops.{Ops};
-ghost use Rattle.scalar.specs.Exact.{exact, imaginary, invSqrtTwo, wellFormed};
+ghost use Rattle.exact.specs.Exact.{exact, imaginary, invSqrtTwo, wellFormed};
 ghost use Rattle.scalar.specs.Calls.{value, acceptedAs, accepted, refusedWith, fitting, fittingScalar, integerAnswer, omegaAnswer, negAnswer, conjAnswer, halfAnswer, addAnswer, mulAnswer};
 
-pub mod cells;
 pub mod numerators;
 pub mod ranges;
 
+use exact::numerators::neg4;
+use exact::numerators::product;
+use exact::ranges::can_scale;
 use numerators::aligned_sum;
-use numerators::neg4;
-use numerators::product;
 use numerators::reduce;
 use ranges::are_narrow;
 use ranges::are_well_formed;
-use ranges::can_scale;
 
 // The numerators lie from −2^60 to 2^60.
 pub const MAX_NUMERATOR: i64 = 1152921504606846976;

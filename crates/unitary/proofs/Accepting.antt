@@ -3,7 +3,7 @@ use mathlib.Core.Path.{_≡_, refl, sym, ap, _∙_, subst}
 use mathlib.Core.Logic.{_≢_}
 use mathlib.Core.Bool.{Bool, true, false, cond, _&&_, true≢false}
 use mathlib.Core.List.{List, [], _∷_, _++_, append-assoc}
-use Prim.Native.Nat.{ℕ, suc, _+_, _-_, _*_, _/_, _%_, _^_, _≤_}
+use Prim.Native.Nat.{ℕ, suc, _+_, _*_, _/_, _%_, _^_, _≤_}
 use native.Mathlib.Omega.{arith}
 use lib.Dec.{leb, eqb}
 use lib.ListN.{length, getD}
@@ -14,8 +14,8 @@ use Rattle.algebra.specs.Lists.{every, total}
 use Rattle.algebra.specs.Words.{fillWords}
 use Rattle.algebra.proofs.Tests.{and-split}
 use Rattle.algebra.proofs.Blocks.{written-over}
-use Rattle.scalar.specs.Exact.{exact}
-use Rattle.scalar.specs.Cells.{fill, cells}
+use Rattle.exact.specs.Exact.{exact}
+use Rattle.cells.specs.Cells.{fill, cells}
 use Rattle.gate.specs.declared.judge.GateVerdict.{GateVerdict}
 use Rattle.gate.specs.declared.judge.GateVerdict.the-variants.{Fine, Malformed, Operand, Unsupported}
 use Rattle.gate.specs.declared.judge.Asking.the-variants.{Unitary}

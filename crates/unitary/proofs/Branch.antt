@@ -9,7 +9,7 @@ use borrow.Author.Tests.{eqb-true}
 use Rattle.algebra.specs.Sum.{δ}
 use Rattle.algebra.specs.Lists.{every, total}
 use Rattle.algebra.proofs.Tests.{and-split}
-use Rattle.scalar.specs.Exact.{Exact, exact}
+use Rattle.exact.specs.Exact.{Exact, exact}
 use Rattle.gate.specs.Gate.{Gate, qubits, splits, valid}
 use Rattle.gate.specs.Operators.{Operator, operator, projectors, resetters, unitaries, noUnitary}
 use Rattle.gate.specs.Embed.{embed}

@@ -10,10 +10,10 @@ use lib.ListN.{length, getD}
 use lib.IntN.{ℤ}
 use Rattle.algebra.specs.Lists.{every}
 use Rattle.algebra.proofs.Sum.{times-same, zero-sum}
-use Rattle.scalar.specs.Exact.{exact, conj}
-use Rattle.scalar.specs.Cells.{fill}
-use Rattle.scalar.proofs.Cell.{cell-filled}
-use Rattle.scalar.proofs.Exact.{exacts}
+use Rattle.exact.specs.Exact.{exact, conj}
+use Rattle.exact.proofs.Exact.{exacts}
+use Rattle.cells.specs.Cells.{fill}
+use Rattle.cells.proofs.Cell.{cell-filled}
 use Rattle.matrix.specs.Matrix as words
 use Rattle.gate.specs.Gate.{Gate, gatesOf, splits, valid}
 use Rattle.gate.specs.Embedding.{Matrix, Equal, adjoint}

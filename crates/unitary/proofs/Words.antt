@@ -1,15 +1,15 @@
 -- Words copied to the start of a buffer: the cells of a matrix.
 use mathlib.Core.Path.{_≡_, refl, sym, ap, _∙_, subst}
 use mathlib.Core.List.{List, [], _∷_, _++_}
-use Prim.Native.Nat.{ℕ, _+_, _-_, _*_, _<_}
+use Prim.Native.Nat.{ℕ, _+_, _*_, _<_}
 use native.Mathlib.Omega.{arith}
 use lib.ListN.{length, getD, set, length-append, List·getD-append}
 use lib.Seq.{ext-getD}
 use lib.IntN.{ℤ, pos}
 use Rattle.algebra.specs.Words.{fillWords, joined}
 use Rattle.algebra.proofs.Blocks.{Writing, again-word, blocks-joined, length-joined, joined-at}
-use Rattle.scalar.specs.Exact.{Exact}
-use Rattle.scalar.specs.Cells.{cellWords, fill, cells}
+use Rattle.exact.specs.Exact.{Exact}
+use Rattle.cells.specs.Cells.{cellWords, fill, cells}
 use Rattle.branches.specs.Bank.{Holds}
 
 -- one word more from the start

@@ -5,7 +5,7 @@ use mathlib.Core.List.{List}
 use Prim.Native.Nat.{ℕ, _^_}
 use lib.IntN.{ℤ}
 use Rattle.algebra.specs.Sum.{times, δ}
-use Rattle.scalar.specs.Exact.{exact, conj}
+use Rattle.exact.specs.Exact.{exact, conj}
 use Rattle.matrix.specs.Matrix as words
 use Rattle.gate.specs.Gate.{gatesOf}
 use Rattle.gate.specs.Embedding.{Matrix, Equal, adjoint}

@@ -6,8 +6,8 @@ use lib.ListN.{length, getD}
 use lib.IntN.{ℤ, pos}
 use Rattle.algebra.specs.Sum.{δ}
 use Rattle.algebra.specs.Words.{fillWords}
-use Rattle.scalar.specs.Exact.{Exact, exact}
-use Rattle.scalar.specs.Cells.{fill}
+use Rattle.exact.specs.Exact.{Exact, exact}
+use Rattle.cells.specs.Cells.{fill}
 use Rattle.gate.specs.Gate.{Gate, gatesOf}
 use Rattle.gate.specs.Entries.{gateEntry}
 use Rattle.kraus.specs.Dense.{table, left}

@@ -6,10 +6,10 @@ use native.Mathlib.Omega.{arith}
 use lib.ListN.{length}
 use borrow.Author.Tests.{not-true, not-false}
 use Rattle.algebra.proofs.Tests.{and-split}
+use Rattle.exact.specs.Exact.{Exact, wellFormed}
 use Rattle.scalar.specs.declared.Verdict.the-variants.{TooLarge}
-use Rattle.scalar.specs.Exact.{Exact, wellFormed}
 use Rattle.scalar.specs.Calls.{scalarOf, acceptedAs, accepted, refusedWith}
-use Rattle.scalar.specs.Cells.{exponentAt, wellFormedAt}
+use Rattle.cells.specs.Cells.{exponentAt, wellFormedAt}
 use Rattle.channel.specs.Layout.{entryPlace, entryAt, recordSize, side}
 use Rattle.effects.specs.Effects.{term, effectAt}
 use Rattle.effects.proofs.Summing.{place-below, Summed, stops, goes-on, done}

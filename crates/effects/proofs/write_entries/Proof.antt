@@ -7,7 +7,7 @@ use Rattle.algebra.proofs.Tests.{all-at}
 use Rattle.algebra.proofs.Blocks.{Writing, begin, again, done, long}
 use Rattle.scalar.specs.declared.Scalar.{Scalar}
 use Rattle.scalar.specs.Calls.{value}
-use Rattle.scalar.specs.Cells.{cellWords}
+use Rattle.cells.specs.Cells.{cellWords}
 use Rattle.effects.specs.Effects.{term, effectAt, partialsFit}
 use Rattle.effects.proofs.Summing.{dim-square, answer-value}
 use Rattle.effects.proofs.write_entries.Statement.{statement}

@@ -6,8 +6,8 @@ use native.Mathlib.Omega.{arith}
 use lib.ListN.{length, length-set}
 use lib.Seq.{sets}
 use Rattle.algebra.proofs.Blocks.{append-block}
-use Rattle.scalar.specs.Cells.{cells}
-use Rattle.scalar.proofs.Cell.{fill-block}
+use Rattle.cells.specs.Cells.{cells}
+use Rattle.cells.proofs.Cell.{fill-block}
 use Rattle.channel.specs.Layout.{word}
 use Rattle.algebra.proofs.Signed.{reads}
 use Rattle.effects.specs.Effects.{effectAt, relink}

@@ -1,12 +1,14 @@
 -- `add_ordered` meets its contract: where the first term cannot be scaled, the sum is too large.
 use mathlib.Core.Path.{ap, sym, _∙_}
-use Prim.Native.Nat.{_-_, _^_}
+use Prim.Native.Nat.{_-_}
 use native.Mathlib.Omega.{arith}
 use borrow.Author.Needs.{needs}
+use Rattle.exact.specs.Exact.{exact}
+use Rattle.exact.specs.Inner.{scaled, roomNumerator}
+use Rattle.exact.proofs.Sizes.{within-of, well-within, well-exponent}
+use Rattle.exact.proofs.Overflow.{overflow}
 use Rattle.scalar.specs.Calls.{value, fittingScalar}
-use Rattle.scalar.specs.Inner.{scaled}
-use Rattle.scalar.proofs.Sizes.{within-of, well-within, well-exponent}
-use Rattle.scalar.proofs.Overflow.{overflow}
+use Rattle.scalar.proofs.Questions.{too-large}
 use Rattle.scalar.proofs.add_ordered.Statement.{statement}
 use Rattle.scalar.proofs.add_ordered.Tie as tie
 
@@ -21,7 +23,7 @@ aligned-sum-requires c κs =
     let s = c .before .before .before .before in
     let x = value (s .args .low) in
     let y = value (s .args .high) in
-    (s .pre .1 .1, (well-exponent y (s .pre .1 .0), (within-of (2 ^ 61) (scaled (x .num) (y .exp - x .exp)) (sym (c .before .can-scale .ensures) ∙ c .if1 .taken), well-within y (s .pre .1 .0))))
+    (s .pre .1 .1, (well-exponent y (s .pre .1 .0), (within-of roomNumerator (scaled (x .num) (y .exp - x .exp)) (sym (c .before .can-scale .ensures) ∙ c .if1 .taken), well-within y (s .pre .1 .0))))
 
 checked-requires : tie.Need-checked-requires
 checked-requires c κs = search needs
@@ -36,7 +38,9 @@ returns-2 : tie.Need-returns-2
 returns-2 c =
     let k = c .before .before in
     let s = k .before .before .before in
-    c .refused .ensures ∙ sym (overflow (value (s .args .low)) (value (s .args .high)) (s .pre .0) (s .pre .1 .0) (s .pre .1 .1) (sym (k .can-scale .ensures) ∙ c .before .if1 .left))
+    let x = value (s .args .low) in
+    let y = value (s .args .high) in
+    c .refused .ensures ∙ sym (too-large (exact ._⊕_ x y) (overflow x y (s .pre .0) (s .pre .1 .0) (s .pre .1 .1) (sym (k .can-scale .ensures) ∙ c .before .if1 .left)))
 
 pub add-ordered-spec : {M : Type 1} → statement M
 add-ordered-spec =

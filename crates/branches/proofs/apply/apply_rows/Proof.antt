@@ -6,10 +6,10 @@ use native.Mathlib.Omega.{arith}
 use lib.Bits.{bitXor}
 use lib.ListN.{length}
 use Rattle.algebra.proofs.Blocks.{done, long, block-in}
+use Rattle.exact.specs.Inner.{Coords}
 use Rattle.scalar.specs.Calls.{value}
-use Rattle.scalar.specs.Cells.{cellAt}
-use Rattle.scalar.specs.Inner.{Coords}
-use Rattle.scalar.proofs.Cell.{cell-same, exponent-same}
+use Rattle.cells.specs.Cells.{cellAt}
+use Rattle.cells.proofs.Cell.{cell-same, exponent-same}
 use Rattle.branches.proofs.Products.{Applied, none-applied, own-same, other-same, scaling, applied-more}
 use Rattle.branches.proofs.apply.apply_rows.Statement.{statement}
 use Rattle.branches.proofs.apply.apply_rows.Tie as tie

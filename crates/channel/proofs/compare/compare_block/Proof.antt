@@ -5,8 +5,8 @@ use native.Mathlib.Nat.{zero-mul, sub-zero, mul-le-mul}
 use native.Mathlib.Omega.{arith}
 use lib.Arith.{digits-lt}
 use borrow.Author.Tests.{not-true, not-false}
+use Rattle.exact.specs.Exact.{equal}
 use Rattle.scalar.specs.declared.Scalar.{Scalar}
-use Rattle.scalar.specs.Exact.{equal}
 use Rattle.scalar.specs.Calls.{value}
 use Rattle.channel.specs.declared.compare.Difference.{Difference}
 use Rattle.channel.specs.declared.compare.Found.the-variants.{Same, Entry}

@@ -4,7 +4,7 @@ use mathlib.Core.Bool.{true}
 use Prim.Native.Nat.{ℕ, _+_, _≤_}
 use lib.ListN.{length}
 use Rattle.scalar.specs.Calls.{scalarOf}
-use Rattle.scalar.specs.Cells.{cellAt, exponentAt}
+use Rattle.cells.specs.Cells.{cellAt, exponentAt}
 use Rattle.channel.specs.Layout.{entrySize}
 use borrow.Author.Needs.{needs}
 use Rattle.channel.proofs.layout.read_entry.Statement.{statement}

@@ -5,7 +5,7 @@ use Prim.Native.Nat.{_-_, _≤_}
 use native.Mathlib.Omega.{arith}
 use borrow.Author.Tests.{not-true, not-false}
 use Rattle.algebra.proofs.Tests.{all-step, all-no}
-use Rattle.scalar.specs.Cells.{wellFormedAt}
+use Rattle.cells.specs.Cells.{wellFormedAt}
 use Rattle.channel.specs.Layout.{entryPlace}
 use Rattle.channel.specs.WellFormed.{entriesOk}
 use Rattle.channel.proofs.well_formed.entries_ok.Statement.{statement}

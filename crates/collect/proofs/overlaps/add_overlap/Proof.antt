@@ -3,10 +3,10 @@ use mathlib.Core.Path.{sym, ap, _∙_, subst}
 use Prim.Native.Nat.{_+_}
 use Rattle.scalar.specs.declared.Scalar.{Scalar}
 use lib.Seq.{sets}
-use Rattle.scalar.specs.Exact.{Exact, exact}
+use Rattle.exact.specs.Exact.{Exact, exact}
+use Rattle.exact.specs.Inner.{Coords, Room}
 use Rattle.scalar.specs.Calls.{value}
-use Rattle.scalar.specs.Cells.{cellAt, cellWords}
-use Rattle.scalar.specs.Inner.{Coords, Room}
+use Rattle.cells.specs.Cells.{cellAt, cellWords}
 use Rattle.collect.proofs.Sizes.{conj-coords}
 use Rattle.collect.proofs.Adding.{factor-readable, overlap-none}
 use borrow.Author.Needs.{needs}

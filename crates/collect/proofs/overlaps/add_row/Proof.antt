@@ -1,15 +1,15 @@
 -- `collect::overlaps::add_row` meets its contract.
-use mathlib.Core.Path.{_≡_, sym, ap, _∙_, subst}
+use mathlib.Core.Path.{_≡_, sym, ap, subst}
 use Prim.Native.Nat.{ℕ, _+_, _*_, _-_, _≤_}
 use native.Mathlib.Nat.{le-refl}
 use native.Mathlib.Omega.{arith}
 use lib.ListN.{length}
 use Rattle.algebra.proofs.Blocks.{Writing, begin, again, done, long, rest, Same}
-use Rattle.scalar.specs.Exact.{Exact, exact, conj}
+use Rattle.exact.specs.Exact.{Exact, exact, conj}
+use Rattle.exact.specs.Inner.{Coords}
 use Rattle.scalar.specs.Calls.{value}
-use Rattle.scalar.specs.Cells.{cellWords, cellAt}
-use Rattle.scalar.specs.Inner.{Coords}
-use Rattle.scalar.proofs.Cell.{cell-same}
+use Rattle.cells.specs.Cells.{cellWords, cellAt}
+use Rattle.cells.proofs.Cell.{cell-same}
 use Rattle.collect.specs.Overlap.{overlapped, Sum}
 use Rattle.collect.proofs.Adding.{sum-same}
 use Rattle.collect.proofs.overlaps.add_row.Statement.{statement}

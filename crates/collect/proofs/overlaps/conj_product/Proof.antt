@@ -11,8 +11,8 @@ use Rattle.algebra.proofs.Ring.{ℤR}
 use Rattle.algebra.proofs.Solver.{Expr, con, var, _⊞_, _⊠_, ⊟, look, holds, solve, ⟦_⟧}
 use Rattle.algebra.proofs.Bound.{Within}
 use Rattle.algebra.proofs.Machine.{raw, machine, fitsTop, fitsAll, op-fits, machine-is}
-use Rattle.scalar.specs.Calls.{numberOf}
-use Rattle.scalar.proofs.Coordinates.{formulas, x, eight, bounds, bounded}
+use Rattle.exact.specs.Inner.{numberOf}
+use Rattle.exact.proofs.Coordinates.{formulas, x, eight, bounds, bounded}
 use borrow.Author.Needs.{needs}
 use Rattle.collect.proofs.overlaps.conj_product.Statement.{statement}
 use Rattle.collect.proofs.overlaps.conj_product.Tie as tie

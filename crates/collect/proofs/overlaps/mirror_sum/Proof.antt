@@ -1,8 +1,8 @@
 -- `collect::overlaps::mirror_sum` meets its contract.
 use mathlib.Core.Path.{sym, ap, _∙_}
 use lib.Seq.{sets}
-use Rattle.scalar.specs.Exact.{Exact}
-use Rattle.scalar.specs.Cells.{cellWords}
+use Rattle.exact.specs.Exact.{Exact}
+use Rattle.cells.specs.Cells.{cellWords}
 use Rattle.collect.proofs.Words.{cell-there}
 use borrow.Author.Needs.{needs}
 use Rattle.collect.proofs.overlaps.mirror_sum.Statement.{statement}

@@ -5,7 +5,7 @@ use native.Mathlib.Nat.{le-refl}
 use native.Mathlib.Omega.{arith}
 use lib.ListN.{length}
 use Rattle.algebra.proofs.Blocks.{begin, again, done, long}
-use Rattle.scalar.specs.Cells.{cellWords}
+use Rattle.cells.specs.Cells.{cellWords}
 use Rattle.collect.proofs.Adding.{Mirroring, column-room, own-room, column-is, mirrored}
 use Rattle.collect.proofs.overlaps.mirror_sums.Statement.{statement}
 use Rattle.collect.proofs.overlaps.mirror_sums.Tie as tie

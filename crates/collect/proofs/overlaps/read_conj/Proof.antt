@@ -6,10 +6,10 @@ use native.Mathlib.Omega.{arith}
 use lib.ListN.{getD}
 use lib.IntN.{pos}
 use Rattle.algebra.proofs.Signed.{reads, neg-fits, neg-back}
+use Rattle.exact.specs.Exact.{conj}
+use Rattle.exact.specs.Inner.{Within}
 use Rattle.scalar.specs.declared.Scalar.{Scalar}
-use Rattle.scalar.specs.Exact.{conj}
 use Rattle.scalar.specs.Calls.{value, scalarOf}
-use Rattle.scalar.specs.Inner.{Within}
 use borrow.Author.Needs.{needs}
 use Rattle.collect.proofs.overlaps.read_conj.Statement.{statement}
 use Rattle.collect.proofs.overlaps.read_conj.Tie as tie

@@ -1,14 +1,12 @@
 -- `collect::overlaps::times_conj` meets its contract.
 use mathlib.Core.Path.{ap, _∙_}
-use mathlib.Core.List.{List}
 use Prim.Native.Nat.{_+_, _*_, _^_}
 use lib.Dec.{lit≤}
-use lib.IntN.{ℤ}
-use Rattle.scalar.specs.Exact.{Exact, Number, lowest}
-use Rattle.scalar.specs.Calls.{numberOf, value, scalarOf}
-use Rattle.scalar.specs.Inner.{Within, Coords}
-use Rattle.scalar.proofs.Sizes.{number-back}
-use Rattle.scalar.proofs.Align.{widen, power-within}
+use Rattle.exact.specs.Exact.{Exact, Number, lowest}
+use Rattle.exact.specs.Inner.{numberOf, Within, Coords}
+use Rattle.exact.proofs.Sizes.{number-back}
+use Rattle.exact.proofs.Align.{widen, power-within}
+use Rattle.scalar.specs.Calls.{value, scalarOf}
 use borrow.Author.Needs.{needs}
 use Rattle.collect.proofs.overlaps.times_conj.Statement.{statement}
 use Rattle.collect.proofs.overlaps.times_conj.Tie as tie

@@ -3,7 +3,7 @@ use mathlib.Core.Path.{ap, _∙_}
 use lib.Seq.{sets}
 use Rattle.scalar.specs.declared.Scalar.{Scalar}
 use Rattle.scalar.specs.Calls.{value}
-use Rattle.scalar.specs.Cells.{cellWords}
+use Rattle.cells.specs.Cells.{cellWords}
 use borrow.Author.Needs.{needs}
 use Rattle.collect.proofs.overlaps.write_conj.Statement.{statement}
 use Rattle.collect.proofs.overlaps.write_conj.Tie as tie

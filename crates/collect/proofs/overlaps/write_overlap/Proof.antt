@@ -1,11 +1,11 @@
 -- `collect::overlaps::write_overlap` meets its contract.
 use mathlib.Core.Path.{sym, ap, _∙_, subst}
 use lib.Seq.{sets}
+use Rattle.exact.specs.Exact.{Exact, exact, conj}
+use Rattle.exact.specs.Inner.{Coords}
 use Rattle.scalar.specs.declared.Scalar.{Scalar}
-use Rattle.scalar.specs.Exact.{Exact, exact, conj}
 use Rattle.scalar.specs.Calls.{value}
-use Rattle.scalar.specs.Cells.{cellWords}
-use Rattle.scalar.specs.Inner.{Coords}
+use Rattle.cells.specs.Cells.{cellWords}
 use Rattle.collect.proofs.Adding.{overlap-zero}
 use borrow.Author.Needs.{needs}
 use Rattle.collect.proofs.overlaps.write_overlap.Statement.{statement}

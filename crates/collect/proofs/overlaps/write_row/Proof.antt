@@ -1,14 +1,14 @@
 -- `collect::overlaps::write_row` meets its contract.
-use mathlib.Core.Path.{_≡_, sym, ap, _∙_, subst}
+use mathlib.Core.Path.{_≡_, sym, ap, subst}
 use Prim.Native.Nat.{ℕ, _+_, _*_, _-_, _≤_}
 use native.Mathlib.Nat.{le-refl}
 use native.Mathlib.Omega.{arith}
 use lib.ListN.{length}
 use Rattle.algebra.proofs.Blocks.{Writing, begin, again, done, long}
-use Rattle.scalar.specs.Exact.{exact, conj}
+use Rattle.exact.specs.Exact.{exact, conj}
+use Rattle.exact.specs.Inner.{Coords}
 use Rattle.scalar.specs.Calls.{value}
-use Rattle.scalar.specs.Cells.{cellWords, cellAt}
-use Rattle.scalar.specs.Inner.{Coords}
+use Rattle.cells.specs.Cells.{cellWords, cellAt}
 use Rattle.collect.specs.Overlap.{overlap}
 use Rattle.collect.proofs.overlaps.write_row.Statement.{statement}
 use Rattle.collect.proofs.overlaps.write_row.Tie as tie

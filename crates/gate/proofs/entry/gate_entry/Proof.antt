@@ -2,7 +2,7 @@
 use mathlib.Core.Path.{ap, sym, _∙_}
 use mathlib.Core.List.{[], _∷_}
 use borrow.Author.Needs.{needs}
-use Rattle.scalar.specs.Exact.{exact}
+use Rattle.exact.specs.Exact.{exact}
 use Rattle.gate.specs.Embed.{embed}
 use Rattle.gate.specs.Entries.{Table, smallOf}
 use Rattle.gate.proofs.Dispatch.{one-kinds, one-on, one-entry, three-else}

@@ -1,7 +1,7 @@
 -- A swap under one control, or a target under two.
 use mathlib.Core.Path.{ap, _∙_}
 use mathlib.Core.List.{[], _∷_}
-use Rattle.scalar.specs.Exact.{exact}
+use Rattle.exact.specs.Exact.{exact}
 use Rattle.gate.specs.Operators.{controlled}
 use Rattle.gate.specs.Embed.{embed}
 use Rattle.gate.specs.Entries.{Table, smallOf}

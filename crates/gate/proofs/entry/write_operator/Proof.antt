@@ -4,7 +4,7 @@ use Prim.Native.Nat.{ℕ, _*_, _-_, _/_, _%_}
 use native.Mathlib.Nat.{le-refl}
 use native.Mathlib.Omega.{arith}
 use Rattle.algebra.proofs.Blocks.{Writing, begin, again, done, long}
-use Rattle.scalar.specs.Cells.{cellWords}
+use Rattle.cells.specs.Cells.{cellWords}
 use Rattle.gate.specs.Verdict.{gateOf}
 use Rattle.gate.specs.Entries.{gateEntry}
 use Rattle.gate.proofs.Columns.{rows-some, spot-at}

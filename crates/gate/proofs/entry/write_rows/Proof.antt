@@ -5,7 +5,7 @@ use native.Mathlib.Nat.{le-refl}
 use native.Mathlib.Omega.{arith}
 use borrow.Author.Needs.{needs}
 use Rattle.algebra.proofs.Blocks.{Writing, begin, again, done, long}
-use Rattle.scalar.specs.Cells.{cellWords}
+use Rattle.cells.specs.Cells.{cellWords}
 use Rattle.gate.specs.Verdict.{gateOf}
 use Rattle.gate.specs.Entries.{rowEntry}
 use Rattle.gate.proofs.entry.write_rows.Statement.{statement}

@@ -5,7 +5,7 @@ use lib.ListN.{getD}
 use lib.IntN.{pos}
 use borrow.Author.Needs.{needs}
 use Rattle.algebra.proofs.Signed.{word-is}
-use Rattle.scalar.specs.Exact.{maxExponent}
+use Rattle.exact.specs.Exact.{maxExponent}
 use Rattle.listing.specs.Listing.{spaced}
 use Rattle.listing.proofs.Writing.{then, text, none}
 use Rattle.listing.proofs.Listing.{spaced-word}

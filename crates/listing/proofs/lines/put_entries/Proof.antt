@@ -6,7 +6,7 @@ use native.Mathlib.Nat.{mul-le-mul}
 use native.Mathlib.Omega.{arith}
 use lib.ListN.{length}
 use Rattle.algebra.proofs.Tests.{all-at}
-use Rattle.scalar.specs.Cells.{cellAt, wellFormedAt}
+use Rattle.cells.specs.Cells.{cellAt, wellFormedAt}
 use Rattle.channel.specs.Layout.{entrySize, entryPlace, entryAt}
 use Rattle.listing.specs.Page.{page, Written}
 use Rattle.listing.specs.Listing.{entryLine, entryLines}

@@ -7,10 +7,10 @@ use native.Mathlib.Omega.{arith}
 use borrow.Author.Tests.{not-true, not-false}
 use Rattle.algebra.specs.Lists.{allBelow}
 use Rattle.algebra.proofs.Tests.{and-split, all-at, all-step, all-no}
+use Rattle.exact.specs.Exact.{wellFormed, narrow}
 use Rattle.scalar.specs.declared.Scalar.{Scalar}
-use Rattle.scalar.specs.Exact.{wellFormed, narrow}
 use Rattle.scalar.specs.Calls.{value}
-use Rattle.scalar.specs.Cells.{exponentAt}
+use Rattle.cells.specs.Cells.{exponentAt}
 use Rattle.matrix.specs.Phase.{entryOf}
 use Rattle.matrix.proofs.global_phase.all_narrow.Statement.{statement}
 use Rattle.matrix.proofs.global_phase.all_narrow.Tie as tie

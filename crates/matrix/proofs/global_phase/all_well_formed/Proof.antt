@@ -6,7 +6,7 @@ use native.Mathlib.Omega.{arith}
 use borrow.Author.Tests.{not-true, not-false}
 use Rattle.algebra.specs.Lists.{allBelow}
 use Rattle.algebra.proofs.Tests.{all-step, all-no}
-use Rattle.scalar.specs.Cells.{wellFormedAt}
+use Rattle.cells.specs.Cells.{wellFormedAt}
 use Rattle.matrix.proofs.global_phase.all_well_formed.Statement.{statement}
 use Rattle.matrix.proofs.global_phase.all_well_formed.Tie as tie
 

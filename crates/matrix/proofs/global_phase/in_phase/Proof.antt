@@ -4,7 +4,7 @@ use Prim.Native.Nat.{ℕ, _*_, _≤_, _<_}
 use native.Mathlib.Nat.{zero-add}
 use native.Mathlib.Omega.{arith}
 use Rattle.algebra.specs.Lists.{allBelow}
-use Rattle.scalar.specs.Cells.{zeroAt}
+use Rattle.cells.specs.Cells.{zeroAt}
 use Rattle.matrix.specs.Phase.{entryOf, inPhaseAt}
 use Rattle.matrix.proofs.GlobalPhase.{phase-pivot, phase-none}
 use Rattle.matrix.proofs.global_phase.in_phase.Statement.{statement}

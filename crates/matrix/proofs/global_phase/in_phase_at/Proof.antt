@@ -4,8 +4,8 @@ use mathlib.Core.Bool.{Bool, _&&_}
 use Prim.Native.Nat.{ℕ}
 use native.Mathlib.Omega.{arith}
 use borrow.Author.Tests.{not-true, not-false}
+use Rattle.exact.specs.Exact.{Exact, equal}
 use Rattle.scalar.specs.declared.Scalar.{Scalar}
-use Rattle.scalar.specs.Exact.{Exact, equal}
 use Rattle.scalar.specs.Calls.{value}
 use Rattle.matrix.specs.Phase.{equalModulus, equalRatios, entryOf}
 use Rattle.matrix.specs.Operands.{Operand}

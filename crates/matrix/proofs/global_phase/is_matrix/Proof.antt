@@ -7,7 +7,7 @@ use lib.Dec.{eqb}
 use lib.ListN.{length}
 use borrow.Author.Tests.{not-true, not-false, eq-eqb, ne-eqb}
 use Rattle.algebra.specs.Lists.{allBelow}
-use Rattle.scalar.specs.Cells.{wellFormedAt}
+use Rattle.cells.specs.Cells.{wellFormedAt}
 use Rattle.matrix.specs.Phase.{isDim}
 use Rattle.matrix.proofs.Questions.{square-small}
 use borrow.Author.Needs.{needs}

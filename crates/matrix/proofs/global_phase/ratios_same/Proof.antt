@@ -6,8 +6,8 @@ use Prim.Native.Nat.{ℕ, _-_, _≤_}
 use native.Mathlib.Omega.{arith}
 use borrow.Author.Tests.{not-true, not-false}
 use Rattle.algebra.proofs.Tests.{all-step, all-no}
+use Rattle.exact.specs.Exact.{equal}
 use Rattle.scalar.specs.declared.Scalar.{Scalar}
-use Rattle.scalar.specs.Exact.{equal}
 use Rattle.scalar.specs.Calls.{value}
 use Rattle.matrix.specs.Phase.{_·_, equalRatios, entryOf}
 use Rattle.matrix.specs.Operands.{Operand}

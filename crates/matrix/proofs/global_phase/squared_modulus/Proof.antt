@@ -1,8 +1,8 @@
 -- `matrix::global_phase::squared_modulus` meets its contract.
 use mathlib.Core.Path.{_≡_, sym, ap, _∙_, subst}
+use Rattle.exact.specs.Exact.{conj}
 use Rattle.scalar.specs.declared.Scalar.{Scalar}
 use Rattle.scalar.specs.declared.Answer.{Answer}
-use Rattle.scalar.specs.Exact.{conj}
 use Rattle.scalar.specs.Calls.{value, scalarOf}
 use Rattle.matrix.specs.Phase.{_·_}
 use Rattle.matrix.specs.Operands.{Operand}

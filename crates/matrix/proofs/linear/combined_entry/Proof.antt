@@ -1,11 +1,11 @@
 -- `matrix::linear::combined_entry` meets its contract.
 use mathlib.Core.Path.{sym, ap, _∙_, subst}
+use Rattle.exact.specs.Exact.{Exact, exact}
+use Rattle.exact.specs.Inner.{Coords}
+use Rattle.exact.proofs.Exact.{mul-lowest}
 use Rattle.scalar.specs.declared.Scalar.{Scalar}
-use Rattle.scalar.specs.Exact.{Exact, exact}
 use Rattle.scalar.specs.Calls.{value}
-use Rattle.scalar.specs.Cells.{cellAt}
-use Rattle.scalar.specs.Inner.{Coords}
-use Rattle.scalar.proofs.Exact.{mul-lowest}
+use Rattle.cells.specs.Cells.{cellAt}
 use Rattle.matrix.proofs.Terms.{by-zero, zero-right, zero-first}
 use borrow.Author.Needs.{needs}
 use Rattle.matrix.proofs.linear.combined_entry.Statement.{statement}

@@ -1,6 +1,6 @@
 -- `matrix::linear::is_zero` meets its contract.
-use Rattle.scalar.specs.Calls.{numberOf}
-use Rattle.scalar.proofs.Cell.{union-zero}
+use Rattle.exact.specs.Inner.{numberOf}
+use Rattle.cells.proofs.Cell.{union-zero}
 use borrow.Author.Needs.{needs}
 use Rattle.matrix.proofs.linear.is_zero.Statement.{statement}
 use Rattle.matrix.proofs.linear.is_zero.Tie as tie

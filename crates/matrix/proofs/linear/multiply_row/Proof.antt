@@ -5,10 +5,10 @@ use native.Mathlib.Nat.{le-refl}
 use native.Mathlib.Omega.{arith}
 use lib.ListN.{length}
 use Rattle.algebra.proofs.Blocks.{Writing, begin, again, done, long, kept, Same, cut, block-in}
-use Rattle.scalar.specs.Exact.{exact}
+use Rattle.exact.specs.Exact.{exact}
 use Rattle.scalar.specs.Calls.{value}
-use Rattle.scalar.specs.Cells.{cellWords}
-use Rattle.scalar.proofs.Cell.{cell-same}
+use Rattle.cells.specs.Cells.{cellWords}
+use Rattle.cells.proofs.Cell.{cell-same}
 use Rattle.matrix.specs.Factors.{scaledRow}
 use Rattle.matrix.proofs.Terms.{factor-same}
 use Rattle.matrix.proofs.linear.multiply_row.Statement.{statement}

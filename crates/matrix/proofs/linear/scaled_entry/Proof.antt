@@ -1,10 +1,10 @@
 -- `matrix::linear::scaled_entry` meets its contract.
 use mathlib.Core.Path.{sym, ap, _∙_, subst}
+use Rattle.exact.specs.Exact.{exact}
+use Rattle.exact.specs.Inner.{Coords}
 use Rattle.scalar.specs.declared.Scalar.{Scalar}
-use Rattle.scalar.specs.Exact.{exact}
 use Rattle.scalar.specs.Calls.{value}
-use Rattle.scalar.specs.Cells.{cellAt}
-use Rattle.scalar.specs.Inner.{Coords}
+use Rattle.cells.specs.Cells.{cellAt}
 use Rattle.matrix.proofs.Terms.{by-zero}
 use borrow.Author.Needs.{needs}
 use Rattle.matrix.proofs.linear.scaled_entry.Statement.{statement}

@@ -5,10 +5,10 @@ use native.Mathlib.Nat.{le-refl}
 use native.Mathlib.Omega.{arith}
 use Rattle.algebra.specs.Sum.{δ}
 use Rattle.algebra.proofs.Blocks.{Writing, begin, again, done, long}
+use Rattle.exact.specs.Exact.{exact}
 use Rattle.scalar.specs.declared.Scalar.{Scalar}
-use Rattle.scalar.specs.Exact.{exact}
 use Rattle.scalar.specs.Calls.{value}
-use Rattle.scalar.specs.Cells.{cellWords}
+use Rattle.cells.specs.Cells.{cellWords}
 use Rattle.matrix.proofs.Terms.{dim-pos}
 use borrow.Author.Needs.{needs}
 use Rattle.matrix.proofs.products.identity_into.Statement.{statement}

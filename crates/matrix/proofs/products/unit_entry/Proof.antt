@@ -2,7 +2,7 @@
 use mathlib.Core.Path.{sym, ap}
 use mathlib.Core.Bool.{Bool, cond}
 use borrow.Author.Tests.{eq-eqb, ne-eqb}
-use Rattle.scalar.specs.Exact.{exact}
+use Rattle.exact.specs.Exact.{exact}
 use Rattle.scalar.specs.Calls.{scalarOf}
 use Rattle.matrix.proofs.products.unit_entry.Statement.{statement}
 use Rattle.matrix.proofs.products.unit_entry.Tie as tie

@@ -5,9 +5,9 @@ use native.Mathlib.Omega.{arith}
 use borrow.Author.Tests.{not-true, not-false}
 use borrow.Author.Needs.{needs}
 use Rattle.algebra.proofs.Tests.{and-split}
-use Rattle.scalar.specs.Exact.{Exact, exact, wellFormed}
+use Rattle.exact.specs.Exact.{Exact, exact, wellFormed}
+use Rattle.exact.proofs.Exact.{exacts}
 use Rattle.scalar.specs.Calls.{value, fitting}
-use Rattle.scalar.proofs.Exact.{exacts}
 use Rattle.scalar.proofs.Questions.{both-yes, both-no}
 use Rattle.scalar.proofs.Scalar.add.Statement.{statement}
 use Rattle.scalar.proofs.Scalar.add.Tie as tie

@@ -7,9 +7,9 @@ use lib.IntN.{ℤ, pos}
 use borrow.Author.Tests.{not-true, not-false}
 use borrow.Author.Needs.{needs}
 use Rattle.algebra.proofs.Signed.{reads}
-use Rattle.scalar.specs.Exact.{conj, wellFormed}
+use Rattle.exact.specs.Exact.{conj, wellFormed}
+use Rattle.exact.proofs.Sizes.{well-within}
 use Rattle.scalar.specs.Calls.{value, accepted, acceptedAs}
-use Rattle.scalar.proofs.Sizes.{well-within}
 use Rattle.scalar.proofs.Questions.{asked-yes, asked-no}
 use Rattle.scalar.proofs.Scalar.conj.Statement.{statement}
 use Rattle.scalar.proofs.Scalar.conj.Tie as tie

@@ -6,9 +6,9 @@ use native.Mathlib.Numerals.{add-one}
 use native.Mathlib.Omega.{arith}
 use borrow.Author.Tests.{not-true, not-false}
 use borrow.Author.Needs.{needs}
-use Rattle.scalar.specs.Exact.{Number, lowest, half, wellFormed}
+use Rattle.exact.specs.Exact.{Number, lowest, half, wellFormed}
+use Rattle.exact.proofs.Sizes.{well-exponent, number-back}
 use Rattle.scalar.specs.Calls.{value, fitting, fittingScalar, scalarOf}
-use Rattle.scalar.proofs.Sizes.{well-exponent, number-back}
 use Rattle.scalar.proofs.Questions.{asked-yes, asked-no}
 use Rattle.scalar.proofs.Scalar.half.Statement.{statement}
 use Rattle.scalar.proofs.Scalar.half.Tie as tie

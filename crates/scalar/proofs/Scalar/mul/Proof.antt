@@ -6,9 +6,10 @@ use native.Mathlib.Omega.{arith}
 use borrow.Author.Tests.{not-true, not-false}
 use borrow.Author.Needs.{needs}
 use Rattle.algebra.proofs.Tests.{and-split}
-use Rattle.scalar.specs.Exact.{Exact, Number, lowest, wellFormed, narrow}
-use Rattle.scalar.specs.Calls.{value, numberOf, scalarOf, acceptedAs, narrowAnswer}
-use Rattle.scalar.proofs.Sizes.{narrow-within, narrow-exponent, number-back}
+use Rattle.exact.specs.Exact.{Exact, Number, lowest, wellFormed, narrow}
+use Rattle.exact.specs.Inner.{numberOf}
+use Rattle.exact.proofs.Sizes.{narrow-within, narrow-exponent, number-back}
+use Rattle.scalar.specs.Calls.{value, scalarOf, acceptedAs, narrowAnswer}
 use Rattle.scalar.proofs.Questions.{both-no, mul-yes, mul-wide}
 use Rattle.scalar.proofs.Scalar.mul.Statement.{statement}
 use Rattle.scalar.proofs.Scalar.mul.Tie as tie

@@ -5,9 +5,9 @@ use mathlib.Core.List.{List}
 use lib.IntN.{ℤ}
 use borrow.Author.Tests.{not-true, not-false}
 use borrow.Author.Needs.{needs}
-use Rattle.scalar.specs.Exact.{exact, wellFormed}
+use Rattle.exact.specs.Exact.{exact, wellFormed}
+use Rattle.exact.proofs.Sizes.{well-within}
 use Rattle.scalar.specs.Calls.{value, accepted, acceptedAs}
-use Rattle.scalar.proofs.Sizes.{well-within}
 use Rattle.scalar.proofs.Questions.{asked-yes, asked-no}
 use Rattle.scalar.proofs.Scalar.neg.Statement.{statement}
 use Rattle.scalar.proofs.Scalar.neg.Tie as tie

@@ -1,13 +1,13 @@
 -- `aligned_sum` meets its contract.
 use mathlib.Core.Path.{ap, _∙_}
 use mathlib.Core.List.{List}
-use Prim.Native.Nat.{_-_}
 use lib.IntN.{ℤ}
 use Rattle.algebra.specs.Dyadic.{frac}
-use Rattle.scalar.specs.Exact.{Number, numbers, lowest}
-use Rattle.scalar.specs.Calls.{numberOf, scalarOf}
-use Rattle.scalar.proofs.Sizes.{number-back}
-use Rattle.scalar.proofs.Align.{aligned}
+use Rattle.exact.specs.Exact.{Number, numbers, lowest}
+use Rattle.exact.specs.Inner.{numberOf}
+use Rattle.exact.proofs.Sizes.{number-back}
+use Rattle.exact.proofs.Align.{aligned}
+use Rattle.scalar.specs.Calls.{scalarOf}
 use borrow.Author.Needs.{needs}
 use Rattle.scalar.proofs.numerators.aligned_sum.Statement.{statement}
 use Rattle.scalar.proofs.numerators.aligned_sum.Tie as tie

@@ -5,9 +5,9 @@ use lib.Count.{trailingZeros}
 use mir.Facts.{toZ-ofZ}
 use Rattle.algebra.specs.Dyadic.{frac}
 use Rattle.algebra.proofs.Signed.{shift-back}
-use Rattle.scalar.specs.Exact.{number}
+use Rattle.exact.specs.Exact.{number}
+use Rattle.exact.proofs.Zeros.{union, shifted, by-count}
 use Rattle.scalar.specs.Calls.{scalarOf}
-use Rattle.scalar.proofs.Zeros.{union, shifted, by-count}
 use borrow.Author.Needs.{needs}
 use Rattle.scalar.proofs.numerators.reduce.Statement.{statement}
 use Rattle.scalar.proofs.numerators.reduce.Tie as tie

@@ -1,0 +1,42 @@
+-- Four numerators as the inner calls take them, and what is asked of them: how large they are, as they stand or over a larger power of two.
+use mathlib.Core.List.{List, [], _∷_}
+use Prim.Native.Nat.{ℕ, _*_, _-_, _^_, _≤_}
+use lib.ListN.{getD}
+use lib.IntN.{ℤ, pos, natAbs, _*ℤ_}
+use Rattle.exact.specs.Exact.{Exact, Number, number}
+
+-- four numbers of a list, and as a list
+abbrev pub numberOf : List ℤ → Number
+numberOf l = number (getD l 0 (pos 0)) (getD l 1 (pos 0)) (getD l 2 (pos 0)) (getD l 3 (pos 0))
+
+abbrev pub listOf : Number → List ℤ
+listOf z = z .re .re ∷ z .re .im ∷ z .im .re ∷ z .im .im ∷ []
+
+-- each numerator lies from −m to m
+pub record Within (m : ℕ) (z : Number) : Type 0 where
+  pub w0 : natAbs (z .re .re) ≤ m
+  pub w1 : natAbs (z .re .im) ≤ m
+  pub w2 : natAbs (z .im .re) ≤ m
+  pub w3 : natAbs (z .im .im) ≤ m
+
+-- two numerators of at most this size have their sum in a word
+abbrev pub roomNumerator : ℕ
+roomNumerator = 2 ^ 61
+
+-- a product of narrow numbers is over at most 2^56
+abbrev pub roomExponent : ℕ
+roomExponent = 56
+
+-- each numerator times 2^d
+abbrev pub scaled : Number → ℕ → Number
+scaled z d = number (z .re .re *ℤ pos (2 ^ d)) (z .re .im *ℤ pos (2 ^ d)) (z .im .re *ℤ pos (2 ^ d)) (z .im .im *ℤ pos (2 ^ d))
+
+-- each coordinate lies from −m to m, over at most 2^k
+pub record Coords (m k : ℕ) (x : Exact) : Type 0 where
+  pub exponent : x .exp ≤ k
+  pub size : Within (m * 2 ^ x .exp) (x .num)
+
+-- a sum to which a term over 2^k can be added: over the larger power of the two its numerators lie from −2^61 to 2^61
+pub record Room (k : ℕ) (x : Exact) : Type 0 where
+  pub exponent : x .exp ≤ roomExponent
+  pub size : Within roomNumerator (scaled (x .num) (k - x .exp))
