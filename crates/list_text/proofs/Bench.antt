@@ -5,8 +5,8 @@ use Rattle.channel.specs.Layout.{before}
 use Rattle.channel.specs.WellFormed.{wellFormed, chainOk}
 use Rattle.listing.specs.Page.{digits}
 use Rattle.listing.specs.Listing.{storeBits, entryLines}
-use Rattle.listing.specs.Text.{bodyLength, pieces, value, isNumber}
-use Rattle.listing.specs.Input.{isInput, isInputText}
+use Rattle.circuit_text.specs.Text.{bodyLength, pieces, value, isNumber}
+use Rattle.circuit_text.specs.Input.{isInput, isInputText}
 use Rattle.list_text.specs.Bench.{Bench}
 
 pub bench : Bench

@@ -10,10 +10,10 @@ use lib.Seq.{sets, sets-eq, length-sets, length-take-le, take-at, drop-at, take-
 use borrow.Author.Tests.{le-leb}
 use Rattle.algebra.specs.Lists.{every}
 use Rattle.algebra.proofs.Tests.{and-split}
-use Rattle.listing.specs.declared.text.Read.{Read}
-use Rattle.listing.specs.Text.{body, pieces, value, isNumber, leading, textOf, filled}
-use Rattle.listing.specs.Input.{bitsIn, gatesIn, storeIn, wordsIn, isInput, numbersOf, isInputText, stored}
-use Rattle.listing.proofs.Shapes.{Right, right, whole, given-store}
+use Rattle.circuit_text.specs.declared.text.Read.{Read}
+use Rattle.circuit_text.specs.Text.{body, pieces, value, isNumber, leading, textOf, filled}
+use Rattle.circuit_text.specs.Input.{bitsIn, gatesIn, storeIn, wordsIn, isInput, numbersOf, isInputText, stored}
+use Rattle.circuit_text.proofs.Shapes.{Right, right, whole, given-store}
 
 module _ (t : List ℕ) where
   abbrev ns : List ℕ

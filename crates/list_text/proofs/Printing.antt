@@ -11,7 +11,7 @@ use Rattle.circuit.specs.Questions.{verdictNumber, verdictIndex}
 use Rattle.demands.specs.Call.{verdictOf, accepts, resultAfter}
 use Rattle.demands.specs.Demands.{delivered}
 use Rattle.demands.proofs.Demands.{demand1, demand2}
-use Rattle.listing.specs.Input.{bitsIn, storeIn, wordsIn, circuitIn, numbersOf, isInputText}
+use Rattle.circuit_text.specs.Input.{bitsIn, storeIn, wordsIn, circuitIn, numbersOf, isInputText}
 use Rattle.listing.specs.Listing.{listing, listingOf, refusalLine, inputLine}
 use Rattle.listing.specs.Claims.{maxListing}
 use Rattle.listing.proofs.Room.{whole, short, short-refusal}

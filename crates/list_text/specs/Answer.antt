@@ -7,7 +7,7 @@ use Rattle.circuit.specs.declared.verdict.Verdict.{Verdict}
 use Rattle.circuit.specs.Limits.{ceilings}
 use Rattle.circuit.specs.Questions.{accepted, verdictNumber, verdictIndex}
 use Rattle.demands.specs.Call.{verdictOf, resultAfter, workAfter}
-use Rattle.listing.specs.Input.{bitsIn, storeIn, wordsIn, circuitIn, numbersOf, isInputText}
+use Rattle.circuit_text.specs.Input.{bitsIn, storeIn, wordsIn, circuitIn, numbersOf, isInputText}
 use Rattle.listing.specs.Listing.{listingOf, refusalLine, inputLine}
 
 -- the lines for a verdict, of which `channel` are the words that an accepted call leaves

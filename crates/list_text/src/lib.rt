@@ -1,10 +1,10 @@
 // The job of the program that lists a channel: the text of a circuit in, the bytes of its answer out.
 use circuit::limits::Limits;
+use circuit_text::input::Input;
+use circuit_text::input::MAX_BITS;
+use circuit_text::input::MAX_NUMBERS;
+use circuit_text::input::read_input;
 use judge::call::circuit_channel;
-use listing::input::Input;
-use listing::input::MAX_BITS;
-use listing::input::MAX_NUMBERS;
-use listing::input::read_input;
 use listing::lines::write_listing;
 use listing::lines::write_no_input;
 use listing::lines::write_refusal;

@@ -8,7 +8,8 @@ use Rattle.exact.specs.Exact.{Exact}
 use Rattle.cells.specs.Cells.{cellWords, isZero}
 use Rattle.channel.specs.Layout.{Block, side, bits, storeAt, entryAt, dimAt, bitsAt, countAt, readBack}
 use Rattle.channel.specs.WellFormed.{wellFormed}
-use Rattle.listing.specs.Page.{ascii, decimal, signed}
+use Rattle.circuit_text.specs.Text.{ascii}
+use Rattle.listing.specs.Page.{decimal, signed}
 
 abbrev pub newline : List ℕ
 newline = ascii "\n"

@@ -3,12 +3,10 @@ use mathlib.Core.Path.{_≡_}
 use mathlib.Core.Bool.{cond}
 use mathlib.Core.List.{List, [], _∷_, _++_, foldl}
 use Prim.Native.Nat.{ℕ, zero, suc, _+_, _/_, _%_}
-use Prim.Native.Char.{code}
-use Prim.Native.String.{String}
-use Prim.Native.String as string
 use lib.Dec.{ltb}
 use lib.ListN.{length, set}
 use lib.IntN.{ℤ, pos, negsuc}
+use Rattle.circuit_text.specs.Text.{ascii}
 
 -- the room, and where the next byte goes
 pub record Page : Type 0 where
@@ -28,11 +26,6 @@ write p bs = foldl put p bs
 -- q is p after these bytes
 pub record Written (p : Page) (bs : List ℕ) (q : Page) : Type 0 where
   pub is : q ≡ write p bs
-
--- the bytes of a text in ASCII
-abbrev pub ascii : String → List ℕ
-ascii string.[] = []
-ascii (string._∷_ c s) = code c ∷ ascii s
 
 -- the decimal digits of n, of which there are at most k, the most significant first
 unfoldable pub digits : ℕ → ℕ → List ℕ

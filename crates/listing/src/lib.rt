@@ -1,5 +1,3 @@
-// What the program that lists a channel reads and writes: its text as numbers, and the lines of its answer.
-pub mod input;
+// The lines of a program's answer: a channel's listing, or a refusal.
 pub mod lines;
 mod page;
-mod text;

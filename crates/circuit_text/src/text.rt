@@ -1,0 +1,129 @@
+// A text of decimal numbers, read into lent room.
+ghost use mathlib.Core.Path.{_≡_};
+ghost use Prim.Native.Nat.{_+_, _≤_};
+ghost use lib.ListN.{length, drop};
+ghost use lib.Seq.{sets};
+ghost use Rattle.circuit_text.specs.Text.{isBlank, isDigit, bodyLength, run, noNumber, numberOf, leading, pieces, readOf, textOf, filled};
+
+// The number in a piece of text; `ok` is false, and the value 0, where there is none.
+pub struct Number {
+    pub ok: bool,
+    pub value: u32,
+}
+
+// How many numbers a text has.
+pub enum Read {
+    Refused,
+    Count(usize),
+}
+
+fn none() -> Number
+    ensures { λ r. ⌜ r ≡ noNumber ⌝ }
+{
+    Number {
+        ok: false,
+        value: 0,
+    }
+}
+
+fn is_digit(b: u8) -> bool
+    ensures { λ r. ⌜ r ≡ isDigit b ⌝ }
+{
+    (b'0' <= b) & (b <= b'9')
+}
+
+fn is_blank(b: u8) -> bool
+    ensures { λ r. ⌜ r ≡ isBlank b ⌝ }
+{
+    (b == b' ') | (b == b'\n')
+}
+
+fn number_in(piece: &[u8]) -> Number
+    ensures { λ r. ⌜ r ≡ numberOf (now (piece .entry)) ⌝ }
+{
+    if !((1 <= piece.len()) & (piece.len() <= 10)) {
+        return none();
+    }
+    let mut v: u64 = 0;
+    let mut i = 0;
+    while i < piece.len() {
+        let b = piece[i];
+        if !is_digit(b) {
+            return none();
+        }
+        v = v * 10 + (b - b'0') as u64;
+        i += 1;
+    }
+    if 4294967295 < v {
+        return none();
+    }
+    Number {
+        ok: true,
+        value: v as u32,
+    }
+}
+
+// Where the first blank from `at` on stands, or the text's end.
+fn next_blank(text: &[u8], at: usize) -> usize
+    requires { ⌜ at ≤ length (now text) ⌝ }
+    ensures { λ r. ⌜ r ≡ at + run (drop at (now (text .entry))) ⌝ }
+{
+    let mut i = at;
+    while i < text.len() {
+        if is_blank(text[i]) {
+            return i;
+        }
+        i += 1;
+    }
+    i
+}
+
+// The numbers of a text with no newline at its end.
+fn read_pieces(text: &[u8], numbers: &mut [u32]) -> Read
+    requires { ⌜ length (now text) ≤ 2048 ⌝ }
+    ensures count { λ r. ⌜ r ≡ readOf (length (now (numbers .entry))) (pieces (now (text .entry))) ⌝ }
+    ensures room { λ _. ⌜ now (numbers .exit) ≡ sets (now (numbers .entry)) 0 (leading (pieces (now (text .entry)))) ⌝ }
+{
+    let mut at = 0;
+    let mut count = 0;
+    while at <= text.len() {
+        let e = next_blank(text, at);
+        let number = number_in(&text[at..e]);
+        if !number.ok {
+            return Read::Refused;
+        }
+        if numbers.len() <= count {
+            return Read::Refused;
+        }
+        numbers[count] = number.value;
+        count += 1;
+        at = e + 1;
+    }
+    Read::Count(count)
+}
+
+// The length of a text without the newline at its end.
+fn body_length(text: &[u8]) -> usize
+    ensures { λ r. ⌜ r ≡ bodyLength (now (text .entry)) ⌝ }
+{
+    let n = text.len();
+    if n == 0 {
+        return n;
+    }
+    if text[n - 1] == b'\n' {
+        return n - 1;
+    }
+    n
+}
+
+// Reads the numbers of a text of at most 2,048 bytes, as many as there is room for.
+pub fn read_numbers(text: &[u8], numbers: &mut [u32]) -> Read
+    ensures count { λ r. ⌜ r ≡ textOf (length (now (numbers .entry))) (now (text .entry)) ⌝ }
+    ensures room { λ _. ⌜ now (numbers .exit) ≡ filled (now (text .entry)) (now (numbers .entry)) ⌝ }
+{
+    if 2048 < text.len() {
+        return Read::Refused;
+    }
+    let e = body_length(text);
+    read_pieces(&text[..e], numbers)
+}

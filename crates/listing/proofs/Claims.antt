@@ -1,9 +1,0 @@
--- Which texts are an input, by computation.
-use mathlib.Core.Path.{refl}
-use Rattle.listing.specs.Text.{bodyLength, pieces, value, isNumber}
-use Rattle.listing.specs.Input.{isInput, isInputText}
-use Rattle.listing.specs.Claims.{Answers}
-
-pub answers : Answers
-unfolding bodyLength pieces value isNumber isInput isInputText
-answers = (refl, (refl, (refl, (refl, (refl, (refl, (refl, (refl, (refl, (refl, (refl, (refl, (refl, (refl, (refl, (refl, (refl, (refl, tt))))))))))))))))))
