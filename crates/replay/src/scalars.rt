@@ -1,7 +1,6 @@
-// Scalars of a text, and verdicts as document 01's numbers.
+// Scalars of a text.
 use crate::text::read;
 use scalar::Scalar;
-use scalar::Verdict;
 
 // A scalar, and where the next number begins.
 pub struct ScalarRead {
@@ -26,19 +25,5 @@ pub fn read_scalar(text: &[u8], at: usize) -> ScalarRead {
             e: low(e.size),
         },
         next: e.next,
-    }
-}
-
-pub fn same(x: Scalar, y: Scalar) -> bool {
-    let a = x.n;
-    let b = y.n;
-    (a[0] == b[0]) & (a[1] == b[1]) & (a[2] == b[2]) & (a[3] == b[3]) & (x.e == y.e)
-}
-
-pub fn number(v: Verdict) -> u64 {
-    match v {
-        Verdict::Accepted => 0,
-        Verdict::TooLarge => 9,
-        Verdict::Malformed => 10,
     }
 }

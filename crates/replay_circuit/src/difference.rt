@@ -2,7 +2,6 @@
 use channel::compare::Difference;
 use channel::compare::Found;
 use replay::scalars::read_scalar;
-use replay::scalars::same;
 use replay::text::read;
 
 // Whether they agree, and where the next number begins.
@@ -76,12 +75,14 @@ pub fn difference_agrees(text: &[u8], at: usize, d: Difference) -> Checked {
     let place = place_agrees(text, kind.next, p);
     let left = read_scalar(text, place.next);
     let right = read_scalar(text, left.next);
+    let x = d.left;
+    let y = d.right;
     Checked {
         agrees: (p.verdict == verdict.size)
             & (p.kind == kind.size)
             & place.agrees
-            & same(d.left, left.value)
-            & same(d.right, right.value),
+            & x.equals(left.value)
+            & y.equals(right.value),
         next: right.next,
     }
 }

@@ -64,44 +64,16 @@ pub fn read_limits(text: &[u8], at: usize) -> Bounds {
     }
 }
 
-// Document 01's number and index.
-pub struct Numbers {
-    pub number: u64,
-    pub index: u64,
-}
-
-fn at_gate(number: u64, index: usize) -> Numbers {
-    Numbers {
-        number,
-        index: index as u64,
-    }
-}
-
-pub fn number_of(v: Verdict) -> Numbers {
-    match v {
-        Verdict::Accepted => at_gate(0, 0),
-        Verdict::OverLimit => at_gate(1, 0),
-        Verdict::UnsupportedAt(i) => at_gate(2, i),
-        Verdict::OperandAt(i) => at_gate(3, i),
-        Verdict::BadStore => at_gate(4, 0),
-        Verdict::MalformedAt(i) => at_gate(5, i),
-        Verdict::OverCeiling => at_gate(6, 0),
-        Verdict::TooHeavy => at_gate(7, 0),
-        Verdict::ShortBuffer => at_gate(8, 0),
-    }
-}
-
 // The rest of a case (verdict, index, source, checksums of both buffers) against what the call answered and left.
 pub fn compared(text: &[u8], at: usize, v: Verdict, result: &[i64], work: &[i64]) -> Outcome {
-    let r = number_of(v);
     let number = read(text, at);
     let index = read(text, number.next);
     let source = read(text, index.next);
     let after = read(text, source.next);
     let spent = read(text, after.next);
     Outcome {
-        agrees: (r.number == number.size)
-            & (r.index == index.size)
+        agrees: (v.number() as u64 == number.size)
+            & (v.index() as u64 == index.size)
             & (checksum(result) == after.size)
             & (checksum(work) == spent.size),
         of_rust: source.size == 0,

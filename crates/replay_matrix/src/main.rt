@@ -2,7 +2,6 @@
 use matrix::Phase;
 use matrix::PhaseAnswer;
 use matrix::global_phase::equivalent_up_to_global_phase;
-use replay::scalars::number;
 use replay::tally::Outcome;
 use replay::tally::Tally;
 use replay::text::read;
@@ -24,7 +23,7 @@ fn compared(text: &[u8], at: usize, answer: PhaseAnswer) -> Outcome {
     let same = read(text, verdict.next);
     let source = read(text, same.next);
     Outcome {
-        agrees: (number(v) == verdict.size) & (one_if_equivalent(p) == same.size),
+        agrees: (v.number() as u64 == verdict.size) & (one_if_equivalent(p) == same.size),
         of_rust: source.size == 0,
         next: source.next,
     }
