@@ -1,6 +1,9 @@
 // Scalars of a text.
+use crate::text::low;
 use crate::text::read;
 use scalar::Scalar;
+ghost use mathlib.Core.Path.{_≡_};
+ghost use Rattle.replay.specs.Record.{scalarAt};
 
 // A scalar, and where the next number begins.
 pub struct ScalarRead {
@@ -8,12 +11,9 @@ pub struct ScalarRead {
     pub next: usize,
 }
 
-// The low 32 bits.
-pub fn low(size: u64) -> u32 {
-    (size % 4294967296) as u32
-}
-
-pub fn read_scalar(text: &[u8], at: usize) -> ScalarRead {
+pub fn read_scalar(text: &[u8], at: usize) -> ScalarRead
+    ensures { λ r. ⌜ r ≡ scalarAt (now (text .entry)) at ⌝ }
+{
     let n0 = read(text, at);
     let n1 = read(text, n0.next);
     let n2 = read(text, n1.next);
