@@ -6,7 +6,7 @@ ghost use Rattle.replay.specs.Checksum.{shifted, withPart, withWord, joi
 const PRIME: u64 = 2147483647;
 
 // The two sums.
-pub struct Sums {
+struct Sums {
     pub a: u64,
     pub b: u64,
 }

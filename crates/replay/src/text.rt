@@ -11,7 +11,7 @@ pub struct Word {
 }
 
 // What is read of a number: its digits' value, and whether a minus sign came.
-pub struct Digits {
+struct Digits {
     pub size: u64,
     pub negative: bool,
 }

@@ -1,8 +1,8 @@
 // Replays recorded answers of the scalar calls. A case is 18 numbers: call, two operands, verdict, value, source.
-use replay::scalars::low;
 use replay::scalars::read_scalar;
 use replay::tally::Outcome;
 use replay::tally::Tally;
+use replay::text::low;
 use replay::text::read;
 use scalar::Answer;
 use scalar::Scalar;
