@@ -20,7 +20,7 @@ ghost use Rattle.scalar.specs.Calls.{accepted, refusedWith};
 ghost use Rattle.scalar.specs.declared.Verdict.the-variants.{TooLarge};
 ghost use Rattle.cells.specs.Cells.{fill};
 ghost use Rattle.channel.specs.Layout.{headerSize, blockSize, recordSize, word};
-ghost use Rattle.effects.specs.Effects.{termPlace, term, effectAt, partialsFit, recordFits, sumsFit, relink, effectHeader, effectRecord, withRecords, outcomeOf, resultOf};
+ghost use Rattle.effects.specs.Effects.{outcomeNumber, termPlace, term, effectAt, partialsFit, recordFits, sumsFit, relink, effectHeader, effectRecord, withRecords, outcomeOf, resultOf};
 ghost use Rattle.effects.specs.Readable.{isAccepted, Dim, Readable, Records, Linked};
 
 // Document 01's numbers: Written is 0, ShortBuffer 8, TooLarge 9, Malformed 10.
@@ -29,6 +29,19 @@ pub enum Outcome {
     ShortBuffer,
     TooLarge,
     Malformed,
+}
+
+impl Outcome {
+    pub fn number(self) -> u32
+        ensures { λ r. ⌜ r ≡ outcomeNumber self ⌝ }
+    {
+        match self {
+            Outcome::Written => 0,
+            Outcome::ShortBuffer => 8,
+            Outcome::TooLarge => 9,
+            Outcome::Malformed => 10,
+        }
+    }
 }
 
 fn is_accepted(v: Verdict) -> bool

@@ -3,7 +3,6 @@ use super::scalars::scalar_words;
 use channel::compare::Found;
 use channel::compare::compare;
 use channel::lookup::locate;
-use effects::Outcome;
 use effects::classical_blocks;
 use scalar::Scalar;
 ghost use mathlib.Core.Path.{_≡_};
@@ -65,17 +64,6 @@ pub extern "C" fn foreituka_compare(
     finding_number(f)
 }
 
-fn outcome_number(v: Outcome) -> u32
-    ensures { λ r. ⌜ r ≡ outcomeNumber v ⌝ }
-{
-    match v {
-        Outcome::Written => 0,
-        Outcome::ShortBuffer => 8,
-        Outcome::TooLarge => 9,
-        Outcome::Malformed => 10,
-    }
-}
-
 // The effects of a channel's blocks: the verdict's number.
 #[no_mangle]
 pub extern "C" fn foreituka_classical_blocks(channel: &[i64], result: &mut [i64]) -> u32
@@ -83,7 +71,7 @@ pub extern "C" fn foreituka_classical_blocks(channel: &[i64], result: &mut [i64]
     ensures { λ _. ⌜ now (result .exit) ≡ resultOf (now (channel .entry)) (now (result .entry)) ⌝ }
 {
     let v = classical_blocks(channel, result);
-    outcome_number(v)
+    v.number()
 }
 
 // The index of the first entry of a store's block, or 0 where there is none.

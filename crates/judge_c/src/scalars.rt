@@ -2,22 +2,11 @@
 use scalar::Answer;
 use scalar::MAX_EXPONENT;
 use scalar::Scalar;
-use scalar::Verdict;
 ghost use mathlib.Core.Path.{_≡_};
 ghost use Rattle.exact.specs.Exact.{exact, imaginary, invSqrtTwo};
 ghost use Rattle.scalar.specs.Calls.{value, scalarOf, verdictNumber, accepted, integerAnswer, omegaAnswer, negAnswer, conjAnswer, halfAnswer, addAnswer, mulAnswer};
 ghost use Rattle.cells.specs.Cells.{cellWords};
 ghost use Rattle.judge_c.specs.Interface.{exponentOf, operand, answerWords};
-
-fn verdict_number(v: Verdict) -> u32
-    ensures { λ r. ⌜ r ≡ verdictNumber v ⌝ }
-{
-    match v {
-        Verdict::Accepted => 0,
-        Verdict::TooLarge => 9,
-        Verdict::Malformed => 10,
-    }
-}
 
 // A word that is no exponent is read as one above the highest.
 fn read_exponent(e: i64) -> u32
@@ -65,7 +54,7 @@ fn answer(a: Answer, out: &mut [i64; 5]) -> u32
     let s = a.value;
     let v = a.verdict;
     *out = scalar_words(s);
-    verdict_number(v)
+    v.number()
 }
 
 // n

@@ -1,4 +1,5 @@
 // Replays of recorded answers: a text of numbers is read, the calls are made, and agreement is counted.
+pub mod record;
 pub mod scalars;
 pub mod sum;
 pub mod tally;

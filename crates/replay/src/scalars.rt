@@ -1,7 +1,9 @@
-// Scalars of a text, and verdicts as document 01's numbers.
+// Scalars of a text.
+use crate::text::low;
 use crate::text::read;
 use scalar::Scalar;
-use scalar::Verdict;
+ghost use mathlib.Core.Path.{_≡_};
+ghost use Rattle.replay.specs.Record.{scalarAt};
 
 // A scalar, and where the next number begins.
 pub struct ScalarRead {
@@ -9,12 +11,9 @@ pub struct ScalarRead {
     pub next: usize,
 }
 
-// The low 32 bits.
-pub fn low(size: u64) -> u32 {
-    (size % 4294967296) as u32
-}
-
-pub fn read_scalar(text: &[u8], at: usize) -> ScalarRead {
+pub fn read_scalar(text: &[u8], at: usize) -> ScalarRead
+    ensures { λ r. ⌜ r ≡ scalarAt (now (text .entry)) at ⌝ }
+{
     let n0 = read(text, at);
     let n1 = read(text, n0.next);
     let n2 = read(text, n1.next);
@@ -26,19 +25,5 @@ pub fn read_scalar(text: &[u8], at: usize) -> ScalarRead {
             e: low(e.size),
         },
         next: e.next,
-    }
-}
-
-pub fn same(x: Scalar, y: Scalar) -> bool {
-    let a = x.n;
-    let b = y.n;
-    (a[0] == b[0]) & (a[1] == b[1]) & (a[2] == b[2]) & (a[3] == b[3]) & (x.e == y.e)
-}
-
-pub fn number(v: Verdict) -> u64 {
-    match v {
-        Verdict::Accepted => 0,
-        Verdict::TooLarge => 9,
-        Verdict::Malformed => 10,
     }
 }

@@ -1,5 +1,7 @@
 // What a replay counts and prints.
 use libc::STDOUT_FILENO;
+ghost use mathlib.Core.Path.{_≡_};
+ghost use Rattle.replay.specs.Tally.{counted, firstOf, none, withCase};
 
 // One case: whether the call agrees with the record, whether the record is the Rust's, and where the next case begins.
 pub struct Outcome {
@@ -17,12 +19,24 @@ pub struct Tally {
     pub first: u64,
 }
 
-fn one_more(n: u64) -> u64 {
-    if n < 1000000 { n + 1 } else { n }
+// A count, with one more where `more` says so; it stops at a million.
+fn counted(n: u64, more: bool) -> u64
+    ensures { λ r. ⌜ r ≡ counted n more ⌝ }
+{
+    if more & (n < 1000000) { n + 1 } else { n }
+}
+
+// The number of the first case that does not agree, or 0: the first one before, or this case.
+fn first_of(before: u64, case: u64, agrees: bool) -> u64
+    ensures { λ r. ⌜ r ≡ firstOf before case agrees ⌝ }
+{
+    if agrees | (0 < before) { before } else { case }
 }
 
 impl Tally {
-    pub fn empty() -> Tally {
+    pub fn empty() -> Tally
+        ensures { λ r. ⌜ r ≡ none ⌝ }
+    {
         Tally {
             cases: 0,
             of_rust: 0,
@@ -33,25 +47,22 @@ impl Tally {
     }
 
     // With one more case.
-    pub fn with(self, outcome: Outcome) -> Tally {
-        let mut t = self;
-        t.cases = one_more(t.cases);
-        if outcome.agrees {
-            if outcome.of_rust {
-                t.of_rust = one_more(t.of_rust);
-            } else {
-                t.of_document = one_more(t.of_document);
-            }
-            return t;
+    pub fn with(self, outcome: Outcome) -> Tally
+        ensures { λ r. ⌜ r ≡ withCase self outcome ⌝ }
+    {
+        let agrees = outcome.agrees;
+        let of_rust = outcome.of_rust;
+        let cases = counted(self.cases, true);
+        Tally {
+            cases,
+            of_rust: counted(self.of_rust, agrees & of_rust),
+            of_document: counted(self.of_document, agrees & !of_rust),
+            disagree: counted(self.disagree, !agrees),
+            first: first_of(self.first, cases, agrees),
         }
-        t.disagree = one_more(t.disagree);
-        if t.first == 0 {
-            t.first = t.cases;
-        }
-        t
     }
 
-    // One line; a second one names the first case that does not agree.
+    // One line; a second one names the first case that does not agree. It answers nothing, and no contract can say what is written.
     pub fn print(self) {
         io::print_decimal(STDOUT_FILENO, self.of_rust);
         io::write_all(STDOUT_FILENO, b" agree with the Rust, ");

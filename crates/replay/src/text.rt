@@ -1,4 +1,7 @@
 // Decimal numbers in a text, each ended by a space, a newline or the text's end.
+ghost use mathlib.Core.Path.{_≡_};
+ghost use Prim.Native.Nat.{_%_};
+ghost use Rattle.replay.specs.Text.{withByte, signed, wordOf, wordAt};
 
 // A number, its size with no sign, and where the next one begins.
 pub struct Word {
@@ -9,17 +12,20 @@ pub struct Word {
 
 // What is read of a number: its digits' value, and whether a minus sign came.
 struct Digits {
-    size: u64,
-    negative: bool,
+    pub size: u64,
+    pub negative: bool,
 }
 
 impl Digits {
     // With one more byte. What is neither a digit nor a minus sign, or would not fit, is passed over.
-    fn with(self, b: u8) -> Digits {
+    fn with(self, b: u8) -> Digits
+        ensures { λ r. ⌜ r ≡ withByte self b ⌝ }
+    {
         let size = self.size;
+        let negative = self.negative;
         if b == b'-' {
             return Digits {
-                size: size,
+                size,
                 negative: true,
             };
         }
@@ -34,12 +40,14 @@ impl Digits {
         }
         Digits {
             size: size * 10 + (b - b'0') as u64,
-            negative: self.negative,
+            negative,
         }
     }
 
     // As a signed word, the nearest where it does not fit.
-    fn signed(self) -> i64 {
+    fn signed(self) -> i64
+        ensures { λ r. ⌜ r ≡ signed self ⌝ }
+    {
         let size = self.size;
         if 9223372036854775807 < size {
             if self.negative {
@@ -53,10 +61,23 @@ impl Digits {
         }
         value
     }
+
+    // The number, once the next one is known to begin at `next`.
+    fn word(self, next: usize) -> Word
+        ensures { λ r. ⌜ r ≡ wordOf self next ⌝ }
+    {
+        Word {
+            value: self.signed(),
+            size: self.size,
+            next,
+        }
+    }
 }
 
 // The number that begins at `at`.
-pub fn read(text: &[u8], at: usize) -> Word {
+pub fn read(text: &[u8], at: usize) -> Word
+    ensures { λ r. ⌜ r ≡ wordAt (now (text .entry)) at ⌝ }
+{
     let mut digits = Digits {
         size: 0,
         negative: false,
@@ -66,13 +87,16 @@ pub fn read(text: &[u8], at: usize) -> Word {
         let b = text[i];
         i += 1;
         if (b == b' ') | (b == b'\n') {
-            break;
+            return digits.word(i);
         }
         digits = digits.with(b);
     }
-    Word {
-        value: digits.signed(),
-        size: digits.size,
-        next: i,
-    }
+    digits.word(i)
+}
+
+// The low 32 bits.
+pub fn low(size: u64) -> u32
+    ensures { λ r. ⌜ r ≡ size % 4294967296 ⌝ }
+{
+    (size % 4294967296) as u32
 }

@@ -2,18 +2,37 @@
 // lengths, verdict, index, source, checksums of both buffers; the effects' length, verdict and checksum, all 0 if the channel was refused.
 use circuit::limits::Limits;
 use judge::call::circuit_channel;
-use replay::scalars::low;
+use replay::record::Checked;
 use replay::tally::Outcome;
 use replay::tally::Tally;
+use replay::text::low;
 use replay::text::read;
 use replay::words::fitting;
 use replay::words::mark;
 use replay::words::read_bytes;
 use replay::words::read_u32s;
+use replay_circuit::Bounds;
 use replay_circuit::compared;
-use replay_circuit::difference::Checked;
 use replay_circuit::effects_of::effects_agree;
-use replay_circuit::read_limits;
+use replay_circuit::read_matrix_limits;
+
+// 0 for the defaults, or 1 and all six limits.
+fn read_limits(text: &[u8], at: usize) -> Bounds {
+    let given = read(text, at);
+    let four = read_matrix_limits(text, at);
+    if given.size == 0 {
+        return four;
+    }
+    let branches = read(text, four.next);
+    let bits = read(text, branches.next);
+    let mut limits = four.limits;
+    limits.max_branches = branches.size;
+    limits.max_classical_bits = bits.size;
+    Bounds {
+        limits,
+        next: bits.next,
+    }
+}
 
 // The effects of an accepted channel; three zeros are passed over for another.
 fn effects_of(text: &[u8], at: usize, channel: &[i64], effects: &mut [i64]) -> Checked {

@@ -1,87 +1,44 @@
 // What compare answered, held against the record.
 use channel::compare::Difference;
 use channel::compare::Found;
+use replay::record::Checked;
+use replay::record::check;
 use replay::scalars::read_scalar;
-use replay::scalars::same;
-use replay::text::read;
+ghost use mathlib.Core.Path.{_≡_};
+ghost use Rattle.replay_circuit.specs.Answers.{findingWords, differenceAt};
 
-// Whether they agree, and where the next number begins.
-pub struct Checked {
-    pub agrees: bool,
-    pub next: usize,
-}
-
-// Document 01's verdict; 0 same, 1 dimensions, 2 an entry; and its place.
-struct Parts {
-    verdict: u64,
-    kind: u64,
-    store: u64,
-    row: u64,
-    col: u64,
-}
-
-fn taken_apart(found: Found) -> Parts {
+// Document 01's verdict; 0 same, 1 dimensions, 2 an entry; the store's two words, row and column of the entry.
+fn finding_words(found: Found) -> [u64; 6]
+    ensures { λ r. ⌜ r ≡ findingWords found ⌝ }
+{
     match found {
-        Found::Refused => Parts {
-            verdict: 10,
-            kind: 0,
-            store: 0,
-            row: 0,
-            col: 0,
-        },
-        Found::Same => Parts {
-            verdict: 0,
-            kind: 0,
-            store: 0,
-            row: 0,
-            col: 0,
-        },
-        Found::Dimensions => Parts {
-            verdict: 0,
-            kind: 1,
-            store: 0,
-            row: 0,
-            col: 0,
-        },
-        Found::Entry(p) => Parts {
-            verdict: 0,
-            kind: 2,
-            store: p.store,
-            row: p.row as u64,
-            col: p.col as u64,
-        },
+        Found::Refused => [10, 0, 0, 0, 0, 0],
+        Found::Same => [0, 0, 0, 0, 0, 0],
+        Found::Dimensions => [0, 1, 0, 0, 0, 0],
+        Found::Entry(p) => [
+            0,
+            2,
+            p.store % 4294967296,
+            p.store / 4294967296,
+            p.row as u64,
+            p.col as u64,
+        ],
     }
 }
 
-fn place_agrees(text: &[u8], at: usize, p: Parts) -> Checked {
-    let low = read(text, at);
-    let high = read(text, low.next);
-    let row = read(text, high.next);
-    let col = read(text, row.next);
-    Checked {
-        agrees: (p.store % 4294967296 == low.size)
-            & (p.store / 4294967296 == high.size)
-            & (p.row == row.size)
-            & (p.col == col.size),
-        next: col.next,
-    }
-}
-
-// The record: verdict, kind, the store's two words, row, column, both scalars.
-pub fn difference_agrees(text: &[u8], at: usize, d: Difference) -> Checked {
+// The record: what was found, then both scalars.
+pub fn difference_agrees(text: &[u8], at: usize, d: Difference) -> Checked
+    ensures { λ r. ⌜ r ≡ differenceAt (now (text .entry)) at d ⌝ }
+{
     let found = d.found;
-    let p = taken_apart(found);
-    let verdict = read(text, at);
-    let kind = read(text, verdict.next);
-    let place = place_agrees(text, kind.next, p);
-    let left = read_scalar(text, place.next);
+    let x = d.left;
+    let y = d.right;
+    let numbers = finding_words(found);
+    let finding = check(text, at, &numbers);
+    let left = read_scalar(text, finding.next);
     let right = read_scalar(text, left.next);
     Checked {
-        agrees: (p.verdict == verdict.size)
-            & (p.kind == kind.size)
-            & place.agrees
-            & same(d.left, left.value)
-            & same(d.right, right.value),
+        agrees: finding.agrees & x.equals(left.value) & y.equals(right.value),
         next: right.next,
     }
 }

@@ -1,29 +1,21 @@
 // What classical_blocks answered and left, held against the record.
-use super::difference::Checked;
-use effects::Outcome;
 use effects::classical_blocks;
+use replay::record::Checked;
+use replay::record::check;
 use replay::sum::checksum;
-use replay::text::read;
 use replay::words::mark;
-
-// Document 01's number.
-fn effects_number(v: Outcome) -> u64 {
-    match v {
-        Outcome::Written => 0,
-        Outcome::ShortBuffer => 8,
-        Outcome::TooLarge => 9,
-        Outcome::Malformed => 10,
-    }
-}
+ghost use mathlib.Core.Path.{_≡_};
+ghost use Rattle.effects.specs.Effects.{resultOf};
+ghost use Rattle.replay.specs.Words.{marked};
+ghost use Rattle.replay_circuit.specs.Answers.{effectsAt};
 
 // The call on a marked result, then verdict and checksum.
-pub fn effects_agree(text: &[u8], at: usize, channel: &[i64], result: &mut [i64]) -> Checked {
+pub fn effects_agree(text: &[u8], at: usize, channel: &[i64], result: &mut [i64]) -> Checked
+    ensures { λ r. ⌜ r ≡ effectsAt (now (text .entry)) at (now (channel .entry)) (marked (now (result .entry))) ⌝ }
+    ensures { λ _. ⌜ now (result .exit) ≡ resultOf (now (channel .entry)) (marked (now (result .entry))) ⌝ }
+{
     mark(result);
     let v = classical_blocks(channel, result);
-    let verdict = read(text, at);
-    let sum = read(text, verdict.next);
-    Checked {
-        agrees: (effects_number(v) == verdict.size) & (checksum(result) == sum.size),
-        next: sum.next,
-    }
+    let numbers = [v.number() as u64, checksum(result)];
+    check(text, at, &numbers)
 }

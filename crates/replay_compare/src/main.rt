@@ -2,9 +2,9 @@
 use channel::compare::compare;
 use circuit::limits::Limits;
 use judge::call::circuit_channel;
-use replay::scalars::low;
 use replay::tally::Outcome;
 use replay::tally::Tally;
+use replay::text::low;
 use replay::text::read;
 use replay::words::fitting;
 use replay::words::read_bytes;

@@ -2,7 +2,7 @@
 use matrix::Phase;
 use matrix::PhaseAnswer;
 use matrix::global_phase::equivalent_up_to_global_phase;
-use replay::scalars::number;
+use replay::record::check;
 use replay::tally::Outcome;
 use replay::tally::Tally;
 use replay::text::read;
@@ -20,11 +20,11 @@ fn one_if_equivalent(p: Phase) -> u64 {
 fn compared(text: &[u8], at: usize, answer: PhaseAnswer) -> Outcome {
     let v = answer.verdict;
     let p = answer.phase;
-    let verdict = read(text, at);
-    let same = read(text, verdict.next);
-    let source = read(text, same.next);
+    let numbers = [v.number() as u64, one_if_equivalent(p)];
+    let checked = check(text, at, &numbers);
+    let source = read(text, checked.next);
     Outcome {
-        agrees: (number(v) == verdict.size) & (one_if_equivalent(p) == same.size),
+        agrees: checked.agrees,
         of_rust: source.size == 0,
         next: source.next,
     }

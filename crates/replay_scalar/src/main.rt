@@ -1,10 +1,8 @@
 // Replays recorded answers of the scalar calls. A case is 18 numbers: call, two operands, verdict, value, source.
-use replay::scalars::low;
-use replay::scalars::number;
 use replay::scalars::read_scalar;
-use replay::scalars::same;
 use replay::tally::Outcome;
 use replay::tally::Tally;
+use replay::text::low;
 use replay::text::read;
 use scalar::Answer;
 use scalar::Scalar;
@@ -34,9 +32,10 @@ fn case(text: &[u8], at: usize) -> Outcome {
     let value = read_scalar(text, verdict.next);
     let source = read(text, value.next);
     let r = answer(call.size, first.size, x.value, y.value);
+    let s = r.value;
     let v = r.verdict;
     Outcome {
-        agrees: (number(v) == verdict.size) & same(r.value, value.value),
+        agrees: (v.number() as u64 == verdict.size) & s.equals(value.value),
         of_rust: source.size == 0,
         next: source.next,
     }

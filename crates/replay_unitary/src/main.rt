@@ -2,6 +2,7 @@
 use circuit::limits::Limits;
 use replay::tally::Outcome;
 use replay::tally::Tally;
+use replay::text::low;
 use replay::text::read;
 use replay::words::fitting;
 use replay::words::mark;
@@ -46,7 +47,7 @@ fn case(
         text,
         spent.next,
         limits,
-        (n.size % 4294967296) as u32,
+        low(n.size),
         &words[..count],
         &mut result[..r],
         &mut work[..w],

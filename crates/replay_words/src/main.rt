@@ -3,6 +3,8 @@
 // the lookup in the left (store, length and checksum of the part); source.
 use channel::compare::compare;
 use channel::lookup::lookup;
+use replay::record::Checked;
+use replay::record::check;
 use replay::sum::checksum;
 use replay::tally::Outcome;
 use replay::tally::Tally;
@@ -10,18 +12,13 @@ use replay::text::read;
 use replay::words::fitting;
 use replay::words::read_bytes;
 use replay::words::read_words;
-use replay_circuit::difference::Checked;
 use replay_circuit::difference::difference_agrees;
 use replay_circuit::effects_of::effects_agree;
 
 fn part_agrees(text: &[u8], at: usize, channel: &[i64], store: &[u8]) -> Checked {
     let part = lookup(channel, store);
-    let length = read(text, at);
-    let sum = read(text, length.next);
-    Checked {
-        agrees: (part.len() as u64 == length.size) & (checksum(part) == sum.size),
-        next: sum.next,
-    }
+    let numbers = [part.len() as u64, checksum(part)];
+    check(text, at, &numbers)
 }
 
 // The lookup of a store of the text.

@@ -3,7 +3,7 @@ ghost use mathlib.Core.Path.{_≡_};
 ghost use mathlib.Core.Bool.{true};
 ghost use Prim.Native.Nat.{_≤_};
 ghost use Rattle.exact.specs.Exact.{exact, imaginary, invSqrtTwo, wellFormed};
-ghost use Rattle.scalar.specs.Calls.{value, acceptedAs, accepted, refusedWith, fitting, fittingScalar, integerAnswer, omegaAnswer, negAnswer, conjAnswer, halfAnswer, addAnswer, mulAnswer};
+ghost use Rattle.scalar.specs.Calls.{value, verdictNumber, acceptedAs, accepted, refusedWith, fitting, fittingScalar, integerAnswer, omegaAnswer, negAnswer, conjAnswer, halfAnswer, addAnswer, mulAnswer};
 
 pub mod numerators;
 pub mod ranges;
@@ -39,6 +39,18 @@ pub enum Verdict {
     Accepted,
     TooLarge,
     Malformed,
+}
+
+impl Verdict {
+    pub fn number(self) -> u32
+        ensures { λ r. ⌜ r ≡ verdictNumber self ⌝ }
+    {
+        match self {
+            Verdict::Accepted => 0,
+            Verdict::TooLarge => 9,
+            Verdict::Malformed => 10,
+        }
+    }
 }
 
 pub struct Answer {

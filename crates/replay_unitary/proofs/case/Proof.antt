@@ -30,8 +30,8 @@ fitting-requires-2 c κs = search needs
 fitting-requires-3 : tie.Need-fitting-requires-3
 fitting-requires-3 c κs = search needs
 
-cast-called : tie.Need-cast-called
-cast-called c = search needs
+low-requires : tie.Need-low-requires
+low-requires c κs = search needs
 
 slice-reshare-prefix-called : tie.Need-slice-reshare-prefix-called
 slice-reshare-prefix-called c = search needs
@@ -78,7 +78,7 @@ case-spec =
     read-requires-3
     fitting-requires-2
     fitting-requires-3
-    cast-called
+    low-requires
     slice-reshare-prefix-called
     slice-aggregate-called
     slice-relend-prefix-called

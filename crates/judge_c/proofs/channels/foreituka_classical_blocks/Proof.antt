@@ -4,13 +4,11 @@ use borrow.Author.Needs.{needs}
 use Rattle.judge_c.proofs.channels.foreituka_classical_blocks.Statement.{statement}
 use Rattle.judge_c.proofs.channels.foreituka_classical_blocks.Tie as tie
 
--- src/channels.rt:77:9
 classical-blocks-requires : tie.Need-classical-blocks-requires
 classical-blocks-requires c κs = search needs
 
--- src/channels.rt:78:5
-outcome-number-requires : tie.Need-outcome-number-requires
-outcome-number-requires c κs = search needs
+number-requires : tie.Need-number-requires
+number-requires c κs = search needs
 
 -- src/channels.rt:72:1
 same-length : tie.Need-same-length
@@ -19,8 +17,8 @@ same-length c = search needs
 -- src/channels.rt:72:1
 returns : tie.Need-returns
 returns c =
-    let b = c .before .before .classical-blocks in (c .outcome-number .ensures ∙ ap outcomeNumber (b .ensures .0), b .ensures .1)
+    let b = c .before .before .classical-blocks in (c .number .ensures ∙ ap outcomeNumber (b .ensures .0), b .ensures .1)
 
 pub foreituka-classical-blocks-spec : {M : Type 1} → statement M
 foreituka-classical-blocks-spec =
-    tie.close (tie.spec classical-blocks-requires outcome-number-requires same-length returns)
+    tie.close (tie.spec classical-blocks-requires number-requires same-length returns)

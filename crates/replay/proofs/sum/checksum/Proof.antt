@@ -1,34 +1,35 @@
--- The loop ends: it counts up to the length.
-use Prim.Native.Nat.{_-_}
+-- `sum::checksum` meets its contract.
+use mathlib.Core.Path.{_≡_, refl, sym, ap, _∙_}
+use mathlib.Core.List.{foldl}
+use Prim.Native.Nat.{ℕ, _+_, _-_}
 use native.Mathlib.Omega.{arith}
 use borrow.Author.Needs.{needs}
-use lib.ListN.{length}
+use lib.ListN.{length, drop, drop-of-length-le}
+use lib.IntN.{pos}
+use mir.Facts.{toZ-ofZ}
+use Rattle.replay.specs.declared.sum.Sums.{Sums}
+use Rattle.replay.specs.Checksum.{sums, withWord, joined}
+use Rattle.replay.proofs.Reading.{next-drop}
 use Rattle.replay.proofs.sum.checksum.Statement.{statement}
 use Rattle.replay.proofs.sum.checksum.Tie as tie
 
 abbrev Inv-loop : tie.InvT-loop
-Inv-loop words sums₀ i₀ sums i = Unit {0}
+Inv-loop words sums₀ i₀ s i = foldl withWord (sums 0 0) words ≡ foldl withWord s (drop i words)
 
 abbrev μ-loop : tie.MeasureT-loop
-μ-loop words sums₀ i₀ sums i = length words - i
+μ-loop words sums₀ i₀ s i = length words - i
 
 loop-holds : tie.Need-loop-holds Inv-loop μ-loop
-loop-holds c = tt
+loop-holds c = refl
 
-mul-shifted : tie.Need-mul-shifted Inv-loop μ-loop
-mul-shifted c = omega arith
+mul-w : tie.Need-mul-w Inv-loop μ-loop
+mul-w c = omega arith
 
-shared-slice-copy-out-shifted : tie.Need-shared-slice-copy-out-shifted Inv-loop μ-loop
-shared-slice-copy-out-shifted c = omega arith
+shared-slice-copy-out-w : tie.Need-shared-slice-copy-out-w Inv-loop μ-loop
+shared-slice-copy-out-w c = omega arith
 
-shifted-requires : tie.Need-shifted-requires Inv-loop μ-loop
-shifted-requires c κs = search needs
-
-with-requires : tie.Need-with-requires Inv-loop μ-loop
-with-requires c κs = search needs
-
-with-requires-2 : tie.Need-with-requires-2 Inv-loop μ-loop
-with-requires-2 c κs = search needs
+with-word-requires : tie.Need-with-word-requires Inv-loop μ-loop
+with-word-requires c κs = search needs
 
 add-i : tie.Need-add-i Inv-loop μ-loop
 add-i c = omega arith
@@ -37,13 +38,21 @@ loop-less : tie.Need-loop-less Inv-loop μ-loop
 loop-less c = omega arith
 
 loop-again : tie.Need-loop-again Inv-loop μ-loop
-loop-again c = tt
+loop-again c =
+    let k = c .before .before in
+    let l = k .before in
+    let ws = l .before .args .words .now in
+    l .loop .inv ∙ ap (foldl withWord (l .loop .sums)) (next-drop ws (l .loop .i) (pos 0) (k .loop-test .taken))
+    ∙ ap (λ (s : Sums). foldl withWord s (drop (l .loop .i + 1) ws)) (sym (c .with-word .ensures ∙ ap (withWord (l .loop .sums)) (toZ-ofZ (record { sfits = c .before .w .given }))))
 
 joined-requires : tie.Need-joined-requires Inv-loop μ-loop
 joined-requires c κs = search needs
 
 returns : tie.Need-returns Inv-loop μ-loop
-returns c = search needs
+returns c =
+    let a = c .before in
+    let l = a .before in
+    c .joined .ensures ∙ ap joined (sym (l .loop .inv ∙ ap (foldl withWord (l .loop .sums)) (drop-of-length-le (l .before .args .words .now) (a .loop-test .left))))
 
 pub checksum-spec : {M : Type 1} → statement M
 checksum-spec =
@@ -52,11 +61,9 @@ checksum-spec =
     Inv-loop
     μ-loop
     loop-holds
-    mul-shifted
-    shared-slice-copy-out-shifted
-    shifted-requires
-    with-requires
-    with-requires-2
+    mul-w
+    shared-slice-copy-out-w
+    with-word-requires
     add-i
     loop-less
     loop-again

@@ -1,30 +1,36 @@
--- A word that is in range is shifted and cast without loss.
-use Prim.Native.Nat.{_^_}
-use lib.IntN.{pos, _+ℤ_}
-use mir.Syntax.{w64}
-use mir.Val.{toZ, ofZ}
-use Rattle.replay.proofs.Signs.{shifted-fits, cast-fits}
+-- `sum::shifted` meets its contract.
+use mathlib.Core.Path.{_≡_, sym, ap, _∙_}
+use mathlib.Core.Bool.{false}
+use Prim.Native.Nat.{_≤_, _^_}
+use lib.Dec.{leb}
+use lib.IntN.{ℤ, natAbs}
+use mir.Facts.{toZ-ofZ}
+use borrow.Author.Tests.{leb-true}
+use Rattle.replay.proofs.Signs.{shifted-is, shift-fits, shift-casts, shift-cast}
 use borrow.Author.Needs.{needs}
 use Rattle.replay.proofs.sum.shifted.Statement.{statement}
 use Rattle.replay.proofs.sum.shifted.Tie as tie
 
-returns : tie.Need-returns
-returns c = search needs
+asked : (c : tie.After-at-most) → c .at-most .result ≡ leb (natAbs (c .before .args .w)) (2 ^ 61)
+asked c = c .at-most .ensures ∙ ap (λ (z : ℤ). leb (natAbs z) (2 ^ 61)) (toZ-ofZ (c .before .fits .w))
 
-returns-2 : tie.Need-returns-2
-returns-2 c = search needs
+inside : (c : tie.Then1) → natAbs (c .before .before .args .w) ≤ 2 ^ 61
+inside c = leb-true (natAbs (c .before .before .args .w)) (2 ^ 61) (sym (asked (c .before)) ∙ c .if1 .taken)
 
-add-s : tie.Need-add-s
-add-s c = let s = c .before .before in shifted-fits (s .args .w) (s .fits .w) (c .before .if1 .left) (c .if2 .left)
+at-most-requires : tie.Need-at-most-requires
+at-most-requires c κs = search needs
 
-returns-3 : tie.Need-returns-3
-returns-3 c = search needs
+add-result : tie.Need-add-result
+add-result c = shift-fits (c .before .before .args .w) (inside c)
 
 cast-result : tie.Need-cast-result
-cast-result c = cast-fits (toZ w64 (ofZ w64 (c .before .before .before .args .w)) +ℤ pos (2 ^ 61)) (add-s (c .before)) (c .if3 .left)
+cast-result c = shift-casts (c .before .before .args .w) (inside c)
 
-returns-4 : tie.Need-returns-4
-returns-4 c = search needs
+returns : tie.Need-returns
+returns c = shift-cast (c .before .before .args .w) (inside c)
+
+returns-2 : tie.Need-returns-2
+returns-2 c = sym (shifted-is (c .before .before .args .w) false (sym (asked (c .before)) ∙ c .if1 .left))
 
 pub shifted-spec : {M : Type 1} → statement M
-shifted-spec = tie.close (tie.spec returns returns-2 add-s returns-3 cast-result returns-4)
+shifted-spec = tie.close (tie.spec at-most-requires add-result cast-result returns returns-2)

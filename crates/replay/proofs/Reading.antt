@@ -1,0 +1,71 @@
+-- Laws of a text's numbers: a byte more, where a number ends, and numbers held against others.
+use mathlib.Core.Path.{_≡_, refl, sym, ap, _∙_, subst}
+use mathlib.Core.Bool.{Bool, true, false, cond, _&&_, _||_}
+use mathlib.Core.List.{List, [], _∷_}
+use Prim.Native.Nat.{ℕ, suc, _+_, _*_, _-_, _≤_, _<_}
+use native.Mathlib.Numerals.{add-one}
+use lib.Dec.{eqb, ltb}
+use lib.ListN.{length, getD, drop, drop-of-length-le}
+use lib.Seq.{drop-cons}
+use mir.Syntax.{w64}
+use mir.Val.{SFits, toZ, ofZ}
+use mir.Facts.{toZ-ofZ}
+use Rattle.replay.specs.declared.text.Digits.{Digits}
+use Rattle.replay.specs.declared.text.Word.{Word}
+use Rattle.replay.specs.Text.{digits, withByte, wordOf, wordFrom, wordAt, wordNo}
+use Rattle.replay.specs.Record.{checkedFrom}
+use Rattle.replay.proofs.Signs.{signed-fits}
+
+pub byte-is : (d : Digits) (b : ℕ) {minus low high full : Bool} → eqb b 45 ≡ minus → ltb b 48 ≡ low → ltb 57 b ≡ high → ltb 1844674407370955160 (d .size) ≡ full
+    → withByte d b ≡ cond minus (digits (d .size) true) (cond low d (cond high d (cond full d (digits (d .size * 10 + (b - 48)) (d .negative)))))
+unfolding withByte
+byte-is d b m l h f = λ i. cond (m i) (digits (d .size) true) (cond (l i) d (cond (h i) d (cond (f i) d (digits (d .size * 10 + (b - 48)) (d .negative)))))
+
+-- the rest of a list, from a place before its end
+pub next-drop : {A : Type 0} (l : List A) (i : ℕ) (z : A) → i < length l → drop i l ≡ getD l i z ∷ drop (i + 1) l
+next-drop l i z h = drop-cons l i z h ∙ ap (λ (k : ℕ). getD l i z ∷ drop k l) (sym (add-one i))
+
+from-fits : (bs : List ℕ) (d : Digits) (at : ℕ) → SFits w64 (wordFrom d at bs .value)
+unfolding wordFrom
+from-fits [] d at = signed-fits d
+from-fits (b ∷ bs) d at = by (eqb b 32 || eqb b 10) (from-fits bs (withByte d b) (at + 1))
+  where
+    by : (blank : Bool) → SFits w64 (wordFrom (withByte d b) (at + 1) bs .value) → SFits w64 (cond blank (wordOf d (at + 1)) (wordFrom (withByte d b) (at + 1) bs) .value)
+    by true h = signed-fits d
+    by false h = h
+
+module _ (t : List ℕ) where
+  pub from-start : (at : ℕ) → wordAt t at ≡ wordFrom (digits 0 false) at (drop at t)
+  unfolding wordAt
+  from-start at = refl
+
+  pub from-end : (d : Digits) (i : ℕ) → length t ≤ i → wordFrom d i (drop i t) ≡ wordOf d i
+  unfolding wordFrom
+  from-end d i h = ap (wordFrom d i) (drop-of-length-le t h)
+
+  module _ (d : Digits) (i : ℕ) (h : i < length t) where
+    pub from-blank : (eqb (getD t i 0) 32 || eqb (getD t i 0) 10) ≡ true → wordFrom d i (drop i t) ≡ wordOf d (i + 1)
+    unfolding wordFrom
+    from-blank e = ap (wordFrom d i) (next-drop t i 0 h) ∙ ap (λ (b : Bool). cond b (wordOf d (i + 1)) (wordFrom (withByte d (getD t i 0)) (i + 1) (drop (i + 1) t))) e
+
+    pub from-more : (eqb (getD t i 0) 32 || eqb (getD t i 0) 10) ≡ false → wordFrom d i (drop i t) ≡ wordFrom (withByte d (getD t i 0)) (i + 1) (drop (i + 1) t)
+    unfolding wordFrom
+    from-more e = ap (wordFrom d i) (next-drop t i 0 h) ∙ ap (λ (b : Bool). cond b (wordOf d (i + 1)) (wordFrom (withByte d (getD t i 0)) (i + 1) (drop (i + 1) t))) e
+
+  -- a number read is a word
+  module _ (at : ℕ) {w : Word} (e : w ≡ wordAt t at) where
+    pub a-word : toZ w64 (ofZ w64 (w .value)) ≡ w .value
+    unfolding wordAt
+    a-word = toZ-ofZ (subst (λ (v : Word). SFits w64 (v .value)) (sym e) (from-fits (drop at t) (digits 0 false) at))
+
+  -- one number more
+  pub following : (at k : ℕ) {a w : Word} → a ≡ wordNo t at k → w ≡ wordAt t (a .next) → w ≡ wordNo t at (suc k)
+  following at k p q = q ∙ ap (λ (a : Word). wordAt t (a .next)) p
+
+  -- ---- numbers held against the record
+  module _ (agrees : Bool) (at : ℕ) (ns : List ℕ) (i : ℕ) where
+    pub check-end : length ns ≤ i → checkedFrom t agrees at (drop i ns) ≡ record { agrees = agrees; next = at }
+    check-end h = ap (checkedFrom t agrees at) (drop-of-length-le ns h)
+
+    pub check-more : {w : Word} → i < length ns → w ≡ wordAt t at → checkedFrom t agrees at (drop i ns) ≡ checkedFrom t (agrees && eqb (w .size) (getD ns i 0)) (w .next) (drop (i + 1) ns)
+    check-more h e = ap (checkedFrom t agrees at) (next-drop ns i 0 h) ∙ sym (λ k. checkedFrom t (agrees && eqb (e k .size) (getD ns i 0)) (e k .next) (drop (i + 1) ns))

@@ -1,0 +1,5 @@
+pub mod Text
+pub mod Record
+pub mod Checksum
+pub mod Tally
+pub mod Words
