@@ -1,5 +1,5 @@
 // The checksum of words: two polynomial sums mod 2^31 − 1, over the low 31 bits and then the high bits of each word + 2^61.
-use scalar::ranges::at_most;
+use exact::ranges::at_most;
 ghost use mathlib.Core.Path.{_≡_};
 ghost use Rattle.replay.specs.Checksum.{shifted, withPart, withWord, joined, checksumOf};
 
