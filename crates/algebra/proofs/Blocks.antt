@@ -228,17 +228,6 @@ joined-rows zero n f = ap (λ (k : ℕ). joined k f) (sym (zero-mul n))
 joined-rows (suc m) n f =
     ap (λ (l : List ℤ). l ++ joined n (λ (c : ℕ). f (m * n + c))) (joined-rows m n f) ∙ sym (joined-more (m * n) n f) ∙ ap (λ (k : ℕ). joined k f) (sym (suc-mul m n))
 
--- two words as one block
-pub two-words : (l : List ℤ) (at : ℕ) (f : ℕ → ℤ) → fillWords l at 2 f ≡ sets l at (f 0 ∷ f 1 ∷ [])
-unfolding blocks
-two-words l at f = λ i. set (set l (zeroth i) (f 0)) (first i) (f 1)
-  where
-    zeroth : at + 0 * 1 ≡ at
-    zeroth = omega arith
-
-    first : at + 1 * 1 ≡ suc at
-    first = omega arith
-
 -- one word more
 pub again-word : {l : List ℤ} {at n : ℕ} (f : ℕ → ℤ) {b : List ℤ} {i : ℕ} → Writing 1 l at n (λ (k : ℕ). f k ∷ []) b i → {x : ℤ} → i < n → x ≡ f i → Writing 1 l at n (λ (k : ℕ). f k ∷ []) (set b (at + i) x) (i + 1)
 again-word {at = at} f {b} {i} w {x} h q = again w {ws = x ∷ []} h (ap (λ (k : ℕ). set b (at + k) x) (sym (mul-one i))) (ap (λ (z : ℤ). z ∷ []) q)

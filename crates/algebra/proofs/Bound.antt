@@ -3,7 +3,7 @@ use mathlib.Core.List.{List, [], _∷_}
 use Prim.Native.Nat.{ℕ, zero, suc, _+_, _*_, _≤_, _^_, zero-le}
 use native.Mathlib.Omega.{arith}
 use native.Mathlib.Nat as NatL
-use lib.Dec.{T, ltb, leb, ltb→lt, leb→le}
+use lib.Dec.{T, ltb, ltb→lt}
 use lib.IntN.{ℤ, pos, natAbs}
 use mir.Syntax.{Width}
 use mir.Val.{SFits, hbits}
@@ -41,10 +41,6 @@ bound-is ρ b h (⊟ x) = rw abs-neg (bound-is ρ b h x)
 
 pub bounded : (xs : List ℤ) (bs : List ℕ) (e : Expr) → Within xs bs → natAbs (⟦_⟧ ℤR (look (pos 0) xs) e) ≤ bnd (look 0 bs) e
 bounded xs bs e h = bound-is (look (pos 0) xs) (look 0 bs) (within xs bs h) e
-
--- against a numeral: the last argument is `tt`
-pub bounded-by : (xs : List ℤ) (bs : List ℕ) (e : Expr) (B : ℕ) → Within xs bs → T (leb (bnd (look 0 bs) e) B) → natAbs (⟦_⟧ ℤR (look (pos 0) xs) e) ≤ B
-bounded-by xs bs e B h t = NatL.le-trans (bounded xs bs e h) (leb→le (bnd (look 0 bs) e) B t)
 
 -- the expression fits a signed width: the last argument is `tt`
 pub bounded-fits : (w : Width) (xs : List ℤ) (bs : List ℕ) (e : Expr) → Within xs bs → T (ltb (bnd (look 0 bs) e) (2 ^ hbits w)) → SFits w (⟦_⟧ ℤR (look (pos 0) xs) e)

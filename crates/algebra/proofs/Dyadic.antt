@@ -153,9 +153,6 @@ module _ (𝓚 : CommRing) (𝓗 : Halving 𝓚) where
   low-odd z zero h = refl
   low-odd z (suc e) h = ap (λ (b : Bool). cond b (low (half z) e) (frac z (suc e))) h
 
-  pub lowest-lowest : (x : F) → lowest (lowest x) ≡ lowest x
-  lowest-lowest x = let (k, p, q) = lowest-is (x .num) (x .exp) in sym (ap₂ low p q ∙ lowest-up k (lowest x))
-
   -- ---- fractions over one power of two: their sums and products are those of the numerators
   pub value-add : (e : ℕ) (a b : K) → dyadic ops halves ._⊕_ (low a e) (low b e) ≡ low (a ⊕ b) e
   value-add e a b =

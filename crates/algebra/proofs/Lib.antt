@@ -7,8 +7,6 @@ pub mod Ring
 pub mod Solver
 pub mod Quadratic
 pub mod Parts
-pub mod Linear
-pub mod Order
 pub mod Bound
 pub mod Machine
 pub mod Sum

@@ -1,6 +1,6 @@
 -- What holds of all elements of a list, of its maps and of what passes a test; and how many there are.
 use mathlib.Core.Path.{_≡_, refl, sym, ap, ap₂, _∙_}
-use mathlib.Core.Bool.{Bool, true, false, cond, _&&_, _||_, true≢false}
+use mathlib.Core.Bool.{Bool, true, false, cond, _||_}
 use mathlib.Core.List.{List, [], _∷_, _++_, map}
 use Prim.Native.Nat.{ℕ, zero, suc, _+_, _*_, _≤_, _<_}
 use native.Mathlib.Nat.{not-suc-le-zero, suc-mul}
@@ -37,10 +37,6 @@ module _ {A : Type 0} where
   pub every-all : (p : A → Bool) (P : A → Type 0) → ((a : A) → p a ≡ true → P a) → (xs : List A) → every p xs ≡ true → All P xs
   every-all p P f [] e = tt
   every-all p P f (x ∷ xs) e = let (h, k) = and-split (p x) (every p xs) e in (f x h, every-all p P f xs k)
-
-  pub all-every : (p : A → Bool) (P : A → Type 0) → ((a : A) → P a → p a ≡ true) → (xs : List A) → All P xs → every p xs ≡ true
-  all-every p P f [] h = refl
-  all-every p P f (x ∷ xs) h = ap₂ _&&_ (f x (h .0)) (all-every p P f xs (h .1))
 
   pub some-append : (p : A → Bool) (xs ys : List A) → some p (xs ++ ys) ≡ some p xs || some p ys
   some-append p [] ys = refl
@@ -79,22 +75,6 @@ module _ {A : Type 0} where
   pub filter-keep : (p : A → Bool) (xs : List A) → All (λ (x : A). p x ≡ true) xs → filterBy p xs ≡ xs
   filter-keep p [] h = refl
   filter-keep p (x ∷ xs) h = ap (λ (b : Bool). cond b (x ∷ filterBy p xs) (filterBy p xs)) (h .0) ∙ ap (λ (ys : List A). x ∷ ys) (filter-keep p xs (h .1))
-
-  pub filter-none : (p : A → Bool) (xs : List A) → some p xs ≡ false → filterBy p xs ≡ []
-  filter-none p [] e = refl
-  filter-none p (x ∷ xs) e = go (p x) e (filter-none p xs)
-    where
-      go : (b : Bool) → b || some p xs ≡ false → (some p xs ≡ false → filterBy p xs ≡ []) → cond b (x ∷ filterBy p xs) (filterBy p xs) ≡ []
-      go true f r = absurd (true≢false f)
-      go false f r = r f
-
-  pub filter-some : (p : A → Bool) (xs : List A) → some p xs ≡ true → 0 < length (filterBy p xs)
-  filter-some p [] e = absurd (true≢false (sym e))
-  filter-some p (x ∷ xs) e = go (p x) e (filter-some p xs)
-    where
-      go : (b : Bool) → b || some p xs ≡ true → (some p xs ≡ true → 0 < length (filterBy p xs)) → 0 < length (cond b (x ∷ filterBy p xs) (filterBy p xs))
-      go true f r = omega arith
-      go false f r = r f
 
   -- two tests, in either order
   pub filter-swap : (p q : A → Bool) (xs : List A) → filterBy p (filterBy q xs) ≡ filterBy q (filterBy p xs)

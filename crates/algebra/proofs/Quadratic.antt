@@ -76,9 +76,6 @@ module _ (𝓚 : CommRing) (d : 𝓚 .K) where
   pub conj-conj : (x : Pair K) → bar (bar x) ≡ x
   conj-conj x = ap (pair (x .re)) (neg-neg 𝓚 (x .im))
 
-  pub conj-zero : bar (Q .𝟘) ≡ Q .𝟘
-  conj-zero = ap (pair 𝟘) (neg-zero 𝓚)
-
   pub conj-one : bar (Q .𝟙) ≡ Q .𝟙
   conj-one = ap (pair 𝟙) (neg-zero 𝓚)
 

@@ -3,7 +3,7 @@ use mathlib.Core.Path.{_≡_, refl, sym, ap, ap₂, _∙_, subst}
 use mathlib.Core.Logic.{_≢_}
 use mathlib.Core.Bool.{Bool, true, false}
 use mathlib.Core.List.{List, [], _∷_}
-use Prim.Native.Nat.{ℕ, zero, suc, _+_, _≤_, _<_}
+use Prim.Native.Nat.{ℕ, suc, _+_, _≤_, _<_}
 use native.Mathlib.Decide.{decLt}
 use native.Mathlib.Omega.{arith}
 use lib.ListN.{length, getD}
@@ -183,33 +183,3 @@ module _ {A : Type 0} (share : A → A → Bool) (d : A) where
     schedule-trace =
         subst (λ (zs : List A). Trace share zs xs) (pairs-vals table ys (sch .wide ∙ sym (sch .long)))
         (subst (λ (zs : List A). Trace share (vals ps) zs) sorted (sort-trace ps chain))
-
-  -- a list is a schedule of itself
-  abbrev places : ℕ → ℕ → List ℕ
-  places i zero = []
-  places i (suc n) = i ∷ places (suc i) n
-
-  places-length : (i n : ℕ) → length (places i n) ≡ n
-  places-length i zero = refl
-  places-length i (suc n) = ap suc (places-length (suc i) n)
-
-  places-at : (i n k : ℕ) → k < n → getD (places i n) k 0 ≡ i + k
-  places-at i zero k l = absurd (omega arith)
-  places-at i (suc n) zero l = omega arith
-  places-at i (suc n) (suc k) l = places-at (suc i) n k (omega arith) ∙ omega arith
-
-  pub schedule-same : (xs : List A) → Schedule share d xs xs (places 0 (length xs))
-  schedule-same xs = record {
-    long = refl;
-    wide = w;
-    below = λ i l. omega (arith, w, at i l);
-    once = λ i j l m e. omega (arith, at i (omega arith), at j m);
-    moved = λ i l. ap (λ (k : ℕ). getD xs k d) (sym (at i l));
-    kept = λ i j l m e. omega (arith, at i (omega arith), at j m);
-  }
-    where
-      w : length (places 0 (length xs)) ≡ length xs
-      w = places-length 0 (length xs)
-
-      at : (i : ℕ) → i < length (places 0 (length xs)) → getD (places 0 (length xs)) i 0 ≡ i
-      at i l = places-at 0 (length xs) i (omega (arith, w)) ∙ omega arith

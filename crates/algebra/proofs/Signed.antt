@@ -3,7 +3,7 @@ use mathlib.Core.Path.{_≡_, refl, sym, ap, _∙_, subst}
 use mathlib.Core.Bool.{Bool, true, false, not, _&&_}
 use mathlib.Core.Logic.{_⊎_, inl, inr}
 use Prim.Native.Nat.{ℕ, zero, suc, _+_, _*_, _-_, _/_, _%_, _^_, _≤_, _<_}
-use native.Mathlib.Nat.{le-trans, le-of-eq, lt-of-le-of-lt, one-mul, div-one, pow-suc, mul-sub, mul-le-mul, le-refl, suc-mul, div-add-mod', mod-lt, div-le-self, mul-comm, le-div-iff-mul-le, div-div-eq-div-mul, not-suc-le-zero, le-of-suc-le-suc}
+use native.Mathlib.Nat.{le-trans, le-of-eq, lt-of-le-of-lt, one-mul, div-one, pow-suc, mul-sub, mul-le-mul, le-refl, suc-mul, div-add-mod', mod-lt, mul-comm, le-div-iff-mul-le, div-div-eq-div-mul, not-suc-le-zero, le-of-suc-le-suc}
 use native.Mathlib.Numerals.{add-one}
 use native.Mathlib.Omega.{arith}
 use lib.Dec.{T, leb, eqb, lit<}
@@ -11,14 +11,14 @@ use lib.Pow.{shl-exact, pow-mono, pow-pos, pow-add, high, field, mod-mod-pow, sh
 use lib.Bits.{bitAnd, bitOr, and-mask, or-mod, or-shr, or-zero-l, or-add-and, and-le-l, and-le-r, shifted-even}
 use lib.Count.{trailingZeros, under}
 use lib.IntN.{ℤ, pos, negsuc, negℤ, natAbs, _+ℤ_, _-ℤ_, _*ℤ_, +ℤ-idl, +ℤ-negℤ-cancel}
-use lib.Signed.{mag, ltZ, nonNeg, shrZ, natAbs-le, mag-shr}
+use lib.Signed.{mag, ltZ, nonNeg, shrZ, mag-shr}
 use mir.Syntax.{Width, w64}
 use mir.Val.{Fits, SFits, toZ, ofZ}
 use mir.Facts.{toZ-ofZ, toZ-pos}
 use borrow.Author.Tests.{ltb-true, ltb-false, leb-true, le-leb, lt-leb, eqb-true, eqb-false, eq-eqb, ne-eqb}
 use Rattle.algebra.specs.Dyadic.{halfℤ}
 use Rattle.algebra.specs.Words.{eqℤ, upTo}
-use Rattle.algebra.proofs.Parts.{abs-is, add-parts, abs-mul, abs-sub, sfits-abs, up, dn, abs-neg}
+use Rattle.algebra.proofs.Parts.{abs-is, add-parts, abs-mul, abs-sub, sfits-abs, abs-neg}
 use Rattle.algebra.proofs.Tests.{leb-same, eqb-same}
 
 -- ---- what is written is read back
@@ -27,9 +27,6 @@ reads z h = toZ-ofZ (record { sfits = h })
 
 pub back : (z : ℤ) → natAbs z < 2 ^ 63 → toZ w64 (ofZ w64 z) ≡ z
 back z h = toZ-ofZ (sfits-abs {w = w64} h)
-
-pub abs-of-fits : (z : ℤ) → SFits w64 z → natAbs z ≤ 2 ^ 63
-abs-of-fits z f = natAbs-le z (f .sfits)
 
 -- `-x`
 pub neg-fits : (x : ℤ) → natAbs x < 2 ^ 63 → SFits w64 (pos 0 -ℤ toZ w64 (ofZ w64 x))
@@ -115,10 +112,6 @@ sfits-shr z m f = record { sfits = lt-of-le-of-lt (mag-shr z m) (f .sfits) }
 pub shift-back : (z : ℤ) (p : ℕ) → SFits w64 z → toZ w64 (ofZ w64 (shrZ (toZ w64 (ofZ w64 z)) p)) ≡ shrZ z p
 shift-back z p f = rw (toZ-ofZ f) (toZ-ofZ (sfits-shr {w = w64} z p f))
 
-pub shift-half : (z : ℤ) → shrZ z 2 ≡ halfℤ z
-shift-half (pos n) = refl
-shift-half (negsuc n) = refl
-
 pub shift-none : (z : ℤ) → shrZ z 1 ≡ z
 shift-none (pos n) = ap pos (div-one n)
 shift-none (negsuc n) = ap negsuc (div-one n)
@@ -126,10 +119,6 @@ shift-none (negsuc n) = ap negsuc (div-one n)
 pub shift-more : (z : ℤ) (k : ℕ) → halfℤ (shrZ z (2 ^ k)) ≡ shrZ z (2 ^ suc k)
 shift-more (pos n) k = ap pos (shr-shr n k 1 ∙ ap (λ (j : ℕ). n / 2 ^ j) (add-one k))
 shift-more (negsuc n) k = ap negsuc (shr-shr n k 1 ∙ ap (λ (j : ℕ). n / 2 ^ j) (add-one k))
-
--- `m >> d`, for m from 0 up
-pub shr-word : (m d : ℕ) → m < 2 ^ 63 → toZ w64 (ofZ w64 (shrZ (toZ w64 m) (2 ^ d))) ≡ pos (m / 2 ^ d)
-shr-word m d h = rw (toZ-pos w64 h) (toZ-pos w64 (lt-of-le-of-lt (div-le-self m (2 ^ d)) h))
 
 -- ---- powers of two: `1i64 << d`
 pub pow-word : (d : ℕ) → d ≤ 62 → toZ w64 (1 * 2 ^ d % 18446744073709551616) ≡ pos (2 ^ d)

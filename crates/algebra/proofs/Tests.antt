@@ -1,14 +1,12 @@
 -- Tests: what a joined test says, tests that agree, and a test computed at every number below a bound, or along a table.
 use mathlib.Core.Path.{_≡_, refl, sym, ap, _∙_, subst}
 use mathlib.Core.Bool.{Bool, true, false, not, _&&_, _||_, true≢false}
-use mathlib.Core.List.{List}
 use Prim.Native.Nat.{ℕ, zero, suc, _+_, _<_, _≤_}
 use native.Mathlib.Nat.{not-suc-le-zero, lt-of-not-le, not-le-of-lt}
 use native.Mathlib.Numerals.{add-one}
 use native.Mathlib.Decide.{decLt}
 use native.Mathlib.Omega.{arith}
 use lib.Dec.{T, leb, eqb, eqb→eq}
-use lib.ListN.{length, getD}
 use borrow.Author.Tests.{leb-true, leb-false, le-leb, lt-leb, eqb-true, eqb-false, eq-eqb, ne-eqb}
 use Rattle.algebra.specs.Lists.{allBelow}
 
@@ -89,8 +87,3 @@ equal1 f g n t b h = eqb→eq (f b) (g b) (exhaust (λ (b : ℕ). eqb (f b) (g b
 
 pub equal2 : (f g : ℕ → ℕ → ℕ) (m n : ℕ) → T (allBelow m (λ (a : ℕ). allBelow n (λ (b : ℕ). eqb (f a b) (g a b)))) → (a b : ℕ) → a < m → b < n → f a b ≡ g a b
 equal2 f g m n t a b ha hb = equal1 (f a) (g a) n (exhaust (λ (a : ℕ). allBelow n (λ (b : ℕ). eqb (f a b) (g a b))) m t a ha) b hb
-
--- a table follows its rule: eq decides equality of its elements, and z stands past its end
-pub table : {A : Type 0} (eq : A → A → Bool) → ((x y : A) → T (eq x y) → x ≡ y) → (t : List A) (z : A) (rule : ℕ → A)
-    → T (allBelow (length t) (λ (i : ℕ). eq (getD t i z) (rule i))) → (i : ℕ) → i < length t → getD t i z ≡ rule i
-table eq sound t z rule h i l = sound (getD t i z) (rule i) (exhaust (λ (i : ℕ). eq (getD t i z) (rule i)) (length t) h i l)

@@ -2,8 +2,7 @@
 use mathlib.Core.Path.{_≡_, refl, sym, ap, _∙_}
 use mathlib.Core.Bool.{Bool, true, false, cond}
 use mathlib.Core.List.{List, [], _∷_}
-use Prim.Native.Nat.{ℕ, zero, suc, _+_, _*_, _≤_, _<_}
-use native.Mathlib.Nat as N
+use Prim.Native.Nat.{ℕ, zero, suc, _+_, _≤_, _<_}
 use native.Mathlib.Decide.{ℕ-discrete}
 use native.Mathlib.Omega.{arith}
 use lib.ListN.{take}
@@ -98,7 +97,3 @@ nsum-total {A} (suc n) f xs = ap (λ (k : ℕ). k + total (f n) xs) (nsum-total 
     both : (g h : A → ℕ) (xs : List A) → total (λ (x : A). g x + h x) xs ≡ total g xs + total h xs
     both g h [] = omega arith
     both g h (x ∷ xs) = omega (arith, both g h xs)
-
-pub nsum-at-most : (n s : ℕ) (f : ℕ → ℕ) → ((k : ℕ) → k < n → f k ≤ s) → nsum n f ≤ n * s
-nsum-at-most zero s f h = omega arith
-nsum-at-most (suc n) s f h = omega (arith, nsum-at-most n s f (λ k l. h k (omega arith)), h n (omega arith), N.suc-mul n s)

@@ -1,7 +1,7 @@
 -- Traces: lists up to swaps of neighbours that do not share. What is counted, tested or folded along a list is kept by them.
 use mathlib.Core.Path.{_≡_, refl, ap, ap₂, _∙_}
 use mathlib.Core.Bool.{Bool, true, false, cond, _&&_, _||_}
-use mathlib.Core.List.{List, [], _∷_, foldr, foldl}
+use mathlib.Core.List.{List, [], _∷_, foldl}
 use Prim.Native.Nat.{ℕ, zero, suc, _+_}
 use native.Mathlib.Omega.{arith}
 use lib.ListN.{length}
@@ -69,14 +69,6 @@ module _ {A : Type 0} where
     total-of w (keep a t) = ap (λ (n : ℕ). w a + n) (total-of w t)
     total-of w (swap a b e) = omega arith
     total-of w (join t u) = total-of w t ∙ total-of w u
-
-    -- a fold in which neighbours may change places, whether or not they share
-    pub fold-of : {B : Type 0} (f : A → B → B) (z : B) → ((a b : A) (c : B) → f a (f b c) ≡ f b (f a c))
-        → {xs ys : List A} → Trace share xs ys → foldr f z xs ≡ foldr f z ys
-    fold-of f z h nil = refl
-    fold-of {B} f z h (keep a t) = ap (λ (c : B). f a c) (fold-of f z h t)
-    fold-of f z h (swap a b {xs} e) = h a b (foldr f z xs)
-    fold-of f z h (join t u) = fold-of f z h t ∙ fold-of f z h u
 
 -- steps of which neighbours that share nothing may change places, up to an equivalence of states
 module _ {A S : Type 0} (share : A → A → Bool) (act : S → A → S) (Good : A → Type 0) (_≈_ : S → S → Type 0)

@@ -65,9 +65,6 @@ module _ {l : List ℤ} {n at : ℕ} (o : Onward l n at) (h : 0 < n) where
   pub on-words : (upTo 4294967295 (word l (at + 1)) ≡ true) × (upTo 4294967295 (word l (at + 2)) ≡ true)
   on-words = and-split (upTo 4294967295 (word l (at + 1))) _ (and-split (upTo 4294967295 (word l (at + 1)) && upTo 4294967295 (word l (at + 2))) _ on-store .0)
 
-  pub on-rises : rises (o .first) (o .prev) (storeAt l at) ≡ true
-  on-rises = and-split (rises (o .first) (o .prev) (storeAt l at)) _ (and-split (storeOk l at (bitsAt l)) _ on-record .1) .0
-
   pub on-entry : (k : ℕ) → k < side (dimAt l) * side (dimAt l) → wellFormedAt l (entryPlace at k) ≡ true
   on-entry =
       all-at (side (dimAt l) * side (dimAt l)) (λ (k : ℕ). wellFormedAt l (entryPlace at k))

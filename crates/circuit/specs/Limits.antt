@@ -1,6 +1,5 @@
 -- The limits and their ceilings.
 use mathlib.Core.Bool.{Bool, _&&_}
-use Prim.Native.Nat.{ℕ}
 use lib.Dec.{leb}
 use Rattle.circuit.specs.declared.limits.Limits.{Limits}
 

@@ -1,7 +1,7 @@
 -- The questions of circuit_channel and of circuit_unitary, in order: the first that is answered by no decides.
-use mathlib.Core.Bool.{Bool, true, false, cond, _&&_}
+use mathlib.Core.Bool.{Bool, cond, _&&_}
 use mathlib.Core.List.{List, [], _∷_}
-use Prim.Native.Nat.{ℕ, zero, suc, _+_, _*_, _/_, _%_, _^_, _≤_, min}
+use Prim.Native.Nat.{ℕ, suc, _/_, _%_, _^_, _≤_, min}
 use lib.Dec.{eqb, leb}
 use lib.ListN.{length}
 use Rattle.algebra.specs.Lists.{every, total}

@@ -30,10 +30,6 @@ use Rattle.demands.proofs.Reading.{SameBlock, SameBlocks, range-map, ba
 use Rattle.demands.proofs.Stores.{some-stores}
 use Rattle.demands.proofs.Accepted.{Sound, store-words, writable}
 
-some-map : {A B : Type 0} (p : B → Bool) (f : A → B) (xs : List A) → some p (map f xs) ≡ some (λ (a : A). p (f a)) xs
-some-map p f [] = refl
-some-map p f (x ∷ xs) = ap (λ (b : Bool). p (f x) || b) (some-map p f xs)
-
 -- ---- what is read back, where it agrees with blocks of a list of stores
 module _ (w : ℕ) (blk : Store → Block) where
   agrees-some : (q : ℕ → Bool) (xs : List Block) (ts : List Store) → SameBlocks w xs (map blk ts) → some (λ (a : Block). q (a .store)) xs ≡ some (λ (τ : Store). q (blk τ .store)) ts

@@ -10,10 +10,10 @@ use borrow.Author.Tests.{not-true, ne-eqb}
 use Rattle.algebra.specs.Quadratic.{conjugate}
 use Rattle.algebra.specs.Dyadic.{frac, power, plus, evenℤ}
 use Rattle.algebra.proofs.Semi.{Semi, zero-mul}
-use Rattle.algebra.proofs.Ring.{ℤR, semi, mul-one, neg-neg as number-neg-neg}
+use Rattle.algebra.proofs.Ring.{ℤR, semi, mul-one}
 use Rattle.algebra.proofs.Quadratic.{ℤ√2, ℤ√2i, conj-add, conj-mul, conj-conj as number-conj-conj, conj-one}
 use Rattle.algebra.proofs.Parts.{abs-neg}
-use Rattle.algebra.proofs.Dyadic.{Halving, ℤ-halving, quad-halving, fractions, lowest-equal, equal-lowest, low-odd, map-low, map-plus, map-by}
+use Rattle.algebra.proofs.Dyadic.{Halving, ℤ-halving, quad-halving, fractions, low-odd, map-low, map-plus, map-by}
 use Rattle.exact.specs.Exact.{Number, numbers, numberHalves, root2, Exact, exact, lowest, conj, half, isLowest}
 
 abbrev pub exactHalving : Halving ℤ√2i
@@ -46,23 +46,12 @@ lowest-form z (suc e) = go (numberHalves .even z) refl (lowest-form (numberHalve
     go true h r = r
     go false h r = not-whole (frac z (suc e)) (omega arith) ∙ ap not h
 
-pub lowest-is : (x : Exact) → lowest (x .num) (x .exp) ≡ x → isLowest x ≡ true
-lowest-is x h = ap isLowest (sym h) ∙ lowest-form (x .num) (x .exp)
-
 -- sums and products are in lowest form
 pub add-lowest : (x y : Exact) → isLowest (exact ._⊕_ x y) ≡ true
 add-lowest x y = lowest-form (plus numbers x y .num) (x .exp + y .exp)
 
 pub mul-lowest : (x y : Exact) → isLowest (exact ._⊗_ x y) ≡ true
 mul-lowest x y = lowest-form (numbers ._⊗_ (x .num) (y .num)) (x .exp + y .exp)
-
--- numbers in lowest form are equal exactly where their numerators agree at a common exponent
-pub equal-of : (x y : Exact) → isLowest x ≡ true → isLowest y ≡ true
-    → numbers ._⊗_ (x .num) (power numbers (y .exp)) ≡ numbers ._⊗_ (y .num) (power numbers (x .exp)) → x ≡ y
-equal-of x y g h e = sym (is-lowest x g) ∙ lowest-equal ℤ√2i exactHalving x y e ∙ is-lowest y h
-
-pub equal-to : (x y : Exact) → x ≡ y → numbers ._⊗_ (x .num) (power numbers (y .exp)) ≡ numbers ._⊗_ (y .num) (power numbers (x .exp))
-equal-to x y e = equal-lowest ℤ√2i exactHalving x y (ap (λ (z : Exact). lowest (z .num) (z .exp)) e)
 
 -- ---- 0 and 1
 pub zero-plus : (x : Exact) → isLowest x ≡ true → exact ._⊕_ (exact .𝟘) x ≡ x
@@ -103,6 +92,3 @@ conj-𝟘 = refl
 
 pub conj-form : (x : Exact) → isLowest (conj x) ≡ isLowest x
 conj-form x = ap (λ (b : Bool). eqb (x .exp) 0 || not b) (conj-even (x .num))
-
-pub neg-neg : (x : Exact) → exact .neg (exact .neg x) ≡ x
-neg-neg x = ap (λ (z : Number). frac z (x .exp)) (number-neg-neg ℤ√2i (x .num))

@@ -10,11 +10,10 @@ use borrow.Author.Tests.{leb-true, ltb-true, eqb-true, eq-eqb, not-true}
 use Rattle.algebra.specs.Lists.{allBelow, every}
 use Rattle.algebra.proofs.Tests.{exhaust, and-split, holds-true}
 use Rattle.exact.specs.Exact.{exact}
-use Rattle.gate.specs.Gate.{Gate, gate, arity, qubits, bits, elem, distinct, rz, formed, placed, supported, splits, valid}
+use Rattle.gate.specs.Gate.{Gate, gate, arity, qubits, bits, elem, distinct, rz, formed, placed, supported, valid}
 use Rattle.gate.specs.Operators.{Small, operator, operators, noUnitary, controlled, swapped}
 use Rattle.gate.specs.Embed.{embed}
-use Rattle.gate.specs.declared.judge.GateVerdict.the-variants.{Fine}
-use Rattle.gate.specs.Verdict.{firstFault, onQubits, gateVerdict, unitaryVerdict}
+use Rattle.gate.specs.Verdict.{onQubits}
 use Rattle.gate.specs.Entries.{Table, tableOf, identity, coreOf, smallOf, unitaryOf, targetOf, operatorAt, gateEntry, Ready, Apart2, Apart3}
 use Rattle.gate.proofs.Gate.{elem-in}
 use Rattle.gate.proofs.Columns.{one-table, two-table, three-table}
@@ -202,22 +201,3 @@ valid-ready n m g j e l =
     let a = and-split (formed g) (placed n m g && supported g) e in
     let b = and-split (placed n m g) (supported g) (a .1) in
     record { known = a .0; on = placed-on n m g (b .0); able = b .1; which = l }
-
--- what is found of a gate that is fine
-pub fine-valid : (n m : ℕ) (g : Gate) → gateVerdict n m g ≡ Fine → valid n m g ≡ true
-fine-valid n m g = go (formed g) (placed n m g) (supported g)
-  where
-    go : (a b c : Bool) → firstFault a b c ≡ Fine → (a && (b && c)) ≡ true
-    go true true true e = refl
-    go true true false e = let z : _≡_ {A = ℕ} 0 1 = cc in absurd (omega arith)
-    go true false c e = let z : _≡_ {A = ℕ} 0 1 = cc in absurd (omega arith)
-    go false b c e = let z : _≡_ {A = ℕ} 0 1 = cc in absurd (omega arith)
-
-pub fine-ready : (n : ℕ) (g : Gate) (j : ℕ) → unitaryVerdict n g ≡ Fine → j < length (operators g) → Ready n g j
-fine-ready n g j e l = go (formed g) refl (onQubits n g) refl (supported g) refl (eqb (splits g) 0) e
-  where
-    go : (a : Bool) → formed g ≡ a → (b : Bool) → onQubits n g ≡ b → (c : Bool) → supported g ≡ c → (d : Bool) → firstFault a b (c && d) ≡ Fine → Ready n g j
-    go true p true q true r d e = record { known = p; on = q; able = r; which = l }
-    go true p true q false r d e = let z : _≡_ {A = ℕ} 0 1 = cc in absurd (omega arith)
-    go true p false q c r d e = let z : _≡_ {A = ℕ} 0 1 = cc in absurd (omega arith)
-    go false p b q c r d e = let z : _≡_ {A = ℕ} 0 1 = cc in absurd (omega arith)

@@ -1,11 +1,10 @@
 -- The questions of one gate, at the kinds and arities that the code tells apart.
-use mathlib.Core.Path.{_≡_, refl, sym, ap, _∙_}
-use mathlib.Core.Bool.{Bool, true, false, not, cond, _&&_, _||_, and-true, or-false, and-assoc}
-use mathlib.Core.List.{List, [], _∷_}
-use Prim.Native.Nat.{ℕ, zero, suc, _≤_, _<_}
-use native.Mathlib.Omega.{arith}
+use mathlib.Core.Path.{_≡_, sym, ap, _∙_}
+use mathlib.Core.Bool.{Bool, true, not, _&&_, _||_, and-true, or-false, and-assoc}
+use mathlib.Core.List.{[], _∷_}
+use Prim.Native.Nat.{ℕ, _≤_}
 use lib.Dec.{eqb, leb, ltb}
-use lib.ListN.{length, take, drop}
+use lib.ListN.{take, drop}
 use lib.Seq.{take-all}
 use borrow.Author.Tests.{le-leb, ne-eqb}
 use Rattle.algebra.specs.Lists.{every}

@@ -16,9 +16,6 @@ pub record Gate : Type 0 where
 abbrev pub gate : ℕ → ℕ → ℕ → ℕ → ℕ → Gate
 gate kind a b c k = record { kind = kind; a = a; b = b; c = c; k = k }
 
-abbrev pub gateSize : ℕ
-gateSize = 5
-
 -- the gate in the five words from `at` on
 abbrev pub gateAt : List ℕ → ℕ → Gate
 gateAt ws at = gate (getD ws at 0) (getD ws (at + 1) 0) (getD ws (at + 2) 0) (getD ws (at + 3) 0) (getD ws (at + 4) 0)

@@ -1,5 +1,5 @@
 -- What is found of one gate: the first question that it fails.
-use mathlib.Core.Bool.{Bool, true, false, cond, not, _&&_}
+use mathlib.Core.Bool.{Bool, cond, _&&_}
 use Prim.Native.Nat.{ℕ}
 use lib.Dec.{eqb, ltb}
 use Rattle.algebra.specs.Lists.{every}

@@ -1,5 +1,5 @@
 -- Probabilities: the effects of a circuit's stores add up to the identity, in the judge's form and in the textbook's.
-use mathlib.Core.Path.{_≡_, refl, sym, ap, ap₂, _∙_, fun-ext}
+use mathlib.Core.Path.{_≡_, refl, sym, ap, ap₂, _∙_}
 use mathlib.Core.Bool.{Bool, true, false, cond, not, _||_, true≢false}
 use mathlib.Core.List.{List, [], _∷_}
 use Prim.Native.Nat.{ℕ, zero, suc, _+_, _*_, _^_, _<_}
@@ -99,24 +99,12 @@ module _ (d : ℕ) where
   abbrev pub effect : List Branch → Store → ℕ → ℕ → Exact
   effect bs τ r c = sum exact d (λ (o : ℕ). block bs τ (o * d + r) (o * d + c))
 
-  -- the textbook's: Σ K†K over the store's branches
-  abbrev pub textbook : List Branch → Store → ℕ → ℕ → Exact
-  textbook bs τ r c = listSum exact (λ (b : Branch). dot exacts conjugation d (cell exact d (b .matrix)) r c) (filterBy (having τ) bs)
-
   one-branch : ℕ → ℕ → Branch → Exact
   one-branch r c b = sum exact d (λ (o : ℕ). overlap (o * d + r) (o * d + c) b)
 
   turned : (r c : ℕ) (b : Branch) → one-branch r c b ≡ dot exacts conjugation d (cell exact d (b .matrix)) c r
   unfolding one-branch
   turned r c b = sum-same exacts d _ _ (λ o l. exacts .mul-comm (getD (b .matrix) (o * d + r) (exact .𝟘)) (conj (getD (b .matrix) (o * d + c) (exact .𝟘))))
-
-  -- is the transpose
-  pub textbook-turn : (bs : List Branch) (τ : Store) (r c : ℕ) → textbook bs τ r c ≡ effect bs τ c r
-  unfolding one-branch
-  textbook-turn bs τ r c =
-      listSum-same exacts _ _ (filterBy (having τ) bs) (λ b. sym (turned c r b))
-      ∙ sym (sum-same exacts d _ _ (λ o l. foldl-listSum exacts (overlap (o * d + c) (o * d + r)) (filterBy (having τ) bs))
-      ∙ sum-listSum exacts d (λ (o : ℕ). overlap (o * d + c) (o * d + r)) (filterBy (having τ) bs))
 
 module _ (n m : ℕ) (σ : Store) (gs : List Gate) (ok : every (valid n m) gs ≡ true) where
   abbrev d : ℕ
@@ -153,8 +141,3 @@ module _ (n m : ℕ) (σ : Store) (gs : List Gate) (ok : every (valid n m) gs �
   probabilities ts p r c k l =
       gather-of (exact ._⊕_) (exacts .add-assoc) (exacts .add-comm) (λ (τ : Store). effect d bs τ r c) p (exact .𝟘)
       ∙ foldl-listSum exacts (λ (τ : Store). effect d bs τ r c) (stores bs) ∙ in-order r c k l
-
-  pub probabilities-textbook : (ts : List Store) → Perm ts (stores (survivors (branches n σ gs))) → (r c : ℕ) → r < 2 ^ n → c < 2 ^ n
-      → gather (exact ._⊕_) (λ (τ : Store). textbook (2 ^ n) (survivors (branches n σ gs)) τ r c) (exact .𝟘) ts ≡ δ exact r c
-  probabilities-textbook ts p r c k l =
-      ap (λ (φ : Store → Exact). gather (exact ._⊕_) φ (exact .𝟘) ts) (fun-ext (λ τ. textbook-turn d bs τ r c)) ∙ probabilities ts p c r l k ∙ δ-turn exact c r

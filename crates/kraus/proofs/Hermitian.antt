@@ -1,9 +1,8 @@
 -- Blocks are Hermitian, whatever the branches; so a diagonal entry has no i part.
 use mathlib.Core.Path.{_≡_, refl, sym, ap, _∙_, fun-ext}
 use mathlib.Core.List.{List, [], _∷_}
-use Prim.Native.Nat.{ℕ, zero, suc}
+use Prim.Native.Nat.{ℕ}
 use lib.ListN.{getD}
-use lib.IntN.{ℤ, pos, negsuc, negℤ, pos-ne-negsuc}
 use Rattle.algebra.specs.Lists.{filterBy}
 use Rattle.algebra.proofs.Perm.{gather}
 use Rattle.exact.specs.Exact.{Exact, exact, conj}
@@ -24,18 +23,3 @@ conj-overlap i j b =
 pub hermitian : (bs : List Branch) (τ : Store) (i j : ℕ) → block bs τ i j ≡ conj (block bs τ j i)
 hermitian bs τ i j = sym (conj-gather (overlap j i) (filterBy (having τ) bs) (exact .𝟘)
     ∙ ap (λ (φ : Branch → Exact). gather (exact ._⊕_) φ (exact .𝟘) (filterBy (having τ) bs)) (fun-ext (conj-overlap i j)))
-
-self-neg : (k : ℤ) → k ≡ negℤ k → k ≡ pos 0
-self-neg (pos zero) e = refl
-self-neg (pos (suc n)) e = absurd (pos-ne-negsuc (suc n) n e)
-self-neg (negsuc n) e = absurd (pos-ne-negsuc (suc n) n (sym e))
-
-pub record Real (x : Exact) : Type 0 where
-  pub n₂ : x .num .im .re ≡ pos 0
-  pub n₃ : x .num .im .im ≡ pos 0
-
-pub diagonal : (bs : List Branch) (τ : Store) (i : ℕ) → Real (block bs τ i i)
-diagonal bs τ i = record {
-  n₂ = self-neg (block bs τ i i .num .im .re) (ap (λ (x : Exact). x .num .im .re) (hermitian bs τ i i));
-  n₃ = self-neg (block bs τ i i .num .im .im) (ap (λ (x : Exact). x .num .im .im) (hermitian bs τ i i));
-}

@@ -11,7 +11,7 @@ use Rattle.algebra.specs.Sum.{sum}
 use Rattle.algebra.specs.Lists.{All, every, total, filterBy}
 use Rattle.algebra.proofs.Tests.{and-split}
 use Rattle.algebra.proofs.Lists.{all-imp, all-map, all-unmap}
-use Rattle.algebra.proofs.Totals.{Sub, sub-whole, sub-filter, sub-take}
+use Rattle.algebra.proofs.Totals.{Sub, sub-filter}
 use Rattle.algebra.proofs.Perm.{gather}
 use Rattle.algebra.proofs.Sum.{listSum-map}
 use Rattle.algebra.proofs.Adjoint.{dot}
@@ -27,7 +27,7 @@ use Rattle.gate.specs.Operators.{Operator, operators}
 use Rattle.gate.specs.Embed.{embed}
 use Rattle.gate.proofs.Complete.{conjugation, gate-complete}
 use Rattle.kraus.specs.Branch.{Store, Branch, branches}
-use Rattle.kraus.specs.Blocks.{survivors, having, overlap, block}
+use Rattle.kraus.specs.Blocks.{having, overlap, block}
 use Rattle.kraus.proofs.Complete.{completeness}
 use Rattle.kraus.proofs.Filtration.{Exp, exp-is}
 use Rattle.kraus.proofs.Weigh.{Light, Entries, embed-part}
@@ -137,13 +137,6 @@ gate-entries n m g ok = all-unmap (Everywhere (Kraus 1) n) (matrixOf n g) (opera
 module _ {E n : ℕ} {bs : List Branch} (e : Enough E n bs) {xs : List Branch} (s : Sub xs bs) (τ : Store) where
   pub block-fits : (i j : ℕ) → i < 2 ^ n * 2 ^ n → j < 2 ^ n * 2 ^ n → Fitting (E + E) (block xs τ i j)
   block-fits = e .blocks (filterBy (having τ) xs) (sub-filter (having τ) s)
-
-  pub effect-fits : (r c k : ℕ) → r < 2 ^ n → c < 2 ^ n → k ≤ 2 ^ n → Fitting (E + E) (sum exact k (λ (o : ℕ). block xs τ (o * 2 ^ n + r) (o * 2 ^ n + c)))
-  effect-fits = e .effects (filterBy (having τ) xs) (sub-filter (having τ) s)
-
--- the first k survivors are some of them
-pub first-survivors : (k : ℕ) (bs : List Branch) → Sub (take k (survivors bs)) bs
-first-survivors k bs = sub-take k (sub-filter _ (sub-whole bs))
 
 -- ---- the first k gates of an accepted list are accepted, and weigh no more
 first : (n m : ℕ) (gs : List Gate) (k : ℕ) → every (valid n m) gs ≡ true → every (valid n m) (take k gs) ≡ true

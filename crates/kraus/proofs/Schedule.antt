@@ -22,9 +22,8 @@ use Rattle.gate.specs.Embed.{embed}
 use Rattle.gate.proofs.Gate.{meet-no, Fits, valid-fits}
 use Rattle.gate.proofs.Embed.{embeds-commute}
 use Rattle.kraus.specs.Branch.{Store, Branch, write, apply, step, start, branches}
-use Rattle.kraus.specs.Blocks.{alive, survivors, block, stores, channelOf}
+use Rattle.kraus.specs.Blocks.{alive, survivors}
 use Rattle.kraus.proofs.Dense.{left-commute}
-use Rattle.kraus.proofs.Stores.{block-of, stores-of, blocks-of}
 
 -- ---- writes to different bits
 write-set : (is : List ℕ) (i v w : ℕ) (σ : Store) → elem i is ≡ false → set (write is w σ) i v ≡ write is w (set σ i v)
@@ -68,13 +67,3 @@ module _ (n m : ℕ) (σ : Store) {d : Gate} {xs ys : List Gate} {table : List �
 
   pub schedule-survivors : Perm (survivors (branches n σ ys)) (survivors (branches n σ xs))
   schedule-survivors = filter-of alive schedule-branches
-
-  pub schedule-blocks : (τ : Store) (i j : ℕ) → block (survivors (branches n σ ys)) τ i j ≡ block (survivors (branches n σ xs)) τ i j
-  schedule-blocks = block-of schedule-survivors
-
-  pub schedule-stores : Perm (stores (survivors (branches n σ ys))) (stores (survivors (branches n σ xs)))
-  schedule-stores = stores-of schedule-survivors
-
-  -- the channels have the same blocks, up to their order
-  pub schedule-channel : Perm (channelOf n σ ys) (channelOf n σ xs)
-  schedule-channel = blocks-of (2 ^ n) schedule-survivors

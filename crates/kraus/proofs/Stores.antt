@@ -1,24 +1,22 @@
 -- The stores of a list of branches: each once, those of the branches and no others, and the same up to order where the branches are;
 -- a channel's block is read back by its store.
-use mathlib.Core.Path.{_≡_, refl, sym, ap, _∙_, subst, fun-ext}
+use mathlib.Core.Path.{_≡_, refl, sym, ap, _∙_, subst}
 use mathlib.Core.Bool.{Bool, true, false, cond, not, _||_}
-use mathlib.Core.List.{List, [], _∷_, map, foldl}
-use Prim.Native.Nat.{ℕ, _^_, _≤_, _<_}
+use mathlib.Core.List.{List, [], _∷_}
+use Prim.Native.Nat.{ℕ, _≤_}
 use native.Mathlib.Omega.{arith}
-use lib.ListN.{length, length-map}
+use lib.ListN.{length}
 use borrow.Author.Tests.{not-true}
 use Rattle.algebra.specs.Lists.{All, some, filterBy}
-use Rattle.algebra.proofs.Lists.{all-imp, filter-all, filter-true, filter-length, filter-none, filter-some, filter-swap}
+use Rattle.algebra.proofs.Lists.{all-imp, filter-all, filter-true, filter-length, filter-swap}
 use Rattle.algebra.proofs.Trace.{nil, keep, swap, join, same}
-use Rattle.algebra.proofs.Perm.{Perm, perm-path, map-of, filter-of, gather-of}
-use Rattle.exact.specs.Exact.{Exact, exact}
+use Rattle.algebra.proofs.Perm.{Perm, perm-path, filter-of, gather-of}
+use Rattle.exact.specs.Exact.{exact}
 use Rattle.exact.proofs.Exact.{exacts}
 use Rattle.gate.specs.Operators.{sameBits}
 use Rattle.gate.proofs.Bits.{same-true, same-sym}
-use Rattle.kraus.specs.Dense.{table, cell}
 use Rattle.kraus.specs.Branch.{Store, Branch}
-use Rattle.kraus.specs.Blocks.{alive, survivors, having, overlap, block, stores, Block, blocksOf}
-use Rattle.kraus.proofs.Dense.{cell-table, table-same}
+use Rattle.kraus.specs.Blocks.{having, overlap, block, stores}
 
 -- all but one store
 abbrev pub other : Store → Store → Bool
@@ -49,18 +47,6 @@ pub stores-length : (bs : List Branch) → length (stores bs) ≤ length bs
 stores-length [] = omega arith
 stores-length (b ∷ bs) = omega (arith, stores-length bs, filter-length (other (b .store)) (stores bs))
 
--- a branch has a store
-pub stores-nonempty : (bs : List Branch) → 0 < length bs → 0 < length (stores bs)
-stores-nonempty [] h = absurd (omega arith)
-stores-nonempty (b ∷ bs) h = omega arith
-
-abbrev blockOf : ℕ → List Branch → Store → Block
-blockOf d bs σ = record { store = σ; entries = table (d ^ 2) (block bs σ) }
-
--- where a branch survives, the channel has a block
-pub blocks-nonempty : (d : ℕ) (bs : List Branch) → some alive bs ≡ true → 0 < length (blocksOf d (survivors bs))
-blocks-nonempty d bs e = rw (length-map (stores (survivors bs)) (blockOf d (survivors bs))) (stores-nonempty (survivors bs) (filter-some alive bs e))
-
 -- what holds of all branches' stores
 pub stores-all : (P : Store → Type 0) (bs : List Branch) → All (λ (b : Branch). P (b .store)) bs → All P (stores bs)
 stores-all P [] h = tt
@@ -88,12 +74,6 @@ stores-of (join p q) = join (stores-of p) (stores-of q)
 pub block-of : {bs cs : List Branch} → Perm bs cs → (τ : Store) (i j : ℕ) → block bs τ i j ≡ block cs τ i j
 block-of p τ i j = gather-of (exact ._⊕_) (exacts .add-assoc) (exacts .add-comm) (overlap i j) (filter-of (having τ) p) (exact .𝟘)
 
--- and the channel has the same blocks in some order
-pub blocks-of : (d : ℕ) {bs cs : List Branch} → Perm bs cs → Perm (blocksOf d bs) (blocksOf d cs)
-blocks-of d {bs} {cs} p = join (map-of (blockOf d bs) (stores-of p))
-    (perm-path (ap (λ (f : Store → Block). map f (stores cs)) (fun-ext (λ σ. ap (λ (es : List Exact). record { store = σ; entries = es })
-    (table-same (d ^ 2) (block bs σ) (block cs σ) (λ i j l m. block-of p σ i j))))))
-
 -- ---- a store is listed exactly where a branch has it
 others : (τ σ : Store) (ss : List Store) → sameBits τ σ ≡ false → some (sameBits τ) (filterBy (other σ) ss) ≡ some (sameBits τ) ss
 others τ σ [] h = refl
@@ -116,34 +96,6 @@ stores-some (b ∷ bs) τ = go (sameBits τ (b .store)) refl (stores-some bs τ)
     go true e r = refl
     go false e r = others τ (b .store) (stores bs) e ∙ r
 
--- the block of a store that no branch has
-pub block-none : (bs : List Branch) (τ : Store) (i j : ℕ) → some (sameBits τ) (stores bs) ≡ false → block bs τ i j ≡ exact .𝟘
-block-none bs τ i j e = ap (λ (cs : List Branch). block-sum cs) (filter-none (having τ) bs (sym (stores-some bs τ) ∙ e))
-  where
-    block-sum : List Branch → Exact
-    block-sum cs = foldl (λ (x : Exact) (b : Branch). exact ._⊕_ x (overlap i j b)) (exact .𝟘) cs
-
 -- ---- the channel read back: the entry of the block with a store, and zero where there is none
-abbrev pub look : ℕ → List Block → Store → ℕ → ℕ → Exact
-look d [] τ i j = exact .𝟘
-look d (b ∷ bs) τ i j = cond (sameBits τ (b .store)) (cell exact (d ^ 2) (b .entries) i j) (look d bs τ i j)
 
 module _ (d : ℕ) (bs : List Branch) where
-  abbrev listed : List Store → List Block
-  listed = map (blockOf d bs)
-
-  look-listed : (ss : List Store) (τ : Store) (i j : ℕ) → i < d ^ 2 → j < d ^ 2 → look d (listed ss) τ i j ≡ cond (some (sameBits τ) ss) (block bs τ i j) (exact .𝟘)
-  look-listed [] τ i j l m = refl
-  look-listed (σ ∷ ss) τ i j l m = go (sameBits τ σ) refl (look-listed ss τ i j l m)
-    where
-      go : (b : Bool) → sameBits τ σ ≡ b → look d (listed ss) τ i j ≡ cond (some (sameBits τ) ss) (block bs τ i j) (exact .𝟘)
-          → cond b (cell exact (d ^ 2) (table (d ^ 2) (block bs σ)) i j) (look d (listed ss) τ i j) ≡ cond (b || some (sameBits τ) ss) (block bs τ i j) (exact .𝟘)
-      go true e r = cell-table exact (d ^ 2) (block bs σ) i j l m ∙ ap (λ (ρ : Store). block bs ρ i j) (sym (same-true τ σ e))
-      go false e r = r
-
-  pub look-blocks : (τ : Store) (i j : ℕ) → i < d ^ 2 → j < d ^ 2 → look d (blocksOf d bs) τ i j ≡ block bs τ i j
-  look-blocks τ i j l m = look-listed (stores bs) τ i j l m ∙ go (some (sameBits τ) (stores bs)) refl
-    where
-      go : (b : Bool) → some (sameBits τ) (stores bs) ≡ b → cond b (block bs τ i j) (exact .𝟘) ≡ block bs τ i j
-      go true e = refl
-      go false e = sym (block-none bs τ i j e)

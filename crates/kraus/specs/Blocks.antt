@@ -1,15 +1,13 @@
 -- The channel of a list of branches: a block for each store, in the order of the stores' first surviving branches.
 use mathlib.Core.Bool.{Bool, not}
-use mathlib.Core.List.{List, [], _∷_, foldl, map}
-use Prim.Native.Nat.{ℕ, _^_}
+use mathlib.Core.List.{List, [], _∷_, foldl}
+use Prim.Native.Nat.{ℕ}
 use lib.ListN.{getD}
 use Rattle.algebra.specs.Lists.{every, filterBy}
 use Rattle.exact.specs.Exact.{Exact, exact, conj}
 use Rattle.cells.specs.Cells.{isZero}
-use Rattle.gate.specs.Gate.{Gate}
 use Rattle.gate.specs.Operators.{sameBits}
-use Rattle.kraus.specs.Dense.{table}
-use Rattle.kraus.specs.Branch.{Store, Branch, branches}
+use Rattle.kraus.specs.Branch.{Store, Branch}
 
 -- some entry is not zero
 abbrev pub alive : Branch → Bool
@@ -33,15 +31,3 @@ block bs τ i j = foldl (λ (x : Exact) (b : Branch). exact ._⊕_ x (overlap i 
 abbrev pub stores : List Branch → List Store
 stores [] = []
 stores (b ∷ bs) = b .store ∷ filterBy (λ (σ : Store). not (sameBits (b .store) σ)) (stores bs)
-
-pub record Block : Type 0 where
-  pub store : Store
-  -- d² rows and columns, for matrices of d
-  pub entries : List Exact
-
-abbrev pub blocksOf : ℕ → List Branch → List Block
-blocksOf d bs = map (λ (σ : Store). record { store = σ; entries = table (d ^ 2) (block bs σ) }) (stores bs)
-
--- the channel of a circuit on n qubits with the initial store σ
-abbrev pub channelOf : ℕ → Store → List Gate → List Block
-channelOf n σ gs = blocksOf (2 ^ n) (survivors (branches n σ gs))

@@ -1,5 +1,4 @@
 pub mod Terms
-pub mod Witness
 pub mod GlobalPhase
 pub mod Rows
 pub mod Operands

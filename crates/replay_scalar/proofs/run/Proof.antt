@@ -1,5 +1,4 @@
 -- `run` ends: each turn leaves one case less.
-use borrow.Author.Needs.{needs}
 use native.Mathlib.Omega.{arith}
 use Rattle.replay_scalar.proofs.run.Statement.{statement}
 use Rattle.replay_scalar.proofs.run.Tie as tie

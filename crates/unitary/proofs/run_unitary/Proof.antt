@@ -1,5 +1,5 @@
 -- The run leaves one branch, whose matrix is copied.
-use mathlib.Core.Path.{_≡_, refl, ap}
+use mathlib.Core.Path.{refl, ap}
 use Prim.Native.Nat.{ℕ, _*_}
 use native.Mathlib.Omega.{arith}
 use Rattle.circuit.proofs.Products.{square-small}

@@ -1,6 +1,6 @@
 -- The limits, the length, and the rest.
-use mathlib.Core.Path.{refl, sym, _∙_}
-use Prim.Native.Nat.{_/_, _%_}
+use mathlib.Core.Path.{sym, _∙_}
+use Prim.Native.Nat.{_%_}
 use borrow.Author.Needs.{needs}
 use borrow.Author.Tests.{eq-eqb, ne-eqb}
 use lib.ListN.{length}

@@ -1,6 +1,6 @@
 -- Computed at each k.
 use Rattle.algebra.proofs.Tests.{equal1}
-use Prim.Native.Nat.{ℕ, suc, _*_, _%_, _^_, _≤_}
+use Prim.Native.Nat.{ℕ, _*_, _%_, _^_}
 use native.Mathlib.Omega.{arith}
 use borrow.Author.Needs.{needs}
 use Rattle.circuit.proofs.sizes.power.Statement.{statement}

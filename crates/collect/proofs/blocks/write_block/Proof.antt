@@ -1,7 +1,7 @@
 -- `collect::blocks::write_block` meets its contract.
 use mathlib.Core.Path.{_≡_, subst}
 use mathlib.Core.Bool.{true}
-use Prim.Native.Nat.{ℕ, _+_, _*_, _-_, _<_, _≤_}
+use Prim.Native.Nat.{ℕ, _+_, _-_, _<_, _≤_}
 use native.Mathlib.Omega.{arith}
 use lib.ListN.{length}
 use Rattle.channel.proofs.Words.{square-small}

@@ -1,6 +1,5 @@
 -- One after the other.
 use mathlib.Core.Path.{ap, _∙_}
-use Prim.Native.Nat.{ℕ}
 use borrow.Author.Needs.{needs}
 use Rattle.gate.specs.Entries.{cleared}
 use borrow.Author.Needs.{needs}

@@ -1,9 +1,6 @@
 -- Entry by entry.
-use mathlib.Core.Path.{_≡_, ap, _∙_}
-use mathlib.Core.List.{List, [], _∷_}
+use mathlib.Core.List.{[], _∷_}
 use borrow.Author.Needs.{needs}
-use Rattle.scalar.specs.declared.Scalar.{Scalar}
-use Rattle.scalar.specs.declared.Answer.{Answer}
 use Rattle.gate.proofs.entry.phase_table.Statement.{statement}
 use Rattle.gate.proofs.entry.phase_table.Tie as tie
 

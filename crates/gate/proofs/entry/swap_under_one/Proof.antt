@@ -1,5 +1,5 @@
 -- The control bit chooses between the swap and the identity.
-use mathlib.Core.Path.{sym, ap, _∙_}
+use mathlib.Core.Path.{_∙_}
 use borrow.Author.Needs.{needs}
 use Rattle.gate.proofs.Columns.{swap-on, swap-off}
 use borrow.Author.Needs.{needs}

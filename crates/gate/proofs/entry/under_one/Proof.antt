@@ -1,5 +1,5 @@
 -- The control bit chooses the matrix on the target.
-use mathlib.Core.Path.{sym, ap, _∙_}
+use mathlib.Core.Path.{_∙_}
 use borrow.Author.Needs.{needs}
 use Rattle.gate.proofs.Columns.{under-one}
 use borrow.Author.Needs.{needs}

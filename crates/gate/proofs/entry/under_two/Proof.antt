@@ -1,5 +1,5 @@
 -- The first control bit chooses the matrix under the second.
-use mathlib.Core.Path.{sym, ap, _∙_}
+use mathlib.Core.Path.{_∙_}
 use borrow.Author.Needs.{needs}
 use Rattle.gate.proofs.Columns.{under-two}
 use borrow.Author.Needs.{needs}

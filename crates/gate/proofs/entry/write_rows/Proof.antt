@@ -3,7 +3,6 @@ use mathlib.Core.Path.{ap, subst}
 use Prim.Native.Nat.{ℕ, _*_, _-_, _<_}
 use native.Mathlib.Nat.{le-refl}
 use native.Mathlib.Omega.{arith}
-use borrow.Author.Needs.{needs}
 use Rattle.algebra.proofs.Blocks.{Writing, begin, again, done, long}
 use Rattle.cells.specs.Cells.{cellWords}
 use Rattle.gate.specs.Verdict.{gateOf}

@@ -1,5 +1,5 @@
 -- The invariant: what is counted so far and the count of the rest make the whole.
-use Prim.Native.Nat.{ℕ, _+_, _-_, _/_}
+use Prim.Native.Nat.{_+_, _-_, _/_}
 use native.Mathlib.Omega.{arith}
 use lib.ListN.{length}
 use Rattle.gate.specs.Gate.{gatesFrom}

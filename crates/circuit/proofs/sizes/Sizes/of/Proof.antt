@@ -4,7 +4,6 @@ use Prim.Native.Nat.{ℕ, _^_, _≤_, min}
 use native.Mathlib.Omega.{arith}
 use lib.Pow.{pow-mono}
 use borrow.Author.Needs.{needs}
-use Rattle.circuit.specs.Questions.{Small}
 use Rattle.circuit.proofs.sizes.Sizes.of.Statement.{statement}
 use Rattle.circuit.proofs.sizes.Sizes.of.Tie as tie
 

@@ -1,6 +1,5 @@
 -- One case for each call.
 use mathlib.Core.Path.{_∙_, sym, ap}
-use Prim.Native.Nat.{ℕ}
 use Rattle.gate.specs.declared.judge.Asking.{Asking}
 use Rattle.gate.specs.Verdict.{gateOf, faultOf}
 use borrow.Author.Needs.{needs}
