@@ -86,7 +86,7 @@ module _ (w : Width) (xs : List ℤ) (bs : List ℕ) (h : Within xs bs) where
       ∙ ap (λ (z : ℤ). ⟦_⟧ ℤR ρ x *ℤ z) (machine-is y (and-r (fitsAll w b x) (fitsAll w b y) u))
   raw-is (⊟ x) t = ap negℤ (machine-is x t)
 
-  -- what an operation is asked to fit does: the last argument is `tt`, as in all that follows
+  -- what an operation is asked to fit does: the last argument is `tt`
   pub op-fits : (e : Expr) → T (fitsTop w (look 0 bs) e) → SFits w (raw w (look (pos 0) xs) e)
   op-fits e t =
       subst (λ (z : ℤ). SFits w z) (sym (raw-is e (and-r (ltb (bnd b e) (2 ^ hbits w)) (fitsAll w b e) t)))
@@ -95,10 +95,3 @@ module _ (w : Width) (xs : List ℤ) (bs : List ℕ) (h : Within xs bs) where
   -- bits read back
   pub bits-is : (e : Expr) → T (fitsTop w (look 0 bs) e) → toZ w (ofZ w (raw w (look (pos 0) xs) e)) ≡ ⟦_⟧ ℤR (look (pos 0) xs) e
   bits-is e t = back e (and-l (ltb (bnd b e) (2 ^ hbits w)) (fitsAll w b e) t) (raw w ρ e) (raw-is e (and-r (ltb (bnd b e) (2 ^ hbits w)) (fitsAll w b e) t))
-
-  -- the tests, as a branch leaves them: `<` and `>` are `ltZ`, `<=` and `>=` are `leZ`, and `==` compares bits
-  module _ (x y : Expr) where
-
--- ---- values that are passed on: each read back from its bits
-
--- ---- where a bound is no numeral: the tests as orders of ℕ, for `omega`

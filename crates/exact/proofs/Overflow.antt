@@ -1,21 +1,23 @@
 -- A sum is too large where its first term is, raised to the second's exponent: that is decided before the term is scaled.
 -- A product of narrow numbers is never too large.
 use mathlib.Core.Path.{_≡_, refl, sym, ap, _∙_, subst}
-use mathlib.Core.Bool.{Bool, true, false, _&&_}
-use Prim.Native.Nat.{ℕ, _+_, _*_, _-_, _/_, _%_, _^_, _≤_, _<_}
+use mathlib.Core.Bool.{Bool, true, false, cond, _&&_}
+use Prim.Native.Nat.{ℕ, zero, suc, _+_, _*_, _-_, _/_, _%_, _^_, _≤_, _<_}
 use native.Mathlib.Decide.{decLt}
 use native.Mathlib.Omega.{arith}
-use lib.Dec.{T, eqb, leb}
-use lib.IntN.{ℤ, pos, natAbs, _+ℤ_, _*ℤ_}
-use Rattle.algebra.specs.Dyadic.{frac, evenℤ}
+use lib.Dec.{T, eqb, leb, lit≤}
+use lib.IntN.{ℤ, pos, negsuc, natAbs, _+ℤ_, _*ℤ_}
+use borrow.Author.Tests.{le-leb}
+use Rattle.algebra.specs.Dyadic.{frac, evenℤ, halfℤ}
 use Rattle.algebra.proofs.Signed.{limit, parity-add, scaled-even, abs-left}
 use Rattle.algebra.proofs.Quadratic.{ℤ√2i}
 use Rattle.algebra.proofs.Dyadic.{low-odd}
-use Rattle.exact.specs.Exact.{Number, numbers, numberHalves, Exact, exact, within, inRange, wellFormed}
+use Rattle.exact.specs.Exact.{Number, numbers, numberHalves, Exact, exact, lowest, within, inRange, wellFormed}
+use Rattle.exact.specs.Claims.{ProductsFit}
 use Rattle.exact.specs.Inner.{Within, scaled, roomNumerator}
-use Rattle.exact.proofs.Exact.{exactHalving, lowest-odd}
-use Rattle.exact.proofs.Align.{aligned, scaled-none}
-use Rattle.exact.proofs.Sizes.{and4, within-of, of-within, well-bound, well-within, well-lowest}
+use Rattle.exact.proofs.Exact.{exactHalving, mul-lowest, lowest-odd}
+use Rattle.exact.proofs.Align.{aligned, scaled-none, widen, mul-within}
+use Rattle.exact.proofs.Sizes.{and4, within-of, of-within, well-bound, well-within, well-lowest, narrow-bound, narrow-exponent}
 
 -- z times 2^d is at most 2^61 where z is at most 2^61 / 2^d
 pub can-scale : (z : Number) (d : ℕ) → within (roomNumerator / 2 ^ d) z ≡ within roomNumerator (scaled z d)
@@ -71,3 +73,32 @@ module _ (x y : Exact) (g : wellFormed x ≡ true) (h : wellFormed y ≡ true) (
           absurd (subst T (sym (ap (within roomNumerator) (scaled-none (x .num) (y .exp - x .exp) d) ∙ of-within roomNumerator (x .num) (well-within x g)) ∙ e) tt)
 
 -- ---- a product of narrow numbers is in range
+half-size : (z : ℤ) → natAbs (halfℤ z) ≤ natAbs z
+half-size (pos n) = omega arith
+half-size (negsuc n) = omega arith
+
+-- reduced numerators are no larger, nor is their exponent
+lowest-size : (m : ℕ) (z : Number) (e : ℕ) → Within m z → Within m (lowest z e .num) × (lowest z e .exp ≤ e)
+lowest-size m z zero w = (w, omega arith)
+lowest-size m z (suc e) w = go (numberHalves .even z) (lowest-size m (numberHalves .half z) e shrunk)
+  where
+    shrunk : Within m (numberHalves .half z)
+    shrunk = record {
+      w0 = omega (arith, half-size (z .re .re), w .w0);
+      w1 = omega (arith, half-size (z .re .im), w .w1);
+      w2 = omega (arith, half-size (z .im .re), w .w2);
+      w3 = omega (arith, half-size (z .im .im), w .w3);
+    }
+
+    go : (b : Bool) → Within m (lowest (numberHalves .half z) e .num) × (lowest (numberHalves .half z) e .exp ≤ e)
+        → Within m (cond b (lowest (numberHalves .half z) e) (frac z (suc e)) .num) × (cond b (lowest (numberHalves .half z) e) (frac z (suc e)) .exp ≤ suc e)
+    go true r = (r .0, omega (arith, r .1))
+    go false r = (w, omega arith)
+
+pub products-fit : ProductsFit
+products-fit x y g h =
+    let z = numbers ._⊗_ (x .num) (y .num) in
+    let e = x .exp + y .exp in
+    let s = lowest-size (2 ^ 60) z e (widen (6 * (2 ^ 28 * 2 ^ 28)) (2 ^ 60) z (lit≤ tt) (mul-within (2 ^ 28) (2 ^ 28) (x .num) (y .num) (narrow-bound x g) (narrow-bound y h))) in
+    let l : lowest z e .exp ≤ 60 = omega (arith, s .1, narrow-exponent x g, narrow-exponent y h) in
+    λ i. (of-within (2 ^ 60) (lowest z e .num) (s .0) i && le-leb (lowest z e .exp) 60 l i) && mul-lowest x y i

@@ -1,2 +1,3 @@
 pub mod Exact
 pub mod Inner
+pub mod Claims

@@ -95,7 +95,3 @@ stores-some (b ∷ bs) τ = go (sameBits τ (b .store)) refl (stores-some bs τ)
         → c || some (sameBits τ) (filterBy (other (b .store)) (stores bs)) ≡ c || some (having τ) bs
     go true e r = refl
     go false e r = others τ (b .store) (stores bs) e ∙ r
-
--- ---- the channel read back: the entry of the block with a store, and zero where there is none
-
-module _ (d : ℕ) (bs : List Branch) where
