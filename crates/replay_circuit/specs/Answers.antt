@@ -1,5 +1,5 @@
 -- What a text records of a call's answer, held against the answer.
-use mathlib.Core.Bool.{Bool, _&&_}
+use mathlib.Core.Bool.{_&&_}
 use mathlib.Core.List.{List, [], _∷_}
 use Prim.Native.Nat.{ℕ, _/_, _%_}
 use lib.Dec.{eqb}

@@ -1,8 +1,8 @@
 -- `text::read` meets its contract.
 use mathlib.Core.Path.{_≡_, sym, ap, _∙_}
-use Prim.Native.Nat.{ℕ, _+_, _-_}
+use Prim.Native.Nat.{_+_, _-_}
 use native.Mathlib.Omega.{arith}
-use lib.ListN.{length, drop, getD}
+use lib.ListN.{length, drop}
 use borrow.Author.Needs.{needs}
 use Rattle.replay.specs.declared.text.Digits.{Digits}
 use Rattle.replay.specs.Text.{wordFrom, wordAt}

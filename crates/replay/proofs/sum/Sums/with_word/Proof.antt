@@ -2,7 +2,6 @@
 use mathlib.Core.Path.{ap, _∙_}
 use Prim.Native.Nat.{ℕ, _/_, _%_}
 use mir.Facts.{toZ-ofZ}
-use Rattle.replay.specs.declared.sum.Sums.{Sums}
 use Rattle.replay.specs.Checksum.{shifted, withPart, withWord}
 use borrow.Author.Needs.{needs}
 use Rattle.replay.proofs.sum.Sums.with_word.Statement.{statement}
