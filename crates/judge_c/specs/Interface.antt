@@ -12,7 +12,7 @@ use Rattle.scalar.specs.declared.Scalar.{Scalar}
 use Rattle.scalar.specs.declared.Answer.{Answer}
 use Rattle.scalar.specs.declared.Verdict.{Verdict}
 use Rattle.scalar.specs.declared.Verdict.the-variants.{Accepted, TooLarge, Malformed}
-use Rattle.scalar.specs.Calls.{value}
+use Rattle.scalar.specs.Calls.{value, verdictNumber}
 use Rattle.cells.specs.Cells.{cellWords}
 use Rattle.circuit.specs.declared.limits.Limits.{Limits}
 use Rattle.channel.specs.declared.compare.Found.{Found}
@@ -54,8 +54,8 @@ twoScalars x y = cellWords (value x) ++ cellWords (value y)
 abbrev pub phaseNumber : Verdict → Phase → ℕ
 phaseNumber Accepted Equivalent = 103
 phaseNumber Accepted Different = 104
-phaseNumber TooLarge p = 9
-phaseNumber Malformed p = 10
+phaseNumber TooLarge p = verdictNumber TooLarge
+phaseNumber Malformed p = verdictNumber Malformed
 
 -- ---- scalars
 -- a word that is no exponent stands for the least number that is none

@@ -17,8 +17,8 @@ fn phase_number(a: PhaseAnswer) -> u32
             Phase::Equivalent => 103,
             Phase::Different => 104,
         },
-        Verdict::TooLarge => 9,
-        Verdict::Malformed => 10,
+        Verdict::TooLarge => v.number(),
+        Verdict::Malformed => v.number(),
     }
 }
 

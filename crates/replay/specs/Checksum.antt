@@ -16,9 +16,11 @@ shifted w = cond (leb (natAbs w) (2 ^ 61)) (natAbs (w +ℤ pos (2 ^ 61))) 0
 abbrev pub sums : ℕ → ℕ → Sums
 sums a b = record { a = a; b = b }
 
+-- both sums with one more term
 unfoldable pub withPart : Sums → ℕ → Sums
 withPart s v = sums ((s .a % prime * 1103515245 + v % 4294967296) % prime) ((s .b % prime * 362437069 + v % 4294967296) % prime)
 
+-- the low 31 bits of a word, then the others
 unfoldable pub withWord : Sums → ℤ → Sums
 withWord s w = withPart (withPart s (shifted w % 2147483648)) (shifted w / 2147483648)
 

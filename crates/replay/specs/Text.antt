@@ -26,7 +26,7 @@ signed d = cond (ltb (2 ^ 63 - 1) (d .size)) (cond (d .negative) (negℤ (pos (2
 abbrev pub wordOf : Digits → ℕ → Word
 wordOf d next = record { value = signed d; size = d .size; next = next }
 
--- the number whose other bytes are the first of a list, which begins at `at`
+-- a number read so far, then the bytes of the text from `at` on
 unfoldable pub wordFrom : Digits → ℕ → List ℕ → Word
 wordFrom d at [] = wordOf d at
 wordFrom d at (b ∷ bs) = cond (eqb b 32 || eqb b 10) (wordOf d (at + 1)) (wordFrom (withByte d b) (at + 1) bs)

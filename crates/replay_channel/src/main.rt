@@ -121,8 +121,8 @@ fn case(
     let bits = read(text, n.next);
     let bytes = read_bytes(text, bits.next, store);
     let part = read_u32s(text, bytes.next, words);
-    let s = fitting(bytes.len as u64, store.len());
-    let count = fitting(part.len as u64, words.len());
+    let s = bytes.len;
+    let count = part.len;
     let limits = bounds.limits;
     let c = Circuit {
         n: low(n.size),

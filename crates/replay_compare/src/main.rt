@@ -6,7 +6,6 @@ use replay::tally::Outcome;
 use replay::tally::Tally;
 use replay::text::low;
 use replay::text::read;
-use replay::words::fitting;
 use replay::words::read_bytes;
 use replay::words::read_u32s;
 use replay_circuit::difference::difference_agrees;
@@ -23,8 +22,8 @@ fn channel_of(
     let n = read(text, at);
     let bytes = read_bytes(text, n.next, store);
     let part = read_u32s(text, bytes.next, words);
-    let s = fitting(bytes.len as u64, store.len());
-    let count = fitting(part.len as u64, words.len());
+    let s = bytes.len;
+    let count = part.len;
     circuit_channel(
         low(n.size),
         low(s as u64),

@@ -6,7 +6,6 @@ use replay::record::check;
 use replay::tally::Outcome;
 use replay::tally::Tally;
 use replay::text::read;
-use replay::words::fitting;
 use replay::words::read_words;
 
 fn one_if_equivalent(p: Phase) -> u64 {
@@ -35,8 +34,8 @@ fn case(text: &[u8], at: usize, left: &mut [i64], right: &mut [i64]) -> Outcome 
     let l = read_words(text, d.next, left);
     let e = read(text, l.next);
     let r = read_words(text, e.next, right);
-    let m = fitting(l.len as u64, left.len());
-    let n = fitting(r.len as u64, right.len());
+    let m = l.len;
+    let n = r.len;
     let answer = equivalent_up_to_global_phase(
         d.size as usize,
         &left[..m],

@@ -37,7 +37,7 @@ fn case(
     let bounds = read_matrix_limits(text, at);
     let n = read(text, bounds.next);
     let part = read_u32s(text, n.next, words);
-    let count = fitting(part.len as u64, words.len());
+    let count = part.len;
     let after = read(text, part.next);
     let spent = read(text, after.next);
     let r = fitting(after.size, result.len());

@@ -24,7 +24,7 @@ fn part_agrees(text: &[u8], at: usize, channel: &[i64], store: &[u8]) -> Checked
 // The lookup of a store of the text.
 fn lookup_agrees(text: &[u8], at: usize, channel: &[i64], store: &mut [u8]) -> Checked {
     let bytes = read_bytes(text, at, store);
-    let n = fitting(bytes.len as u64, store.len());
+    let n = bytes.len;
     part_agrees(text, bytes.next, channel, &store[..n])
 }
 
@@ -61,8 +61,8 @@ fn case(
 ) -> Outcome {
     let l = read_words(text, at, left);
     let r = read_words(text, l.next, right);
-    let m = fitting(l.len as u64, left.len());
-    let n = fitting(r.len as u64, right.len());
+    let m = l.len;
+    let n = r.len;
     calls(text, r.next, &left[..m], &right[..n], result, store)
 }
 

@@ -1,8 +1,9 @@
 -- The lent parts lie within their buffers.
-use mathlib.Core.Path.{sym}
+use mathlib.Core.Path.{sym, ap}
 use native.Mathlib.Omega.{arith}
 use borrow.Author.Needs.{needs}
 use lib.Seq.{length-take-le}
+use Rattle.replay.specs.declared.words.Part.{Part}
 use Rattle.replay_channel.proofs.case.Statement.{statement}
 use Rattle.replay_channel.proofs.case.Tie as tie
 
@@ -21,12 +22,6 @@ read-bytes-requires c κs = search needs
 read-u32s-requires : tie.Need-read-u32s-requires
 read-u32s-requires c κs = search needs
 
-fitting-requires : tie.Need-fitting-requires
-fitting-requires c κs = search needs
-
-fitting-requires-2 : tie.Need-fitting-requires-2
-fitting-requires-2 c κs = search needs
-
 low-requires : tie.Need-low-requires
 low-requires c κs = search needs
 
@@ -34,16 +29,16 @@ low-requires-2 : tie.Need-low-requires-2
 low-requires-2 c κs = search needs
 
 slice-reshare-prefix-lent : tie.Need-slice-reshare-prefix-lent
-slice-reshare-prefix-lent c = search needs
+slice-reshare-prefix-lent c = omega (arith, ap (λ (p : Part). p .len) (c .before .before .before .before .before .before .before .before .before .read-bytes .ensures .0))
 
 slice-aggregate-lent : tie.Need-slice-aggregate-lent
-slice-aggregate-lent c = sym (length-take-le _ _ (omega arith))
+slice-aggregate-lent c = sym (length-take-le _ _ (omega (arith, ap (λ (p : Part). p .len) (c .before .before .before .before .before .before .before .before .before .before .read-bytes .ensures .0))))
 
 slice-reshare-prefix-lent-2 : tie.Need-slice-reshare-prefix-lent-2
-slice-reshare-prefix-lent-2 c = search needs
+slice-reshare-prefix-lent-2 c = omega (arith, ap (λ (p : Part). p .len) (c .before .before .before .before .before .before .read-u32s .ensures .0))
 
 slice-aggregate-lent-2 : tie.Need-slice-aggregate-lent-2
-slice-aggregate-lent-2 c = sym (length-take-le _ _ (omega arith))
+slice-aggregate-lent-2 c = sym (length-take-le _ _ (omega (arith, ap (λ (p : Part). p .len) (c .before .before .before .before .before .before .before .read-u32s .ensures .0))))
 
 lent-requires : tie.Need-lent-requires
 lent-requires c κs = search needs
@@ -75,8 +70,6 @@ case-spec =
     read-requires-2
     read-bytes-requires
     read-u32s-requires
-    fitting-requires
-    fitting-requires-2
     low-requires
     low-requires-2
     slice-reshare-prefix-lent

@@ -1,8 +1,9 @@
 -- The lent parts lie within their buffers.
-use mathlib.Core.Path.{sym}
+use mathlib.Core.Path.{sym, ap}
 use native.Mathlib.Omega.{arith}
 use borrow.Author.Needs.{needs}
 use lib.Seq.{length-take-le}
+use Rattle.replay.specs.declared.words.Part.{Part}
 use Rattle.replay_compare.proofs.channel_of.Statement.{statement}
 use Rattle.replay_compare.proofs.channel_of.Tie as tie
 
@@ -15,12 +16,6 @@ read-bytes-requires c κs = search needs
 read-u32s-requires : tie.Need-read-u32s-requires
 read-u32s-requires c κs = search needs
 
-fitting-requires : tie.Need-fitting-requires
-fitting-requires c κs = search needs
-
-fitting-requires-2 : tie.Need-fitting-requires-2
-fitting-requires-2 c κs = search needs
-
 low-requires : tie.Need-low-requires
 low-requires c κs = search needs
 
@@ -28,19 +23,19 @@ low-requires-2 : tie.Need-low-requires-2
 low-requires-2 c κs = search needs
 
 slice-reshare-prefix-circuit-channel : tie.Need-slice-reshare-prefix-circuit-channel
-slice-reshare-prefix-circuit-channel c = search needs
+slice-reshare-prefix-circuit-channel c = omega (arith, ap (λ (p : Part). p .len) (c .before .before .before .before .before .before .before .before .read-bytes .ensures .0))
 
 slice-aggregate-circuit-channel : tie.Need-slice-aggregate-circuit-channel
-slice-aggregate-circuit-channel c = sym (length-take-le _ _ (omega arith))
+slice-aggregate-circuit-channel c = sym (length-take-le _ _ (omega (arith, ap (λ (p : Part). p .len) (c .before .before .before .before .before .before .before .before .before .read-bytes .ensures .0))))
 
 defaults-requires : tie.Need-defaults-requires
 defaults-requires c κs = search needs
 
 slice-reshare-prefix-circuit-channel-2 : tie.Need-slice-reshare-prefix-circuit-channel-2
-slice-reshare-prefix-circuit-channel-2 c = search needs
+slice-reshare-prefix-circuit-channel-2 c = omega (arith, ap (λ (p : Part). p .len) (c .before .before .before .before .before .read-u32s .ensures .0))
 
 slice-aggregate-circuit-channel-2 : tie.Need-slice-aggregate-circuit-channel-2
-slice-aggregate-circuit-channel-2 c = sym (length-take-le _ _ (omega arith))
+slice-aggregate-circuit-channel-2 c = sym (length-take-le _ _ (omega (arith, ap (λ (p : Part). p .len) (c .before .before .before .before .before .before .read-u32s .ensures .0))))
 
 circuit-channel-requires : tie.Need-circuit-channel-requires
 circuit-channel-requires c κs = search needs
@@ -67,8 +62,6 @@ channel-of-spec =
     read-requires
     read-bytes-requires
     read-u32s-requires
-    fitting-requires
-    fitting-requires-2
     low-requires
     low-requires-2
     slice-reshare-prefix-circuit-channel

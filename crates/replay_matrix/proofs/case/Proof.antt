@@ -1,8 +1,9 @@
 -- The lent parts lie within their buffers.
-use mathlib.Core.Path.{sym}
+use mathlib.Core.Path.{sym, ap}
 use native.Mathlib.Omega.{arith}
 use borrow.Author.Needs.{needs}
 use lib.Seq.{length-take-le}
+use Rattle.replay.specs.declared.words.Part.{Part}
 use Rattle.replay_matrix.proofs.case.Statement.{statement}
 use Rattle.replay_matrix.proofs.case.Tie as tie
 
@@ -18,27 +19,21 @@ read-requires-2 c κs = search needs
 read-words-requires-2 : tie.Need-read-words-requires-2
 read-words-requires-2 c κs = search needs
 
-fitting-requires : tie.Need-fitting-requires
-fitting-requires c κs = search needs
-
-fitting-requires-2 : tie.Need-fitting-requires-2
-fitting-requires-2 c κs = search needs
-
 slice-reshare-prefix-equivalent-up-to-global-phase :
     tie.Need-slice-reshare-prefix-equivalent-up-to-global-phase
-slice-reshare-prefix-equivalent-up-to-global-phase c = search needs
+slice-reshare-prefix-equivalent-up-to-global-phase c = omega (arith, ap (λ (p : Part). p .len) (c .before .before .before .before .before .read-words .ensures .0))
 
 slice-aggregate-equivalent-up-to-global-phase :
     tie.Need-slice-aggregate-equivalent-up-to-global-phase
-slice-aggregate-equivalent-up-to-global-phase c = sym (length-take-le _ _ (omega arith))
+slice-aggregate-equivalent-up-to-global-phase c = sym (length-take-le _ _ (omega (arith, ap (λ (p : Part). p .len) (c .before .before .before .before .before .before .read-words .ensures .0))))
 
 slice-reshare-prefix-equivalent-up-to-global-phase-2 :
     tie.Need-slice-reshare-prefix-equivalent-up-to-global-phase-2
-slice-reshare-prefix-equivalent-up-to-global-phase-2 c = search needs
+slice-reshare-prefix-equivalent-up-to-global-phase-2 c = omega (arith, ap (λ (p : Part). p .len) (c .before .before .read-words2 .ensures .0))
 
 slice-aggregate-equivalent-up-to-global-phase-2 :
     tie.Need-slice-aggregate-equivalent-up-to-global-phase-2
-slice-aggregate-equivalent-up-to-global-phase-2 c = sym (length-take-le _ _ (omega arith))
+slice-aggregate-equivalent-up-to-global-phase-2 c = sym (length-take-le _ _ (omega (arith, ap (λ (p : Part). p .len) (c .before .before .before .read-words2 .ensures .0))))
 
 equivalent-up-to-global-phase-requires : tie.Need-equivalent-up-to-global-phase-requires
 equivalent-up-to-global-phase-requires c κs = search needs
@@ -63,8 +58,6 @@ case-spec =
     read-words-requires
     read-requires-2
     read-words-requires-2
-    fitting-requires
-    fitting-requires-2
     slice-reshare-prefix-equivalent-up-to-global-phase
     slice-aggregate-equivalent-up-to-global-phase
     slice-reshare-prefix-equivalent-up-to-global-phase-2

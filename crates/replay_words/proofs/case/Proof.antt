@@ -1,8 +1,9 @@
 -- The lent parts lie within their buffers.
-use mathlib.Core.Path.{sym}
+use mathlib.Core.Path.{sym, ap}
 use native.Mathlib.Omega.{arith}
 use borrow.Author.Needs.{needs}
 use lib.Seq.{length-take-le}
+use Rattle.replay.specs.declared.words.Part.{Part}
 use Rattle.replay_words.proofs.case.Statement.{statement}
 use Rattle.replay_words.proofs.case.Tie as tie
 
@@ -12,23 +13,17 @@ read-words-requires c κs = search needs
 read-words-requires-2 : tie.Need-read-words-requires-2
 read-words-requires-2 c κs = search needs
 
-fitting-requires : tie.Need-fitting-requires
-fitting-requires c κs = search needs
-
-fitting-requires-2 : tie.Need-fitting-requires-2
-fitting-requires-2 c κs = search needs
-
 slice-reshare-prefix-calls : tie.Need-slice-reshare-prefix-calls
-slice-reshare-prefix-calls c = search needs
+slice-reshare-prefix-calls c = omega (arith, ap (λ (p : Part). p .len) (c .before .before .before .before .read-words .ensures .0))
 
 slice-aggregate-calls : tie.Need-slice-aggregate-calls
-slice-aggregate-calls c = sym (length-take-le _ _ (omega arith))
+slice-aggregate-calls c = sym (length-take-le _ _ (omega (arith, ap (λ (p : Part). p .len) (c .before .before .before .before .before .read-words .ensures .0))))
 
 slice-reshare-prefix-calls-2 : tie.Need-slice-reshare-prefix-calls-2
-slice-reshare-prefix-calls-2 c = search needs
+slice-reshare-prefix-calls-2 c = omega (arith, ap (λ (p : Part). p .len) (c .before .before .read-words2 .ensures .0))
 
 slice-aggregate-calls-2 : tie.Need-slice-aggregate-calls-2
-slice-aggregate-calls-2 c = sym (length-take-le _ _ (omega arith))
+slice-aggregate-calls-2 c = sym (length-take-le _ _ (omega (arith, ap (λ (p : Part). p .len) (c .before .before .before .read-words2 .ensures .0))))
 
 calls-requires : tie.Need-calls-requires
 calls-requires c κs = search needs
@@ -54,8 +49,6 @@ case-spec =
     (tie.spec
     read-words-requires
     read-words-requires-2
-    fitting-requires
-    fitting-requires-2
     slice-reshare-prefix-calls
     slice-aggregate-calls
     slice-reshare-prefix-calls-2
