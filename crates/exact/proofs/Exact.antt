@@ -1,4 +1,4 @@
--- Laws of the exact numbers: sums, products, negatives and conjugates, and lowest forms, which are unique.
+-- Laws of the exact numbers: sums, products and conjugates, and lowest forms, which are unique.
 use mathlib.Core.Path.{_≡_, refl, sym, ap, ap₂, _∙_}
 use mathlib.Core.Bool.{Bool, true, false, cond, not, _&&_, _||_}
 use Prim.Native.Nat.{ℕ, zero, suc, _+_, _%_, _<_}
@@ -10,11 +10,11 @@ use borrow.Author.Tests.{not-true, ne-eqb}
 use Rattle.algebra.specs.Quadratic.{conjugate}
 use Rattle.algebra.specs.Dyadic.{frac, power, plus, evenℤ}
 use Rattle.algebra.proofs.Semi.{Semi, zero-mul}
-use Rattle.algebra.proofs.Ring.{ℤR, semi, mul-one, neg-neg as number-neg-neg}
+use Rattle.algebra.proofs.Ring.{ℤR, semi, mul-one}
 use Rattle.algebra.proofs.Quadratic.{ℤ√2, ℤ√2i, conj-add, conj-mul, conj-conj as number-conj-conj, conj-one}
 use Rattle.algebra.proofs.Parts.{abs-neg}
 use Rattle.algebra.proofs.Dyadic.{Halving, ℤ-halving, quad-halving, fractions, lowest-equal, equal-lowest, low-odd, map-low, map-plus, map-by}
-use Rattle.exact.specs.Exact.{Number, numbers, numberHalves, root2, Exact, exact, lowest, conj, half, isLowest}
+use Rattle.exact.specs.Exact.{Number, numbers, numberHalves, root2, Exact, exact, lowest, conj, isLowest}
 
 abbrev pub exactHalving : Halving ℤ√2i
 exactHalving = quad-halving ℤ√2 (ℤ√2 .ops .int (negsuc 0)) (quad-halving ℤR (pos 2) ℤ-halving)
@@ -76,7 +76,7 @@ plus-zero x h = exacts .add-comm x (exact .𝟘) ∙ zero-plus x h
 pub one-by : (x : Exact) → isLowest x ≡ true → exact ._⊗_ (exact .𝟙) x ≡ x
 one-by x h = ap₂ lowest (ℤ√2i .one-mul (x .num)) (N.zero-add (x .exp)) ∙ is-lowest x h
 
--- ---- negatives and conjugates
+-- ---- conjugates
 even-neg : (z : ℤ) → evenℤ (negℤ z) ≡ evenℤ z
 even-neg z = ap (λ (n : ℕ). eqb (n % 2) 0) (abs-neg z)
 
@@ -103,6 +103,3 @@ conj-𝟘 = refl
 
 pub conj-form : (x : Exact) → isLowest (conj x) ≡ isLowest x
 conj-form x = ap (λ (b : Bool). eqb (x .exp) 0 || not b) (conj-even (x .num))
-
-pub neg-neg : (x : Exact) → exact .neg (exact .neg x) ≡ x
-neg-neg x = ap (λ (z : Number). frac z (x .exp)) (number-neg-neg ℤ√2i (x .num))
