@@ -1,4 +1,4 @@
--- Laws of the exact numbers: sums, products, negatives and conjugates, and lowest forms, which are unique.
+-- Laws of the exact numbers: sums, products and conjugates, and lowest forms, which are unique.
 use mathlib.Core.Path.{_≡_, refl, sym, ap, ap₂, _∙_}
 use mathlib.Core.Bool.{Bool, true, false, cond, not, _&&_, _||_}
 use Prim.Native.Nat.{ℕ, zero, suc, _+_, _%_, _<_}
@@ -65,7 +65,7 @@ plus-zero x h = exacts .add-comm x (exact .𝟘) ∙ zero-plus x h
 pub one-by : (x : Exact) → isLowest x ≡ true → exact ._⊗_ (exact .𝟙) x ≡ x
 one-by x h = ap₂ lowest (ℤ√2i .one-mul (x .num)) (N.zero-add (x .exp)) ∙ is-lowest x h
 
--- ---- negatives and conjugates
+-- ---- conjugates
 even-neg : (z : ℤ) → evenℤ (negℤ z) ≡ evenℤ z
 even-neg z = ap (λ (n : ℕ). eqb (n % 2) 0) (abs-neg z)
 
