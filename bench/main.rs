@@ -10,17 +10,11 @@ mod rust;
 mod semantics;
 mod symbolic_angle;
 
+use calls::kind::{CNOT, H, MEASURE, RESET, T, X};
 use calls::{ARCHIVE, CEILINGS, Calls, PLAIN};
 use rust::Words;
 use std::hint::black_box;
 use std::time::{Duration, Instant};
-
-const H: u32 = 0;
-const X: u32 = 1;
-const T: u32 = 5;
-const CNOT: u32 = 8;
-const MEASURE: u32 = 12;
-const RESET: u32 = 13;
 
 struct Row {
     family: &'static str,

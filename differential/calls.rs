@@ -15,6 +15,19 @@ macro_rules! calls {
     };
 }
 
+/// Kinds of gates.
+pub mod kind {
+    pub const H: u32 = 0;
+    pub const X: u32 = 1;
+    pub const T: u32 = 5;
+    pub const RZ: u32 = 7;
+    pub const CNOT: u32 = 8;
+    pub const MEASURE: u32 = 12;
+    pub const RESET: u32 = 13;
+    pub const SX: u32 = 16;
+    pub const CH: u32 = 25;
+}
+
 calls! {
     circuit_channel(qubits: u32, bits: u32, store: *const u8, store_bytes: usize, gates: *const u32, gate_words: usize,
         limits: *const u64, result: *mut i64, result_words: usize, work: *mut i64, work_words: usize, index: *mut u64) -> u32,

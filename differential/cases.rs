@@ -1,5 +1,6 @@
 //! The cases: each set is a number of cases and a rule from a case's number and a seed to the case.
 use crate::calls::CEILINGS;
+use crate::calls::kind::{CH, CNOT, H, MEASURE, RESET, RZ, SX, T};
 use crate::checks::{Case, Operation, weight};
 use crate::lent::Rng;
 use crate::rust::Words;
@@ -13,14 +14,6 @@ pub struct Set {
     pub case: fn(u64, &mut Rng) -> Case,
 }
 
-const H: u32 = 0;
-const T: u32 = 5;
-const RZ: u32 = 7;
-const CNOT: u32 = 8;
-const MEASURE: u32 = 12;
-const RESET: u32 = 13;
-const SX: u32 = 16;
-const CH: u32 = 25;
 const ONE: [u32; 11] = [0, 1, 2, 3, 4, 5, 6, 15, 16, 13, 7];
 const UNSUPPORTED: [u32; 8] = [14, 17, 18, 21, 22, 23, 24, 7];
 const PLAIN: [u32; 18] = [0, 1, 2, 3, 4, 5, 6, 7, 8, 9, 10, 11, 15, 16, 19, 20, 25, 26];

@@ -617,29 +617,23 @@ fn smaller_cell(x: &[i64; 5]) -> Vec<[i64; 5]> {
     out
 }
 
+/// A call on fewer gates, with no limits of its own, or with buffers of just the size.
+fn smaller_call(words: &Words, limits: [u64; 6], extra: (i64, i64), case: fn(Words, [u64; 6], (i64, i64)) -> Case) -> Vec<Case> {
+    let mut out: Vec<Case> = smaller_words(words).into_iter().map(|words| case(words, limits, extra)).collect();
+    if limits != CEILINGS {
+        out.push(case(words.clone(), CEILINGS, extra));
+    }
+    if extra != (0, 0) {
+        out.push(case(words.clone(), limits, (0, 0)));
+    }
+    out
+}
+
 fn smaller(case: &Case) -> Vec<Case> {
     use Operation::*;
     match case {
-        Case::Channel { words, limits, extra } => {
-            let mut out: Vec<Case> = smaller_words(words).into_iter().map(|words| Case::Channel { words, limits: *limits, extra: *extra }).collect();
-            if *limits != CEILINGS {
-                out.push(Case::Channel { words: words.clone(), limits: CEILINGS, extra: *extra });
-            }
-            if *extra != (0, 0) {
-                out.push(Case::Channel { words: words.clone(), limits: *limits, extra: (0, 0) });
-            }
-            out
-        }
-        Case::Unitary { words, limits, extra } => {
-            let mut out: Vec<Case> = smaller_words(words).into_iter().map(|words| Case::Unitary { words, limits: *limits, extra: *extra }).collect();
-            if *limits != CEILINGS {
-                out.push(Case::Unitary { words: words.clone(), limits: CEILINGS, extra: *extra });
-            }
-            if *extra != (0, 0) {
-                out.push(Case::Unitary { words: words.clone(), limits: *limits, extra: (0, 0) });
-            }
-            out
-        }
+        Case::Channel { words, limits, extra } => smaller_call(words, *limits, *extra, |words, limits, extra| Case::Channel { words, limits, extra }),
+        Case::Unitary { words, limits, extra } => smaller_call(words, *limits, *extra, |words, limits, extra| Case::Unitary { words, limits, extra }),
         Case::Compare { left, right } => {
             let lefts = smaller_words(left).into_iter().map(|left| Case::Compare { left, right: right.clone() });
             let rights = smaller_words(right).into_iter().map(|right| Case::Compare { left: left.clone(), right });

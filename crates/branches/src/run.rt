@@ -44,7 +44,7 @@ fn outcome_bit(g: GateWords) -> u32
 }
 
 // Send the `count` branches at `from` to their products with the operators of the gate at `at`, whose rows are written to the two slots; answers how many they are.
-pub fn step_gate(
+fn step_gate(
     work: &mut [i64],
     gates: &[u32],
     at: usize,

@@ -26,7 +26,7 @@ pub fn is_alive(work: &[i64], at: usize, d: usize, j: usize) -> bool
 }
 
 // Whether branch j survives with this store.
-pub fn has_store(work: &[i64], at: usize, d: usize, j: usize, store: u64) -> bool
+fn has_store(work: &[i64], at: usize, d: usize, j: usize, store: u64) -> bool
     requires { ⌜ Branch (now work) at d j ⌝ }
     ensures { λ r. ⌜ r ≡ has (now (work .entry)) at d store j ⌝ }
 {
