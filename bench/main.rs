@@ -283,7 +283,7 @@ fn main() {
     }
     println!("\nThe floor: writing the result's words once by memset; for compare, reading both channels' words once.");
     println!("\nGrowth with n: the archive's time for each of the d^4·V entries of a channel, in ns. It is no worse than the work where it does not rise, or");
-    println!("rises no faster than the floor's (a result that no longer fits a cache).\n");
+    println!("rises no faster than the floor's (a result that no longer fits a cache). A dash: no such row; six h and measure on 4 qubits are over the limits.\n");
     println!("| circuit | n = 1 | 2 | 3 | 4 |\n|---|---|---|---|---|");
     let mut misses: Vec<String> = lines.iter().flat_map(|l| l.misses()).collect();
     for (family, points) in &growth {
