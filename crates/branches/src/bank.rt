@@ -1,7 +1,8 @@
+// Branches in words: where they lie, the first one, and a step of all of them.
 use super::apply::apply_operator;
 use super::store::pack;
 use super::store::write_store;
-use matrix::products::identity_into;
+use matrix::identity::identity_into;
 ghost use mathlib.Core.Path.{_≡_};
 ghost use Prim.Native.Nat.{_+_, _*_, _≤_, min};
 ghost use lib.ListN.{length};

@@ -1,3 +1,4 @@
+// A circuit's gates, run one after the other on the branches.
 use super::bank::branch_size;
 use super::bank::start_branch;
 use super::bank::step;

@@ -1,3 +1,4 @@
+// A branch's store: packed from bytes, and written with an outcome.
 ghost use mathlib.Core.Path.{_≡_};
 ghost use mathlib.Core.Bool.{true};
 ghost use Prim.Native.Nat.{_+_, _<_, _≤_, _^_, _-_};

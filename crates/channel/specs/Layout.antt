@@ -124,10 +124,14 @@ bitsAt l = natAbs (word l 1)
 abbrev pub countAt : List ℤ → ℕ
 countAt l = natAbs (word l 2)
 
+-- the block of the record at `at`
+abbrev pub blockAt : List ℤ → ℕ → Block
+blockAt l at = record { store = storeAt l at; entry = entryAt l at }
+
 -- n blocks along the chain from index `at` on
 abbrev pub chain : List ℤ → ℕ → ℕ → List Block
 chain l zero at = []
-chain l (suc n) at = record { store = storeAt l at; entry = entryAt l at } ∷ chain l n (natAbs (word l at))
+chain l (suc n) at = blockAt l at ∷ chain l n (natAbs (word l at))
 
 abbrev pub readBack : List ℤ → List Block
 readBack l = chain l (countAt l) (natAbs (word l 3))

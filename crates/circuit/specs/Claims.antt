@@ -1,4 +1,4 @@
--- Circuits of the bench, with document 01's verdicts on them.
+-- Examples of circuits, with document 01's verdicts on them.
 use mathlib.Core.Bool.{Bool, _&&_}
 use mathlib.Core.List.{List, [], _∷_, _++_}
 use Prim.Native.Nat.{ℕ, zero, suc, _^_}

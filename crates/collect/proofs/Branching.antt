@@ -25,7 +25,7 @@ use Rattle.kraus.proofs.Dense.{tabulate-length, tabulate-at}
 use Rattle.kraus.proofs.Stores.{other}
 use Rattle.channel.specs.Layout.{bits, side, channelWords}
 use Rattle.collect.specs.Bank.{storeOf, entry, survives, has, isFirst, starts, overlaps, storesOf, blockOf, bankIn}
-use Rattle.collect.specs.Delivered.{blockAt, branchesWords}
+use Rattle.collect.specs.Delivered.{blockNo, branchesWords}
 use Rattle.collect.proofs.Whole.{channel-same}
 
 -- ---- stores as numbers
@@ -232,9 +232,9 @@ store-count l at d m n narrow = sym (ap length (stores-is l at d m n narrow n (o
 pub channel-is : (l : List ℤ) (at d m n : ℕ) → ((j : ℕ) → j < n → storeOf l at d j < 2 ^ m)
     → channelWords d m (length (storesOf l at d n)) (λ (j : ℕ). blockOf l at d n (getD (storesOf l at d n) j 0)) ≡ branchesWords d m (survivors (bankIn l at d m n))
 channel-is l at d m n narrow =
-    channel-same d m (length ss) _ (blockAt d bs) (λ j h. sym (ap fromBits (store-is j h) ∙ bits-back m (getD ss j 0) (low j h))) (λ j k h q. sym (ap (λ (τ : Store). block bs τ (k / side d) (k % side d)) (store-is j h)
+    channel-same d m (length ss) _ (blockNo d bs) (λ j h. sym (ap fromBits (store-is j h) ∙ bits-back m (getD ss j 0) (low j h))) (λ j k h q. sym (ap (λ (τ : Store). block bs τ (k / side d) (k % side d)) (store-is j h)
     ∙ block-is l at d m n narrow n (getD ss j 0) (k / side d) (k % side d) (omega arith) (low j h) (row-lt k (side d) q) (column-lt k (side d) q)))
-    ∙ ap (λ (k : ℕ). channelWords d m k (blockAt d bs)) (store-count l at d m n narrow)
+    ∙ ap (λ (k : ℕ). channelWords d m k (blockNo d bs)) (store-count l at d m n narrow)
   where
     ss : List ℕ
     ss = storesOf l at d n

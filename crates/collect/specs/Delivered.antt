@@ -10,14 +10,14 @@ use Rattle.channel.specs.Layout.{Block, headerSize, recordSize, side, channelWo
 use Rattle.collect.specs.Bank.{storeOf, storesOf, Bank}
 
 -- block j of a list of surviving branches, for matrices of d rows and columns
-abbrev pub blockAt : ℕ → List Branch → ℕ → Block
-blockAt d bs j =
+abbrev pub blockNo : ℕ → List Branch → ℕ → Block
+blockNo d bs j =
     let τ = getD (stores bs) j [] in
     record { store = fromBits τ; entry = λ k. block bs τ (k / side d) (k % side d) }
 
 -- the words of the channel of a list of surviving branches, with m classical bits
 abbrev pub branchesWords : ℕ → ℕ → List Branch → List ℤ
-branchesWords d m bs = channelWords d m (length (stores bs)) (blockAt d bs)
+branchesWords d m bs = channelWords d m (length (stores bs)) (blockNo d bs)
 
 -- a result buffer with these words at its start
 abbrev pub overwritten : List ℤ → List ℤ → List ℤ

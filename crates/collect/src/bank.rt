@@ -1,3 +1,4 @@
+// A bank's branches, read: their stores, and which survive.
 use cells::CELL;
 use channel::layout::store_from;
 use matrix::words::is_zero;

@@ -1,3 +1,4 @@
+// The block of one store.
 use super::bank::branch_store;
 use super::bank::find_branch;
 use super::overlaps::add_overlaps;

@@ -1,3 +1,4 @@
+// The channel of a bank's surviving branches, written as words.
 pub mod bank;
 pub mod blocks;
 pub mod links;

@@ -1,3 +1,4 @@
+// Overlaps of a matrix's entries, written as a block or added to one.
 use cells::products::fma;
 use cells::read_cell;
 use cells::write_cell;

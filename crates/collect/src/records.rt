@@ -1,3 +1,4 @@
+// A record for each store, in the order of its first surviving branch.
 use super::bank::is_alive;
 use super::bank::is_first;
 use super::blocks::write_block;

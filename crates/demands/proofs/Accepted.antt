@@ -32,7 +32,7 @@ use Rattle.circuit.specs.Questions.{storeFits, sizesOf, withinLimits, roomFor}
 use Rattle.circuit.proofs.Products.{fourth-is}
 use Rattle.channel.specs.Layout.{side, recordSize}
 use Rattle.channel.specs.WellFormed as wf
-use Rattle.collect.specs.Delivered.{blockAt}
+use Rattle.collect.specs.Delivered.{blockNo}
 use Rattle.demands.specs.Delivered.{circuitWords}
 use Rattle.demands.specs.Call.{accepts}
 use Rattle.demands.specs.Asked.{numberQuestions, asked}
@@ -128,7 +128,7 @@ module _ {n m : ℕ} {σ : List ℕ} {gs : List Gate} {result work : ℕ} (s : S
   block-fine τ i j p q = block-fits (subst (λ (hs : List Gate). Enough 25 n (branches n σ hs)) (take-length gs) (enough (length gs)))
       (sub-filter alive (sub-whole (branches n σ gs))) τ i j p q .well-formed
 
-  entry-fine : (j k : ℕ) → j < count → k < side d * side d → scalar.wellFormed (blockAt d bs j .entry k) ≡ true
+  entry-fine : (j k : ℕ) → j < count → k < side d * side d → scalar.wellFormed (blockNo d bs j .entry k) ≡ true
   entry-fine j k p q = block-fine (getD (stores bs) j []) (k / side d) (k % side d) (div-lt-iff-lt-mul some .1 q) (mod-lt k some)
     where
       some : 0 < side d
@@ -140,7 +140,7 @@ module _ {n m : ℕ} {σ : List ℕ} {gs : List Gate} {result work : ℕ} (s : S
   dims : wf.isDim (pos (2 ^ n)) ≡ true
   dims = holds-true (exhaust (λ (k : ℕ). wf.isDim (pos (2 ^ k))) 5 tt n (omega (arith, s .qubit-count)))
 
-  pub writable : Writable (2 ^ n) m (length (stores (survivors (branches n σ gs)))) (blockAt (2 ^ n) (survivors (branches n σ gs)))
+  pub writable : Writable (2 ^ n) m (length (stores (survivors (branches n σ gs)))) (blockNo (2 ^ n) (survivors (branches n σ gs)))
   writable = blocks-writable d m bs dims (s .bit-count) store-words entry-fine
 
   -- the whole of it fits the result
@@ -150,7 +150,7 @@ module _ {n m : ℕ} {σ : List ℕ} {gs : List Gate} {result work : ℕ} (s : S
       by (2 ^ n) count (2 ^ min (total splits gs) (marks m writes gs)) (circuitWords n m σ gs) few long (s .room)
     where
       long : length (circuitWords n m σ gs) ≡ 4 + count * recordSize (side d)
-      long = let e = length-written d m count (blockAt d bs) [] in omega (arith, length-append (circuitWords n m σ gs) [])
+      long = let e = length-written d m count (blockNo d bs) [] in omega (arith, length-append (circuitWords n m σ gs) [])
 
       by : (d c v : ℕ) (ws : List ℤ) → c ≤ v → length ws ≡ 4 + c * recordSize (side d) → resultWords v d ≤ result → length ws ≤ result
       by d c v ws h e r =

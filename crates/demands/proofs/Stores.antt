@@ -21,7 +21,7 @@ use Rattle.kraus.proofs.Stores.{other, Distinct, stores-distinct, stores-of, bl
 use Rattle.channel.specs.Layout.{side, bits}
 use Rattle.channel.specs.WellFormed.{isDim}
 use Rattle.channel.specs.Claims.{Writable}
-use Rattle.collect.specs.Delivered.{blockAt}
+use Rattle.collect.specs.Delivered.{blockNo}
 use Rattle.collect.proofs.Branching.{bits-word}
 use Rattle.demands.proofs.Reading.{Covers, range, range-map}
 
@@ -40,7 +40,7 @@ apart (σ ∷ ss) h (suc i) zero l m e =
 apart (σ ∷ ss) h (suc i) (suc j) l m e = ap suc (apart ss (h .1) i j (omega arith) (omega arith) e)
 
 pub blocks-writable : (d m : ℕ) (bs : List Branch) → isDim (pos d) ≡ true → m ≤ 64 → All (Word m) (stores bs)
-    → ((j k : ℕ) → j < length (stores bs) → k < side d * side d → wellFormed (blockAt d bs j .entry k) ≡ true) → Writable d m (length (stores bs)) (blockAt d bs)
+    → ((j k : ℕ) → j < length (stores bs) → k < side d * side d → wellFormed (blockNo d bs j .entry k) ≡ true) → Writable d m (length (stores bs)) (blockNo d bs)
 blocks-writable d m bs dim few h fine = record {
   dim = dim;
   few = few;
@@ -65,7 +65,7 @@ all-range : (P : Store → Type 0) (ss : List Store) → ((i : ℕ) → i < leng
 all-range P [] h = tt
 all-range P (σ ∷ ss) h = (h 0 (omega arith), all-range P ss (λ i l. h (suc i) (omega arith)))
 
-pub covers : (d : ℕ) {bs cs : List Branch} → Perm bs cs → Covers (side d) (length (stores bs)) (blockAt d bs) (length (stores cs)) (blockAt d cs)
+pub covers : (d : ℕ) {bs cs : List Branch} → Perm bs cs → Covers (side d) (length (stores bs)) (blockNo d bs) (length (stores cs)) (blockNo d cs)
 covers d {bs} {cs} p j l =
     let f : Place (stores cs) (getD (stores bs) j []) = all-getD (Place (stores cs)) (stores bs)
     (all-back (Place (stores cs)) (stores-of p) (all-range (Place (stores cs)) (stores cs) (λ i k. record { place = i; below = k; is = refl }))) j l [] in
@@ -79,13 +79,13 @@ covers d {bs} {cs} p j l =
     }
 
 -- the numbers of the stores, by their places
-numbered : (d : ℕ) (bs : List Branch) → map (λ (j : ℕ). blockAt d bs j .store) (range 0 (length (stores bs))) ≡ map fromBits (stores bs)
+numbered : (d : ℕ) (bs : List Branch) → map (λ (j : ℕ). blockNo d bs j .store) (range 0 (length (stores bs))) ≡ map fromBits (stores bs)
 numbered d bs =
     sym (map-map fromBits (λ (j : ℕ). getD (stores bs) j []) (range 0 (length (stores bs))))
     ∙ ap (map fromBits) (range-map [] (stores bs) 0 (λ (j : ℕ). getD (stores bs) j []) (λ k h. let e : 0 + k ≡ k = omega arith in ap (λ (j : ℕ). getD (stores bs) j []) e))
 
 pub stores-perm : (d : ℕ) {bs cs : List Branch} → Perm bs cs
-    → Perm (map (λ (j : ℕ). blockAt d bs j .store) (range 0 (length (stores bs)))) (map (λ (j : ℕ). blockAt d cs j .store) (range 0 (length (stores cs))))
+    → Perm (map (λ (j : ℕ). blockNo d bs j .store) (range 0 (length (stores bs)))) (map (λ (j : ℕ). blockNo d cs j .store) (range 0 (length (stores cs))))
 stores-perm d {bs} {cs} p = join (perm-path (numbered d bs)) (join (map-of fromBits (stores-of p)) (perm-path (sym (numbered d cs))))
 
 -- ---- a test of the stores is one of the branches

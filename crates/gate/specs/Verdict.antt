@@ -32,10 +32,10 @@ gateVerdict n m g = firstFault (formed g) (placed n m g) (supported g)
 abbrev pub onQubits : ℕ → Gate → Bool
 onQubits n g = every (λ (q : ℕ). ltb q n) (qubits g) && distinct (qubits g)
 
-abbrev pub unitaryVerdict : ℕ → Gate → GateVerdict
-unitaryVerdict n g = firstFault (formed g) (onQubits n g) (supported g && eqb (splits g) 0)
+abbrev pub unitaryGateVerdict : ℕ → Gate → GateVerdict
+unitaryGateVerdict n g = firstFault (formed g) (onQubits n g) (supported g && eqb (splits g) 0)
 
 -- by the call that asks
 abbrev pub faultOf : Asking → ℕ → Gate → GateVerdict
 faultOf (Channel m) n g = gateVerdict n m g
-faultOf Unitary n g = unitaryVerdict n g
+faultOf Unitary n g = unitaryGateVerdict n g

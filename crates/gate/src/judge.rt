@@ -6,7 +6,7 @@ ghost use lib.Dec.{eqb};
 ghost use lib.ListN.{length, drop};
 ghost use Rattle.algebra.specs.Lists.{every};
 ghost use Rattle.gate.specs.Gate.{gateAt, arity, elem, bits, formed, placed, supported, weight, splits};
-ghost use Rattle.gate.specs.Verdict.{gateOf, firstFault, onQubits, gateVerdict, unitaryVerdict, faultOf};
+ghost use Rattle.gate.specs.Verdict.{gateOf, firstFault, onQubits, gateVerdict, unitaryGateVerdict, faultOf};
 
 // The five words of a gate.
 pub struct GateWords {
@@ -178,7 +178,7 @@ impl GateWords {
 
     // Questions 4 to 6 as circuit_unitary asks them.
     pub fn judge_unitary(self, n: u32) -> GateVerdict
-        ensures { λ r. ⌜ r ≡ unitaryVerdict n (gateOf self) ⌝ }
+        ensures { λ r. ⌜ r ≡ unitaryGateVerdict n (gateOf self) ⌝ }
     {
         let formed = self.is_formed();
         let placed = self.is_on_qubits(n);

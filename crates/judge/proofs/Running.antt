@@ -21,7 +21,7 @@ use Rattle.circuit.specs.declared.limits.Limits.{Limits}
 use Rattle.circuit.specs.Sizes.{workWords}
 use Rattle.circuit.proofs.Products.{square-is}
 use Rattle.collect.specs.Bank.{bankIn}
-use Rattle.collect.specs.Delivered.{blockAt, branchesWords, overwritten, Deliverable}
+use Rattle.collect.specs.Delivered.{blockNo, branchesWords, overwritten, Deliverable}
 use Rattle.collect.proofs.Held.{Held, circuit-held, bank-is, deliverable}
 use Rattle.demands.specs.Delivered.{circuitWords, zeroed}
 use Rattle.demands.specs.Call.{accepts, resultAfter, workAfter}
@@ -95,7 +95,7 @@ module _ {n m : ℕ} {σ : List ℕ} {ws : List ℕ} {r w : List ℤ} (a : Accep
 
       pub delivers : Deliverable r b at d m k
       delivers = subst₂ (λ (d k : ℕ). Deliverable r b at d m k) (sym e) (ran .counted)
-          (deliverable held r (subst (λ (x : ℕ). x ≤ length r) (length-channel (2 ^ n) m (length (stores (survivors bs))) (blockAt (2 ^ n) (survivors bs)) []) (channel-room known)))
+          (deliverable held r (subst (λ (x : ℕ). x ≤ length r) (length-channel (2 ^ n) m (length (stores (survivors bs))) (blockNo (2 ^ n) (survivors bs)) []) (channel-room known)))
 
       pub delivered : {q : List ℤ} → q ≡ overwritten (branchesWords d m (survivors (bankIn b at d m k))) r → q ≡ overwritten (circuitWords n m σ (gatesOf ws)) r
       delivered h =

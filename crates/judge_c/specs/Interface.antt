@@ -20,7 +20,7 @@ use Rattle.channel.specs.declared.compare.Found.the-variants.{Refused, Same, Di
 use Rattle.matrix.specs.declared.Phase.{Phase}
 use Rattle.matrix.specs.declared.Phase.the-variants.{Equivalent, Different}
 
--- six words, in the order of the document
+-- six words, in the order of docs/FORMATS.md
 abbrev pub limitsOf : List ℕ → Limits
 limitsOf l = record {
   «max_qubits» = getD l 0 0;

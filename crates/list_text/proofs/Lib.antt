@@ -1,4 +1,4 @@
 pub mod Answers
 pub mod Inputs
 pub mod Printing
-pub mod Bench
+pub mod Examples

@@ -1,3 +1,3 @@
 pub mod Answer
 pub mod Claims
-pub mod Bench
+pub mod Examples

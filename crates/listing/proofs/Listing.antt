@@ -15,13 +15,13 @@ use Rattle.algebra.proofs.Signed.{reads}
 use Rattle.exact.specs.Exact.{Exact}
 use Rattle.cells.specs.Cells.{cellWords, isZero}
 use Rattle.algebra.proofs.Tests.{and-split}
-use Rattle.channel.specs.Layout.{bits, side, word, storeAt, chain, dimAt, bitsAt, readBack}
+use Rattle.channel.specs.Layout.{bits, side, word, storeAt, chain, dimAt, bitsAt, readBack, blockAt}
 use Rattle.channel.specs.WellFormed.{storeOk, rises, entriesOk, wellFormed, shapeAt}
 use Rattle.channel.specs.declared.Shape.{Shape}
 use Rattle.channel.specs.WellFormed.{Onward}
 use Rattle.channel.proofs.Chain.{on-record}
 use Rattle.listing.specs.Page.{Page, Written, decimal}
-use Rattle.listing.specs.Listing.{newline, spaced, firstLine, storeBits, entryLine, entryLines, blockAt, blockLines, listing, listingOf}
+use Rattle.listing.specs.Listing.{newline, spaced, firstLine, storeBits, entryLine, entryLines, blockLines, listing, listingOf}
 use Rattle.listing.proofs.Writing.{text}
 
 -- ---- bits

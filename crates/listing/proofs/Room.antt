@@ -13,12 +13,12 @@ use lib.IntN.{ℤ, pos, negsuc, natAbs}
 use Rattle.algebra.specs.Lists.{concatMap}
 use Rattle.exact.specs.Exact.{Exact}
 use Rattle.cells.specs.Cells.{cellWords, isZero}
-use Rattle.channel.specs.Layout.{Block, recordSize, side, bits, word, dimAt, bitsAt, countAt, chain}
+use Rattle.channel.specs.Layout.{Block, recordSize, side, bits, word, dimAt, bitsAt, countAt, chain, blockAt}
 use Rattle.channel.specs.WellFormed.{wellFormed}
 use Rattle.channel.proofs.Judging.{formed}
 use Rattle.circuit_text.specs.Text.{ascii}
 use Rattle.listing.specs.Page.{page, write, digits, decimal, signed}
-use Rattle.listing.specs.Listing.{newline, spaced, firstLine, storeBits, entryLine, entryLines, blockLines, blockAt, listing}
+use Rattle.listing.specs.Listing.{newline, spaced, firstLine, storeBits, entryLine, entryLines, blockLines, listing}
 use Rattle.listing.specs.Claims.{Whole, Short, ShortRefusal, maxListing}
 use Rattle.listing.proofs.Writing.{put-in}
 

@@ -6,7 +6,7 @@ use lib.IntN.{ℤ, pos}
 use Rattle.algebra.specs.Lists.{concatMap}
 use Rattle.exact.specs.Exact.{Exact}
 use Rattle.cells.specs.Cells.{cellWords, isZero}
-use Rattle.channel.specs.Layout.{Block, side, bits, storeAt, entryAt, dimAt, bitsAt, countAt, readBack}
+use Rattle.channel.specs.Layout.{Block, side, bits, dimAt, bitsAt, countAt, readBack}
 use Rattle.channel.specs.WellFormed.{wellFormed}
 use Rattle.circuit_text.specs.Text.{ascii}
 use Rattle.listing.specs.Page.{decimal, signed}
@@ -40,10 +40,6 @@ entryLines w (suc n) entry = entryLines w n entry ++ entryLine (n / w) (n % w) (
 
 abbrev pub blockLines : ℕ → ℕ → Block → List ℕ
 blockLines m w b = storeLine m (b .store) ++ entryLines w (w * w) (b .entry)
-
--- the block of the record at `at`
-abbrev pub blockAt : List ℤ → ℕ → Block
-blockAt l at = record { store = storeAt l at; entry = entryAt l at }
 
 -- the blocks in the order of the chain
 abbrev pub listing : List ℤ → List ℕ

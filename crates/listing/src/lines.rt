@@ -15,10 +15,10 @@ ghost use Prim.Native.Nat.{_+_, _*_, _≤_};
 ghost use lib.ListN.{length};
 ghost use Rattle.algebra.specs.Lists.{concatMap};
 ghost use Rattle.cells.specs.Cells.{cellSize, cellAt, cellWords, exponentAt, wellFormedAt};
-ghost use Rattle.channel.specs.Layout.{recordSize, side, entryAt, dimAt, bitsAt, countAt, readBack};
+ghost use Rattle.channel.specs.Layout.{recordSize, side, entryAt, blockAt, dimAt, bitsAt, countAt, readBack};
 ghost use Rattle.channel.specs.WellFormed.{storeOk, entriesOk, wellFormed};
 ghost use Rattle.listing.specs.Page.{page, write, Written};
-ghost use Rattle.listing.specs.Listing.{spaced, firstLine, storeBits, storeLine, entryLine, entryLines, blockAt, blockLines, listingOf, refusalLine, inputLine};
+ghost use Rattle.listing.specs.Listing.{spaced, firstLine, storeBits, storeLine, entryLine, entryLines, blockLines, listingOf, refusalLine, inputLine};
 
 // The bits of a store from bit 0 on, or "-" where there are none.
 fn put_bits(out: &mut [u8], at: usize, store: u64, m: u32) -> usize

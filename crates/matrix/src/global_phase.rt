@@ -1,3 +1,4 @@
+// Equality up to a global phase.
 use super::Phase;
 use super::PhaseAnswer;
 use super::words::is_zero;

@@ -1,8 +1,9 @@
+// Matrices as words.
 use scalar::Verdict;
 
 pub mod global_phase;
+pub mod identity;
 pub mod linear;
-pub mod products;
 pub mod words;
 
 pub enum Phase {

@@ -1,3 +1,4 @@
+// Words cleared, copied, and tested for zero.
 use cells::zero_at;
 ghost use mathlib.Core.Path.{_≡_};
 ghost use Prim.Native.Nat.{ℕ, _+_, _*_, _≤_};

@@ -1,4 +1,4 @@
--- All rows of the bench hold, by computation.
+-- All examples hold, by computation.
 use mathlib.Core.Path.{refl}
 use Rattle.algebra.specs.Words.{blocks, joined}
 use Rattle.channel.specs.Layout.{before}
@@ -7,8 +7,8 @@ use Rattle.listing.specs.Page.{digits}
 use Rattle.listing.specs.Listing.{storeBits, entryLines}
 use Rattle.circuit_text.specs.Text.{bodyLength, pieces, value, isNumber}
 use Rattle.circuit_text.specs.Input.{isInput, isInputText}
-use Rattle.list_text.specs.Bench.{Bench}
+use Rattle.list_text.specs.Examples.{Examples}
 
-pub bench : Bench
+pub examples : Examples
 unfolding blocks joined before wellFormed chainOk digits storeBits entryLines bodyLength pieces value isNumber isInput isInputText
-bench = refl
+examples = refl

@@ -1,4 +1,4 @@
--- Document 01's circuits of the bench that are marked P, as rows of one list, and the claim that all of them hold. Scalar calls and verdicts are listed
+-- Document 01's examples that are marked P, with more at the edges, as rows of one list, and the claim that all of them hold. Scalar calls and verdicts are listed
 -- where their definitions are; the others are texts, with the whole answer of the program.
 use mathlib.Core.Path.{_≡_}
 use mathlib.Core.Bool.{Bool, true}
@@ -44,5 +44,5 @@ listings =
 abbrev pub rows : List Row
 rows = map scalar scalars.rows ++ map verdict circuits.rows ++ listings
 
-abbrev pub Bench : Type 0
-Bench = every holds rows ≡ true
+abbrev pub Examples : Type 0
+Examples = every holds rows ≡ true

@@ -1,4 +1,4 @@
--- `matrix::products::identity_into` meets its contract.
+-- `matrix::identity::identity_into` meets its contract.
 use mathlib.Core.Path.{ap}
 use Prim.Native.Nat.{ℕ, _*_, _-_, _/_, _%_}
 use native.Mathlib.Nat.{le-refl}
@@ -11,8 +11,8 @@ use Rattle.scalar.specs.Calls.{value}
 use Rattle.cells.specs.Cells.{cellWords}
 use Rattle.matrix.proofs.Terms.{dim-pos}
 use borrow.Author.Needs.{needs}
-use Rattle.matrix.proofs.products.identity_into.Statement.{statement}
-use Rattle.matrix.proofs.products.identity_into.Tie as tie
+use Rattle.matrix.proofs.identity.identity_into.Statement.{statement}
+use Rattle.matrix.proofs.identity.identity_into.Tie as tie
 
 abbrev Inv-loop : tie.InvT-loop
 Inv-loop buf₀ at d n i₀ buf i = Writing 5 buf₀ at (d * d) (λ (i : ℕ). cellWords (δ exact (i / d) (i % d))) buf i

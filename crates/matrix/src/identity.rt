@@ -1,3 +1,4 @@
+// The identity, written.
 use cells::write_cell;
 use scalar::Scalar;
 ghost use mathlib.Core.Path.{_≡_};
