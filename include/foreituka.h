@@ -100,10 +100,10 @@ enum {
 #define FOREITUKA_UNITARY_WORK_WORDS(n) (4 * (FOREITUKA_MATRIX_WORDS(n) + 2))
 #define FOREITUKA_EFFECTS_WORDS(n, blocks) (4 + (size_t)(blocks) * (3 + FOREITUKA_MATRIX_WORDS(n)))
 
-/* The channel of a circuit of `qubits` qubits and `bits` classical bits that start as `store` (a byte for each, 0 or 1), or the number
- * of the first question that fails (docs/FORMATS.md). result: FOREITUKA_CHANNEL_WORDS words or more; words behind the last block's record are kept. work:
- * FOREITUKA_CHANNEL_WORK_WORDS or more; accepted, so many are zero, the rest is kept. index: the gate's where the reply names one, else 0.
- * Replies: 0 to 8. */
+/* The channel of a circuit of `qubits` qubits and `bits` classical bits that start as `store` (a byte for each, 0 or 1), or the refusal of
+ * the first question that fails (docs/FORMATS.md has the questions). result: FOREITUKA_CHANNEL_WORDS words or more; words behind the last
+ * block's record are kept. work: FOREITUKA_CHANNEL_WORK_WORDS or more; accepted, so many are zero, the rest is kept. index: the gate's where
+ * the reply names one, else 0. Replies: 0 to 8. */
 uint32_t foreituka_circuit_channel(uint32_t qubits, uint32_t bits, const uint8_t *store, size_t store_bytes, const uint32_t *gates,
                                    size_t gate_words, const uint64_t limits[6], int64_t *result, size_t result_words, int64_t *work,
                                    size_t work_words, uint64_t *index);
