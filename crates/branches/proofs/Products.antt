@@ -177,9 +177,6 @@ module _ {l : List ℤ} {n : ℕ} {g : Gate} {j d m op : ℕ} (ready : Ready n g
   other-is : (r : ℕ) → bitXor r m ≡ partner n g r
   other-is r = ap (bitXor r) e
 
-  pub other-lt : (r : ℕ) → r < d → bitXor r m < d
-  other-lt r hr = subst (λ (k : ℕ). k < d) (sym (other-is r)) (partner-lt ready few dim hr)
-
   pub own-factor : (r : ℕ) → r < d → Factor l (op + r * 10)
   own-factor r hr = record { room = omega (arith, rows .room); exponent = rows .own-exponent r hr; coords = subst (Coords 1 28) (sym (rows .own r hr)) (small r r hr hr) }
 

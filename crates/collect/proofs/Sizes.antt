@@ -70,9 +70,6 @@ module _ (x y : Exact) (cx : Coords 1 28 x) (cy : Coords 1 28 y) where
   pub sum-fits : (a : Exact) → Room (x .exp + y .exp) a → Fits (exact ._⊕_ a (exact ._⊗_ x y))
   sum-fits a r = subst Fits (sym (fused a x y)) (go (decLe (a .exp) (x .exp + y .exp)))
     where
-      p : Exact
-      p = by numbers x y
-
       plus-within : (u v : Number) → Within roomNumerator u → Within roomNumerator v → Within (2 ^ 62) (numbers ._⊕_ u v)
       plus-within u v h k = record {
         w0 = omega (arith, abs-add (u .re .re) (v .re .re), h .w0, k .w0);
