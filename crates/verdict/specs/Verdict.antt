@@ -1,0 +1,36 @@
+-- What a call answers: document 01's number and index of each verdict. A refusal that a later call brings gets its line here.
+use mathlib.Core.Bool.{Bool}
+use Prim.Native.Nat.{ℕ}
+use lib.Dec.{eqb}
+use Rattle.verdict.specs.declared.Verdict.{Verdict}
+use Rattle.verdict.specs.declared.Verdict.the-variants.{Accepted, OverLimit, UnsupportedAt, OperandAt, BadStore, MalformedAt, OverCeiling, TooHeavy, ShortBuffer, TooLarge, Malformed}
+
+abbrev pub verdictNumber : Verdict → ℕ
+verdictNumber Accepted = 0
+verdictNumber OverLimit = 1
+verdictNumber (UnsupportedAt i) = 2
+verdictNumber (OperandAt i) = 3
+verdictNumber BadStore = 4
+verdictNumber (MalformedAt i) = 5
+verdictNumber OverCeiling = 6
+verdictNumber TooHeavy = 7
+verdictNumber ShortBuffer = 8
+verdictNumber TooLarge = 9
+verdictNumber Malformed = 10
+
+-- 0 where the verdict names no index
+abbrev pub verdictIndex : Verdict → ℕ
+verdictIndex Accepted = 0
+verdictIndex OverLimit = 0
+verdictIndex (UnsupportedAt i) = i
+verdictIndex (OperandAt i) = i
+verdictIndex BadStore = 0
+verdictIndex (MalformedAt i) = i
+verdictIndex OverCeiling = 0
+verdictIndex TooHeavy = 0
+verdictIndex ShortBuffer = 0
+verdictIndex TooLarge = 0
+verdictIndex Malformed = 0
+
+abbrev pub accepted : Verdict → Bool
+accepted v = eqb (verdictNumber v) 0

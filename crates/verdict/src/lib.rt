@@ -1,0 +1,64 @@
+// What a call answers: accepted, or a refusal with document 01's number and, where it names one, an index.
+ghost use mathlib.Core.Path.{_≡_};
+ghost use Rattle.verdict.specs.Verdict.{verdictNumber, verdictIndex, accepted};
+
+// In the order of document 01's numbers, from 0 to 10.
+pub enum Verdict {
+    Accepted,
+    OverLimit,
+    UnsupportedAt(usize),
+    OperandAt(usize),
+    BadStore,
+    MalformedAt(usize),
+    OverCeiling,
+    TooHeavy,
+    ShortBuffer,
+    TooLarge,
+    Malformed,
+}
+
+impl Verdict {
+    pub fn number(self) -> u32
+        ensures { λ r. ⌜ r ≡ verdictNumber self ⌝ }
+    {
+        match self {
+            Verdict::Accepted => 0,
+            Verdict::OverLimit => 1,
+            Verdict::UnsupportedAt(_) => 2,
+            Verdict::OperandAt(_) => 3,
+            Verdict::BadStore => 4,
+            Verdict::MalformedAt(_) => 5,
+            Verdict::OverCeiling => 6,
+            Verdict::TooHeavy => 7,
+            Verdict::ShortBuffer => 8,
+            Verdict::TooLarge => 9,
+            Verdict::Malformed => 10,
+        }
+    }
+
+    // 0 where the verdict names no index.
+    pub fn index(self) -> usize
+        ensures { λ r. ⌜ r ≡ verdictIndex self ⌝ }
+    {
+        match self {
+            Verdict::Accepted => 0,
+            Verdict::OverLimit => 0,
+            Verdict::UnsupportedAt(i) => i,
+            Verdict::OperandAt(i) => i,
+            Verdict::BadStore => 0,
+            Verdict::MalformedAt(i) => i,
+            Verdict::OverCeiling => 0,
+            Verdict::TooHeavy => 0,
+            Verdict::ShortBuffer => 0,
+            Verdict::TooLarge => 0,
+            Verdict::Malformed => 0,
+        }
+    }
+
+    pub fn is_accepted(self) -> bool
+        ensures { λ r. ⌜ r ≡ accepted self ⌝ }
+    {
+        let number = self.number();
+        number == 0
+    }
+}
