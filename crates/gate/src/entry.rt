@@ -5,39 +5,27 @@ use super::masks::bit_of;
 use super::masks::clear_bit;
 use super::masks::mask;
 use super::masks::set_bit;
+use super::tables::core_table;
+use super::tables::identity_table;
+use super::tables::unit;
+use super::tables::zero;
 use cells::write_cell;
 use scalar::Scalar;
 ghost use mathlib.Core.Path.{_≡_};
 ghost use mathlib.Core.Bool.{cond};
 ghost use mathlib.Core.List.{[], _∷_};
-ghost use Prim.Native.Nat.{ℕ, _+_, _*_, _/_, _%_, _^_, _≤_, _<_};
-ghost use mathlib.Core.Bool.{true};
+ghost use Prim.Native.Nat.{_+_, _*_, _/_, _%_, _^_, _≤_, _<_};
 ghost use lib.Bits.{bitXor};
 ghost use lib.Dec.{eqb};
-ghost use Rattle.gate.specs.Gate.{gate, arity, elem};
+ghost use Rattle.gate.specs.Gate.{arity};
 ghost use lib.ListN.{length};
 ghost use Rattle.exact.specs.Exact.{exact};
-ghost use Rattle.scalar.specs.Calls.{value, scalarOf};
+ghost use Rattle.scalar.specs.Calls.{value};
 ghost use Rattle.cells.specs.Cells.{fill};
-ghost use Rattle.gate.specs.Operators.{one, none, phase, controlled, swapped};
+ghost use Rattle.gate.specs.Operators.{controlled, swapped};
 ghost use Rattle.gate.specs.Embed.{embed};
 ghost use Rattle.gate.specs.Verdict.{gateOf};
-ghost use Rattle.gate.specs.Entries.{gateEntry, flips, rowEntry, Ready, unitaryOf, targetOf, operatorAt, cleared, tableOf, coreOf, pick, smallOf, identity, Spot, Apart2, Apart3};
-
-fn zero() -> Scalar
-    ensures { λ r. ⌜ r ≡ scalarOf none ⌝ }
-{
-    Scalar { n: [0; 4], e: 0 }
-}
-
-fn unit() -> Scalar
-    ensures { λ r. ⌜ r ≡ scalarOf one ⌝ }
-{
-    Scalar {
-        n: [1, 0, 0, 0],
-        e: 0,
-    }
-}
+ghost use Rattle.gate.specs.Entries.{gateEntry, flips, rowEntry, Ready, cleared, tableOf, coreOf, pick, smallOf, identity, Spot, Apart2, Apart3};
 
 // The entry of a row's bit and a column's bit.
 fn pick_entry(u: [[Scalar; 2]; 2], x: usize, y: usize) -> Scalar
@@ -48,20 +36,6 @@ fn pick_entry(u: [[Scalar; 2]; 2], x: usize, y: usize) -> Scalar
         return if y == 0 { u[0][0] } else { u[0][1] };
     }
     if y == 0 { u[1][0] } else { u[1][1] }
-}
-
-fn identity_table() -> [[Scalar; 2]; 2]
-    ensures { λ r. ⌜ r ≡ tableOf identity ⌝ }
-{
-    let z = Scalar {
-        n: [0, 0, 0, 0],
-        e: 0,
-    };
-    let o = Scalar {
-        n: [1, 0, 0, 0],
-        e: 0,
-    };
-    [[o, z], [z, o]]
 }
 
 // u where the control bit is 1, the identity where it is 0.
@@ -145,133 +119,6 @@ fn swap_under_one(n: u32, a: u32, b: u32, c: u32, row: usize, col: usize) -> Sca
     }
     let m = identity_table();
     under_one(m, n, b, c, row, col)
-}
-
-// diag(1, ω^k)
-fn phase_table(k: u32) -> [[Scalar; 2]; 2]
-    ensures { λ r. ⌜ r ≡ tableOf (phase k) ⌝ }
-{
-    let z = zero();
-    let o = unit();
-    let a = Scalar::omega(k);
-    let w = a.value;
-    [[o, z], [z, w]]
-}
-
-// h, x, y or sx.
-fn constant_table(kind: u32) -> [[Scalar; 2]; 2]
-    requires { ⌜ elem kind (0 ∷ 1 ∷ 15 ∷ 16 ∷ []) ≡ true ⌝ }
-    ensures { λ r. ⌜ r ≡ tableOf (unitaryOf kind 0) ⌝ }
-{
-    let z = Scalar {
-        n: [0, 0, 0, 0],
-        e: 0,
-    };
-    let o = Scalar {
-        n: [1, 0, 0, 0],
-        e: 0,
-    };
-    let i = Scalar {
-        n: [0, 0, 1, 0],
-        e: 0,
-    };
-    let j = Scalar {
-        n: [0, 0, -1, 0],
-        e: 0,
-    };
-    let h = Scalar {
-        n: [0, 1, 0, 0],
-        e: 1,
-    };
-    let m = Scalar {
-        n: [0, -1, 0, 0],
-        e: 1,
-    };
-    let p = Scalar {
-        n: [1, 0, 1, 0],
-        e: 1,
-    };
-    let q = Scalar {
-        n: [1, 0, -1, 0],
-        e: 1,
-    };
-    match kind {
-        0 => [[h, h], [h, m]],
-        1 => [[z, o], [o, z]],
-        15 => [[z, j], [i, z]],
-        _ => [[p, q], [q, p]],
-    }
-}
-
-// The unitary of a one-qubit kind.
-fn unitary_table(kind: u32, k: u32) -> [[Scalar; 2]; 2]
-    requires { ⌜ elem kind (2 ∷ 3 ∷ 4 ∷ 5 ∷ 6 ∷ 7 ∷ 0 ∷ 1 ∷ 15 ∷ 16 ∷ []) ≡ true ⌝ }
-    ensures { λ r. ⌜ r ≡ tableOf (unitaryOf kind k) ⌝ }
-{
-    match kind {
-        2 => phase_table(4),
-        3 => phase_table(2),
-        4 => phase_table(6),
-        5 => phase_table(1),
-        6 => phase_table(7),
-        7 => phase_table(k),
-        _ => constant_table(kind),
-    }
-}
-
-// Operator j of measure or reset.
-fn split_table(kind: u32, j: usize) -> [[Scalar; 2]; 2]
-    requires { ⌜ (elem kind (12 ∷ 13 ∷ []) ≡ true) × (j < 2) ⌝ }
-    ensures { λ r. ⌜ r ≡ tableOf (operatorAt (gate kind 0 0 0 0) j .small) ⌝ }
-{
-    let z = Scalar {
-        n: [0, 0, 0, 0],
-        e: 0,
-    };
-    let o = Scalar {
-        n: [1, 0, 0, 0],
-        e: 0,
-    };
-    if j == 0 {
-        return [[o, z], [z, z]];
-    }
-    if kind == 12 {
-        return [[z, z], [z, o]];
-    }
-    [[z, o], [z, z]]
-}
-
-// The unitary on the target of a controlled kind.
-fn target_table(kind: u32) -> [[Scalar; 2]; 2]
-    requires { ⌜ elem kind (8 ∷ 10 ∷ 9 ∷ 11 ∷ 20 ∷ 25 ∷ []) ≡ true ⌝ }
-    ensures { λ r. ⌜ r ≡ tableOf (targetOf kind) ⌝ }
-{
-    match kind {
-        8 => constant_table(1),
-        10 => constant_table(1),
-        9 => phase_table(4),
-        11 => phase_table(4),
-        20 => constant_table(15),
-        _ => constant_table(0),
-    }
-}
-
-// The two-by-two matrix of operator j: on the only qubit, or on the target; the identity for a swap.
-fn core_table(g: GateWords, n: u32, j: usize) -> [[Scalar; 2]; 2]
-    requires { ⌜ Ready n (gateOf g) j ⌝ }
-    ensures { λ r. ⌜ r ≡ coreOf (gateOf g) j ⌝ }
-{
-    if (g.kind == 12) | (g.kind == 13) {
-        return split_table(g.kind, j);
-    }
-    let used = qubit_count(g.kind);
-    if used == 1 {
-        return unitary_table(g.kind, g.k);
-    }
-    if (g.kind == 19) | (g.kind == 26) {
-        return identity_table();
-    }
-    target_table(g.kind)
 }
 
 fn two_qubit_entry(
@@ -383,24 +230,6 @@ pub fn write_rows(buf: &mut [i64], at: usize, n: u32, d: usize, g: GateWords, j:
     let mut i = 0;
     while i < count {
         let v = row_entry(u, g, n, j, i, m);
-        let to = at + i * 5;
-        write_cell(buf, to, v);
-        i += 1;
-    }
-}
-
-// Write the matrix of operator j, on n qubits with d rows and columns, to `at` on.
-pub fn write_operator(buf: &mut [i64], at: usize, n: u32, d: usize, g: GateWords, j: usize)
-    requires { ⌜ (at + d * d * 5 ≤ length (now buf)) × ((n ≤ 5) × ((d ≡ 2 ^ n) × Ready n (gateOf g) j)) ⌝ }
-    ensures { λ _. ⌜ now (buf .exit) ≡ fill (now (buf .entry)) at (d * d) (λ (i : ℕ). gateEntry n (gateOf g) j (i / d) (i % d)) ⌝ }
-{
-    let u = core_table(g, n, j);
-    let count = d * d;
-    let mut i = 0;
-    while i < count {
-        let row = i / d;
-        let col = i % d;
-        let v = gate_entry(u, g, n, j, row, col);
         let to = at + i * 5;
         write_cell(buf, to, v);
         i += 1;

@@ -2,3 +2,4 @@
 pub mod entry;
 pub mod judge;
 pub mod masks;
+pub mod tables;

@@ -5,8 +5,8 @@ use Prim.Native.Nat.{ℕ}
 use borrow.Author.Needs.{needs}
 use Rattle.gate.specs.Entries.{tableOf, unitaryOf}
 use Rattle.gate.proofs.Kind.{elem-tail, constant-kind}
-use Rattle.gate.proofs.entry.unitary_table.Statement.{statement}
-use Rattle.gate.proofs.entry.unitary_table.Tie as tie
+use Rattle.gate.proofs.tables.unitary_table.Statement.{statement}
+use Rattle.gate.proofs.tables.unitary_table.Tie as tie
 
 phase-table-requires : tie.Need-phase-table-requires
 phase-table-requires c κs = search needs

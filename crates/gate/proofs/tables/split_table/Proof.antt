@@ -7,8 +7,8 @@ use Rattle.gate.specs.Gate.{gate}
 use Rattle.gate.specs.Entries.{tableOf, operatorAt}
 use Rattle.gate.proofs.Gate.{elem-in}
 use Rattle.gate.proofs.Kind.{elem-tail, elem-last}
-use Rattle.gate.proofs.entry.split_table.Statement.{statement}
-use Rattle.gate.proofs.entry.split_table.Tie as tie
+use Rattle.gate.proofs.tables.split_table.Statement.{statement}
+use Rattle.gate.proofs.tables.split_table.Tie as tie
 
 returns : tie.Need-returns
 returns c = elem-in (λ (m : ℕ). tableOf (operatorAt (gate 12 0 0 0 0) 0 .small) ≡ tableOf (operatorAt (gate m 0 0 0 0) 0 .small)) (12 ∷ 13 ∷ []) (refl, (refl, tt)) (c .before .args .kind) (c .before .pre .0) ∙ sym (ap (λ (j : ℕ). tableOf (operatorAt (gate (c .before .args .kind) 0 0 0 0) j .small)) (c .if1 .taken))

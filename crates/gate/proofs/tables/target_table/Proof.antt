@@ -5,8 +5,8 @@ use Prim.Native.Nat.{ℕ}
 use borrow.Author.Needs.{needs}
 use Rattle.gate.specs.Entries.{tableOf, targetOf}
 use Rattle.gate.proofs.Kind.{elem-tail, elem-last}
-use Rattle.gate.proofs.entry.target_table.Statement.{statement}
-use Rattle.gate.proofs.entry.target_table.Tie as tie
+use Rattle.gate.proofs.tables.target_table.Statement.{statement}
+use Rattle.gate.proofs.tables.target_table.Tie as tie
 
 constant-table-requires : tie.Need-constant-table-requires
 constant-table-requires c κs = search needs

@@ -4,8 +4,8 @@ use mathlib.Core.List.{[], _∷_}
 use Prim.Native.Nat.{ℕ}
 use Rattle.gate.specs.Entries.{tableOf, unitaryOf}
 use Rattle.gate.proofs.Kind.{elem-tail, elem-last}
-use Rattle.gate.proofs.entry.constant_table.Statement.{statement}
-use Rattle.gate.proofs.entry.constant_table.Tie as tie
+use Rattle.gate.proofs.tables.constant_table.Statement.{statement}
+use Rattle.gate.proofs.tables.constant_table.Tie as tie
 
 returns : tie.Need-returns
 returns c = sym (ap (λ (m : ℕ). tableOf (unitaryOf m 0)) (c .match .keys1))

@@ -1,8 +1,8 @@
 -- Entry by entry.
 use mathlib.Core.List.{[], _∷_}
 use borrow.Author.Needs.{needs}
-use Rattle.gate.proofs.entry.phase_table.Statement.{statement}
-use Rattle.gate.proofs.entry.phase_table.Tie as tie
+use Rattle.gate.proofs.tables.phase_table.Statement.{statement}
+use Rattle.gate.proofs.tables.phase_table.Tie as tie
 
 zero-requires : tie.Need-zero-requires
 zero-requires c κs = search needs

@@ -6,8 +6,8 @@ use borrow.Author.Tests.{eq-eqb, ne-eqb}
 use Rattle.gate.specs.Gate.{arity}
 use Rattle.gate.specs.Verdict.{gateOf}
 use Rattle.gate.proofs.Dispatch.{listed, no-split, one-kinds, target-kinds, split-two, core-split, core-single, core-swap, core-target}
-use Rattle.gate.proofs.entry.core_table.Statement.{statement}
-use Rattle.gate.proofs.entry.core_table.Tie as tie
+use Rattle.gate.proofs.tables.core_table.Statement.{statement}
+use Rattle.gate.proofs.tables.core_table.Tie as tie
 
 split-table-requires : tie.Need-split-table-requires
 split-table-requires c κs =

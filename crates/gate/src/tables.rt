@@ -1,0 +1,169 @@
+// The two-by-two matrices of the kinds, as arrays by value.
+use super::judge::GateWords;
+use super::judge::qubit_count;
+use scalar::Scalar;
+ghost use mathlib.Core.Path.{_≡_};
+ghost use mathlib.Core.Bool.{true};
+ghost use mathlib.Core.List.{[], _∷_};
+ghost use Prim.Native.Nat.{_<_};
+ghost use Rattle.gate.specs.Gate.{gate, elem};
+ghost use Rattle.scalar.specs.Calls.{scalarOf};
+ghost use Rattle.gate.specs.Operators.{one, none, phase};
+ghost use Rattle.gate.specs.Verdict.{gateOf};
+ghost use Rattle.gate.specs.Entries.{Ready, unitaryOf, targetOf, operatorAt, tableOf, coreOf, identity};
+
+pub fn zero() -> Scalar
+    ensures { λ r. ⌜ r ≡ scalarOf none ⌝ }
+{
+    Scalar { n: [0; 4], e: 0 }
+}
+
+pub fn unit() -> Scalar
+    ensures { λ r. ⌜ r ≡ scalarOf one ⌝ }
+{
+    Scalar {
+        n: [1, 0, 0, 0],
+        e: 0,
+    }
+}
+
+pub fn identity_table() -> [[Scalar; 2]; 2]
+    ensures { λ r. ⌜ r ≡ tableOf identity ⌝ }
+{
+    let z = Scalar {
+        n: [0, 0, 0, 0],
+        e: 0,
+    };
+    let o = Scalar {
+        n: [1, 0, 0, 0],
+        e: 0,
+    };
+    [[o, z], [z, o]]
+}
+
+// diag(1, ω^k)
+fn phase_table(k: u32) -> [[Scalar; 2]; 2]
+    ensures { λ r. ⌜ r ≡ tableOf (phase k) ⌝ }
+{
+    let z = zero();
+    let o = unit();
+    let a = Scalar::omega(k);
+    let w = a.value;
+    [[o, z], [z, w]]
+}
+
+// h, x, y or sx.
+fn constant_table(kind: u32) -> [[Scalar; 2]; 2]
+    requires { ⌜ elem kind (0 ∷ 1 ∷ 15 ∷ 16 ∷ []) ≡ true ⌝ }
+    ensures { λ r. ⌜ r ≡ tableOf (unitaryOf kind 0) ⌝ }
+{
+    let z = Scalar {
+        n: [0, 0, 0, 0],
+        e: 0,
+    };
+    let o = Scalar {
+        n: [1, 0, 0, 0],
+        e: 0,
+    };
+    let i = Scalar {
+        n: [0, 0, 1, 0],
+        e: 0,
+    };
+    let j = Scalar {
+        n: [0, 0, -1, 0],
+        e: 0,
+    };
+    let h = Scalar {
+        n: [0, 1, 0, 0],
+        e: 1,
+    };
+    let m = Scalar {
+        n: [0, -1, 0, 0],
+        e: 1,
+    };
+    let p = Scalar {
+        n: [1, 0, 1, 0],
+        e: 1,
+    };
+    let q = Scalar {
+        n: [1, 0, -1, 0],
+        e: 1,
+    };
+    match kind {
+        0 => [[h, h], [h, m]],
+        1 => [[z, o], [o, z]],
+        15 => [[z, j], [i, z]],
+        _ => [[p, q], [q, p]],
+    }
+}
+
+// The unitary of a one-qubit kind.
+fn unitary_table(kind: u32, k: u32) -> [[Scalar; 2]; 2]
+    requires { ⌜ elem kind (2 ∷ 3 ∷ 4 ∷ 5 ∷ 6 ∷ 7 ∷ 0 ∷ 1 ∷ 15 ∷ 16 ∷ []) ≡ true ⌝ }
+    ensures { λ r. ⌜ r ≡ tableOf (unitaryOf kind k) ⌝ }
+{
+    match kind {
+        2 => phase_table(4),
+        3 => phase_table(2),
+        4 => phase_table(6),
+        5 => phase_table(1),
+        6 => phase_table(7),
+        7 => phase_table(k),
+        _ => constant_table(kind),
+    }
+}
+
+// Operator j of measure or reset.
+fn split_table(kind: u32, j: usize) -> [[Scalar; 2]; 2]
+    requires { ⌜ (elem kind (12 ∷ 13 ∷ []) ≡ true) × (j < 2) ⌝ }
+    ensures { λ r. ⌜ r ≡ tableOf (operatorAt (gate kind 0 0 0 0) j .small) ⌝ }
+{
+    let z = Scalar {
+        n: [0, 0, 0, 0],
+        e: 0,
+    };
+    let o = Scalar {
+        n: [1, 0, 0, 0],
+        e: 0,
+    };
+    if j == 0 {
+        return [[o, z], [z, z]];
+    }
+    if kind == 12 {
+        return [[z, z], [z, o]];
+    }
+    [[z, o], [z, z]]
+}
+
+// The unitary on the target of a controlled kind.
+fn target_table(kind: u32) -> [[Scalar; 2]; 2]
+    requires { ⌜ elem kind (8 ∷ 10 ∷ 9 ∷ 11 ∷ 20 ∷ 25 ∷ []) ≡ true ⌝ }
+    ensures { λ r. ⌜ r ≡ tableOf (targetOf kind) ⌝ }
+{
+    match kind {
+        8 => constant_table(1),
+        10 => constant_table(1),
+        9 => phase_table(4),
+        11 => phase_table(4),
+        20 => constant_table(15),
+        _ => constant_table(0),
+    }
+}
+
+// The two-by-two matrix of operator j: on the only qubit, or on the target; the identity for a swap.
+pub fn core_table(g: GateWords, n: u32, j: usize) -> [[Scalar; 2]; 2]
+    requires { ⌜ Ready n (gateOf g) j ⌝ }
+    ensures { λ r. ⌜ r ≡ coreOf (gateOf g) j ⌝ }
+{
+    if (g.kind == 12) | (g.kind == 13) {
+        return split_table(g.kind, j);
+    }
+    let used = qubit_count(g.kind);
+    if used == 1 {
+        return unitary_table(g.kind, g.k);
+    }
+    if (g.kind == 19) | (g.kind == 26) {
+        return identity_table();
+    }
+    target_table(g.kind)
+}
