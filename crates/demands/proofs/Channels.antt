@@ -24,11 +24,11 @@ use Rattle.kraus.proofs.Hermitian as hermitian
 use Rattle.kraus.proofs.Effect.{effect, probabilities}
 use Rattle.channel.specs.Layout.{Block, side, effectOf, bits, readBack}
 use Rattle.collect.proofs.Branching.{bits-word}
-use Rattle.demands.specs.Delivered.{circuitWords}
+use Rattle.judge.specs.Delivered.{circuitWords}
 use Rattle.demands.specs.Demands.{IsChannel}
 use Rattle.demands.proofs.Reading.{SameBlock, SameBlocks, range-map, back, chained, chained-perm, read-blocks}
 use Rattle.demands.proofs.Stores.{some-stores}
-use Rattle.demands.proofs.Accepted.{Sound, store-words, writable}
+use Rattle.judge.proofs.Accepted.{Sound, store-words, writable}
 
 -- ---- what is read back, where it agrees with blocks of a list of stores
 module _ (w : ℕ) (blk : Store → Block) where

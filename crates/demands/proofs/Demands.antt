@@ -29,14 +29,15 @@ use Rattle.circuit.specs.Footprint.{footprintOf}
 use Rattle.circuit.specs.Questions.{accepted, channelVerdict}
 use Rattle.channel.specs.Layout.{side, readBack}
 use Rattle.collect.specs.Delivered.{overwritten}
-use Rattle.demands.specs.Delivered.{circuitWords, zeroed}
-use Rattle.demands.specs.Call.{worked, accepts, resultAfter}
-use Rattle.demands.specs.Asked.{asked, decidedBy, ofGates}
+use Rattle.judge.specs.Delivered.{circuitWords, zeroed}
+use Rattle.judge.specs.Call.{worked, accepts, resultAfter}
+use Rattle.circuit.specs.Asked.{asked, decidedBy, ofGates}
 use Rattle.demands.specs.Demands.{zeros, Delivers, Demand1, IsChannel, Demand2, ScheduleOf, itself, reordered, noBlock, SameChannel, Demand3}
-use Rattle.demands.proofs.Verdicts.{verdict-first, accepts-all, Matching, same-accepts, same-fault, same-refusal}
+use Rattle.circuit.proofs.Asked.{verdict-first, accepts-all}
+use Rattle.demands.proofs.Verdicts.{Matching, same-accepts, same-fault, same-refusal}
 use Rattle.demands.proofs.Reading.{SameBlocks, blocks-sym, blocks-stores, blocks-at, compare-same, back, read-alike}
 use Rattle.demands.proofs.Stores.{covers, stores-perm}
-use Rattle.demands.proofs.Accepted.{Sound, sound, enough, block-fine, writable, channel-room}
+use Rattle.judge.proofs.Accepted.{Sound, sound, enough, block-fine, writable, channel-room}
 use Rattle.demands.proofs.Channels.{is-channel}
 
 -- ---- demand 1

@@ -1,59 +1,23 @@
--- The blocks of a list of surviving branches: their stores are different numbers below 2^m, and the branches' order is not in them.
-use mathlib.Core.Path.{_≡_, refl, sym, ap, _∙_, subst}
-use mathlib.Core.Bool.{Bool, true, false, cond, not, _||_, true≢false}
+-- The stores and blocks of two lists of surviving branches that are the same up to order.
+use mathlib.Core.Path.{_≡_, refl, sym, ap, _∙_}
+use mathlib.Core.Bool.{Bool, true, false, cond, not, _||_}
 use mathlib.Core.List.{List, [], _∷_, map, map-map}
-use Prim.Native.Nat.{ℕ, zero, suc, _+_, _*_, _/_, _%_, _^_, _<_, _≤_}
+use Prim.Native.Nat.{ℕ, suc, _+_, _*_, _/_, _%_, _<_}
 use native.Mathlib.Omega.{arith}
 use lib.ListN.{length, getD}
-use lib.IntN.{pos}
 use Rattle.algebra.specs.Lists.{All, some, filterBy}
 use Rattle.algebra.specs.Words.{fromBits}
-use Rattle.algebra.proofs.Bits.{bits-below}
 use Rattle.algebra.proofs.Lists.{all-getD}
 use Rattle.algebra.proofs.Trace.{join, all-back}
 use Rattle.algebra.proofs.Perm.{Perm, perm-path, map-of}
-use Rattle.exact.specs.Exact.{wellFormed}
 use Rattle.gate.specs.Operators.{sameBits}
-use Rattle.gate.proofs.Bits.{Word, same-true, same-refl}
+use Rattle.gate.proofs.Bits.{same-true}
 use Rattle.kraus.specs.Branch.{Store, Branch}
 use Rattle.kraus.specs.Blocks.{block, stores}
-use Rattle.kraus.proofs.Stores.{other, Distinct, stores-distinct, stores-of, block-of}
-use Rattle.channel.specs.Layout.{side, bits}
-use Rattle.channel.specs.WellFormed.{isDim}
-use Rattle.channel.specs.Claims.{Writable}
+use Rattle.kraus.proofs.Stores.{other, stores-of, block-of}
+use Rattle.channel.specs.Layout.{side}
 use Rattle.collect.specs.Delivered.{blockNo}
-use Rattle.collect.proofs.Branching.{bits-word}
 use Rattle.demands.proofs.Reading.{Covers, range, range-map}
-
--- ---- a store as a number
-from-word : (m : ℕ) (τ : Store) → Word m τ → fromBits τ < 2 ^ m
-from-word m τ (e, h) = subst (λ (k : ℕ). fromBits τ < 2 ^ k) e (bits-below τ h)
-
--- ---- different places have different stores
-apart : (ss : List Store) → Distinct ss → (i j : ℕ) → i < length ss → j < length ss → getD ss i [] ≡ getD ss j [] → i ≡ j
-apart [] h i j l m e = absurd (omega arith)
-apart (σ ∷ ss) h zero zero l m e = refl
-apart (σ ∷ ss) h zero (suc j) l m e =
-    absurd (true≢false (sym (ap (sameBits σ) (sym e) ∙ same-refl σ) ∙ all-getD (λ (τ : Store). sameBits σ τ ≡ false) ss (h .0) j (omega arith) []))
-apart (σ ∷ ss) h (suc i) zero l m e =
-    absurd (true≢false (sym (ap (sameBits σ) e ∙ same-refl σ) ∙ all-getD (λ (τ : Store). sameBits σ τ ≡ false) ss (h .0) i (omega arith) []))
-apart (σ ∷ ss) h (suc i) (suc j) l m e = ap suc (apart ss (h .1) i j (omega arith) (omega arith) e)
-
-pub blocks-writable : (d m : ℕ) (bs : List Branch) → isDim (pos d) ≡ true → m ≤ 64 → All (Word m) (stores bs)
-    → ((j k : ℕ) → j < length (stores bs) → k < side d * side d → wellFormed (blockNo d bs j .entry k) ≡ true) → Writable d m (length (stores bs)) (blockNo d bs)
-blocks-writable d m bs dim few h fine = record {
-  dim = dim;
-  few = few;
-  small = λ j l. from-word m (at j) (word j l);
-  different = λ i j k l e. apart (stores bs) (stores-distinct bs) i j k l (sym (bits-word m (at i) (word i k)) ∙ ap (bits m) e ∙ bits-word m (at j) (word j l));
-  formed = fine;
-}
-  where
-    at : ℕ → Store
-    at j = getD (stores bs) j []
-
-    word : (j : ℕ) → j < length (stores bs) → Word m (getD (stores bs) j [])
-    word j l = all-getD (Word m) (stores bs) h j l []
 
 -- ---- the order of the branches
 record Place (ss : List Store) (τ : Store) : Type 0 where

@@ -22,9 +22,9 @@ use Rattle.channel.specs.declared.compare.Found.the-variants.{Same}
 use Rattle.channel.specs.Layout.{Block, side, effectOf, bits, dimAt, bitsAt, countAt, readBack}
 use Rattle.channel.specs.WellFormed.{wellFormed}
 use Rattle.channel.specs.Compare.{plain, compareOf}
-use Rattle.demands.specs.Delivered.{circuitWords}
-use Rattle.demands.specs.Call.{worked, verdictOf, accepts, resultAfter, workAfter}
-use Rattle.demands.specs.Asked.{Question, firstNo, decidedBy, ofGates, asked}
+use Rattle.judge.specs.Delivered.{circuitWords}
+use Rattle.judge.specs.Call.{worked, verdictOf, accepts, resultAfter, workAfter}
+use Rattle.circuit.specs.Asked.{Question, firstNo, decidedBy, ofGates, asked}
 
 abbrev pub zeros : ℕ → List ℤ
 zeros zero = []

@@ -1,4 +1,1 @@
-pub mod Delivered
-pub mod Call
-pub mod Asked
 pub mod Demands

@@ -1,1 +1,3 @@
+pub mod Writable
+pub mod Accepted
 pub mod Running

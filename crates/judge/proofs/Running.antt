@@ -23,9 +23,9 @@ use Rattle.circuit.proofs.Products.{square-is}
 use Rattle.collect.specs.Bank.{bankIn}
 use Rattle.collect.specs.Delivered.{blockNo, branchesWords, overwritten, Deliverable}
 use Rattle.collect.proofs.Held.{Held, circuit-held, bank-is, deliverable}
-use Rattle.demands.specs.Delivered.{circuitWords, zeroed}
-use Rattle.demands.specs.Call.{accepts, resultAfter, workAfter}
-use Rattle.demands.proofs.Accepted.{Sound, sound, channel-room}
+use Rattle.judge.specs.Delivered.{circuitWords, zeroed}
+use Rattle.judge.specs.Call.{accepts, resultAfter, workAfter}
+use Rattle.judge.proofs.Accepted.{Sound, sound, channel-room}
 use Rattle.channel.proofs.Written.{length-channel}
 use Rattle.judge.specs.Accepted.{Accepted}
 

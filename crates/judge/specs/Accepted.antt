@@ -5,7 +5,7 @@ use mathlib.Core.List.{List}
 use Prim.Native.Nat.{ℕ}
 use lib.IntN.{ℤ}
 use Rattle.circuit.specs.declared.limits.Limits.{Limits}
-use Rattle.demands.specs.Call.{accepts}
+use Rattle.judge.specs.Call.{accepts}
 
 -- some limits accept it: n qubits, m bits, the initial store σ, the gates' words ws, the result r and the work buffer w
 pub record Accepted (n m : ℕ) (σ : List ℕ) (ws : List ℕ) (r w : List ℤ) : Type 0 where

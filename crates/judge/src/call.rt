@@ -14,8 +14,8 @@ ghost use Rattle.algebra.specs.Lists.{total};
 ghost use Rattle.gate.specs.Gate.{gatesOf, splits};
 ghost use Rattle.circuit.specs.Sizes.{workWords};
 ghost use Rattle.collect.specs.Delivered.{overwritten};
-ghost use Rattle.demands.specs.Delivered.{circuitWords, zeroed};
-ghost use Rattle.demands.specs.Call.{verdictOf, resultAfter, workAfter};
+ghost use Rattle.judge.specs.Delivered.{circuitWords, zeroed};
+ghost use Rattle.judge.specs.Call.{verdictOf, resultAfter, workAfter};
 ghost use Rattle.judge.specs.Accepted.{Accepted};
 
 // Run an accepted circuit and write its channel; the words of `work` that it takes end as zero.

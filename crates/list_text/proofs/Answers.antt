@@ -8,7 +8,7 @@ use Rattle.circuit.specs.declared.verdict.Verdict.{Verdict}
 use Rattle.circuit.specs.declared.limits.Limits.{Limits}
 use Rattle.circuit.specs.Limits.{ceilings}
 use Rattle.circuit.specs.Questions.{accepted, verdictNumber, verdictIndex}
-use Rattle.demands.specs.Call.{verdictOf, resultAfter, workAfter}
+use Rattle.judge.specs.Call.{verdictOf, resultAfter, workAfter}
 use Rattle.circuit_text.specs.declared.input.Circuit.{Circuit}
 use Rattle.circuit_text.specs.Input.{bitsIn, storeIn, wordsIn, circuitIn, numbersOf, isInputText}
 use Rattle.listing.specs.Listing.{listingOf, refusalLine, inputLine}

@@ -8,7 +8,7 @@ use lib.ListN.{length, drop, length-append, length-drop}
 use lib.IntN.{ℤ}
 use Rattle.circuit.specs.Limits.{ceilings}
 use Rattle.circuit.specs.Questions.{verdictNumber, verdictIndex}
-use Rattle.demands.specs.Call.{verdictOf, accepts, resultAfter}
+use Rattle.judge.specs.Call.{verdictOf, accepts, resultAfter}
 use Rattle.demands.specs.Demands.{delivered}
 use Rattle.demands.proofs.Demands.{demand1, demand2}
 use Rattle.circuit_text.specs.Input.{bitsIn, storeIn, wordsIn, circuitIn, numbersOf, isInputText}

@@ -6,7 +6,7 @@ use lib.IntN.{ℤ}
 use Rattle.circuit.specs.declared.verdict.Verdict.{Verdict}
 use Rattle.circuit.specs.Limits.{ceilings}
 use Rattle.circuit.specs.Questions.{accepted, verdictNumber, verdictIndex}
-use Rattle.demands.specs.Call.{verdictOf, resultAfter, workAfter}
+use Rattle.judge.specs.Call.{verdictOf, resultAfter, workAfter}
 use Rattle.circuit_text.specs.Input.{bitsIn, storeIn, wordsIn, circuitIn, numbersOf, isInputText}
 use Rattle.listing.specs.Listing.{listingOf, refusalLine, inputLine}
 

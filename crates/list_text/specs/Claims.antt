@@ -6,7 +6,7 @@ use Prim.Native.Nat.{ℕ, _≤_}
 use lib.ListN.{length, drop}
 use lib.IntN.{ℤ}
 use Rattle.circuit.specs.Limits.{ceilings}
-use Rattle.demands.specs.Call.{accepts, resultAfter}
+use Rattle.judge.specs.Call.{accepts, resultAfter}
 use Rattle.listing.specs.Page.{page, write}
 use Rattle.listing.specs.Listing.{listing}
 use Rattle.listing.specs.Claims.{maxListing}

@@ -10,7 +10,7 @@ use listing::lines::write_no_input;
 use listing::lines::write_refusal;
 ghost use mathlib.Core.Path.{_≡_};
 ghost use Rattle.circuit.specs.Limits.{ceilings};
-ghost use Rattle.demands.specs.Call.{resultAfter, workAfter};
+ghost use Rattle.judge.specs.Call.{resultAfter, workAfter};
 ghost use Rattle.listing.specs.Page.{page, write};
 ghost use Rattle.list_text.specs.Answer.{linesOf, answerOf, resultOf, workOf};
 

@@ -1,7 +1,7 @@
 -- `foreituka_circuit_channel` meets its contract.
 use mathlib.Core.Path.{ap, _∙_}
 use Rattle.circuit.specs.Questions.{verdictNumber, verdictIndex}
-use Rattle.demands.specs.Call.{verdictOf, resultAfter, workAfter}
+use Rattle.judge.specs.Call.{verdictOf, resultAfter, workAfter}
 use borrow.Author.Needs.{needs}
 use Rattle.judge_c.proofs.circuits.foreituka_circuit_channel.Statement.{statement}
 use Rattle.judge_c.proofs.circuits.foreituka_circuit_channel.Tie as tie

@@ -33,13 +33,13 @@ use Rattle.circuit.proofs.Products.{fourth-is}
 use Rattle.channel.specs.Layout.{side, recordSize}
 use Rattle.channel.specs.WellFormed as wf
 use Rattle.collect.specs.Delivered.{blockNo}
-use Rattle.demands.specs.Delivered.{circuitWords}
-use Rattle.demands.specs.Call.{accepts}
-use Rattle.demands.specs.Asked.{numberQuestions, asked}
-use Rattle.demands.proofs.Verdicts.{yes, gates-every, accepts-all}
+use Rattle.judge.specs.Delivered.{circuitWords}
+use Rattle.judge.specs.Call.{accepts}
+use Rattle.circuit.specs.Asked.{numberQuestions, asked}
+use Rattle.circuit.proofs.Asked.{yes, gates-every, accepts-all}
 use Rattle.channel.specs.Claims.{Writable}
 use Rattle.channel.proofs.Written.{length-written}
-use Rattle.demands.proofs.Stores.{blocks-writable}
+use Rattle.judge.proofs.Writable.{blocks-writable}
 
 -- ---- what the questions found
 pub record Sound (n m : ℕ) (σ : List ℕ) (gs : List Gate) (result work : ℕ) : Type 0 where

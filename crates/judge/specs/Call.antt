@@ -11,7 +11,7 @@ use Rattle.circuit.specs.Footprint.{footprintOf}
 use Rattle.circuit.specs.Sizes.{workWords}
 use Rattle.circuit.specs.Questions.{accepted, sizesOf, channelVerdict}
 use Rattle.collect.specs.Delivered.{overwritten}
-use Rattle.demands.specs.Delivered.{circuitWords, zeroed}
+use Rattle.judge.specs.Delivered.{circuitWords, zeroed}
 
 -- the words of the work buffer that question 10 asks for
 abbrev pub worked : ℕ → ℕ → List ℕ → ℕ
