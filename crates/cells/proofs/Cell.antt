@@ -1,25 +1,20 @@
--- Cells: the same words are the same cell, what was filled is read back, many cells as one run of words, and the zero test.
+-- Cells: the same words are the same cell, what was filled is read back, and many cells as one run of words.
 use mathlib.Core.Path.{_≡_, refl, sym, ap, _∙_}
 use mathlib.Core.Bool.{Bool, true, false, _&&_}
 use mathlib.Core.List.{List}
-use Prim.Native.Nat.{ℕ, _+_, _*_, _≤_, _<_, _^_}
+use Prim.Native.Nat.{ℕ, _+_, _*_, _≤_, _<_}
 use native.Mathlib.Nat.{le-refl, add-zero, add-assoc}
 use native.Mathlib.Omega.{arith}
-use lib.Dec.{eqb, leb}
-use lib.Bits.{bitOr}
+use lib.Dec.{leb}
 use lib.ListN.{length, getD}
 use lib.Seq.{sets}
 use lib.IntN.{ℤ, pos, natAbs}
-use lib.Signed.{mag}
-use mir.Syntax.{w64}
-use mir.Val.{ofZ}
 use Rattle.algebra.specs.Dyadic.{frac}
 use Rattle.algebra.specs.Words.{upTo, blocks}
-use Rattle.algebra.proofs.Tests.{and-split, and-no}
-use Rattle.algebra.proofs.Signed.{or-zero, word-zero, abs-zero}
+use Rattle.algebra.proofs.Tests.{and-no}
 use Rattle.algebra.proofs.Blocks.{Same, blocks-at, length-joined, blocks-joined, joined-at, joined-same}
-use Rattle.exact.specs.Exact.{Exact, Number, number, numbers, maxExponent, isLowest, within, maxNumerator, wellFormed}
-use Rattle.cells.specs.Cells.{cellWords, cellAt, exponentAt, wellFormedAt, isZero, fill, cells}
+use Rattle.exact.specs.Exact.{Exact, number, maxExponent, isLowest, within, maxNumerator, wellFormed}
+use Rattle.cells.specs.Cells.{cellWords, cellAt, exponentAt, wellFormedAt, fill, cells}
 
 -- ---- the same five words
 module _ {l m : List ℤ} {at : ℕ} (h : Same l m at 5) where
@@ -95,16 +90,3 @@ module _ (s : ℕ) (l : List ℤ) (at : ℕ) (f : ℕ → List ℤ) (sized : (i 
 
   pub block-cell : cellAt (blocks s l at n f) (at + b * s + i * 5) ≡ h i
   block-cell = cell-is (blocks s l at n f) (at + b * s + i * 5) (h i) block-word
-
--- ---- zero
-pub zero-is : (z : Number) → isZero z ≡ true → z ≡ numbers .𝟘
-zero-is z e =
-    let abc = and-split _ _ e in
-    let ab = and-split _ _ (abc .0) in
-    let a = and-split _ _ (ab .0) in
-    λ i. number (abs-zero (z .re .re) (a .0) i) (abs-zero (z .re .im) (a .1) i) (abs-zero (z .im .re) (ab .1) i) (abs-zero (z .im .im) (abc .1) i)
-
--- the test `(a | b | c | d) == 0`
-pub union-zero : (z : Number) → mag (z .re .re) < 2 ^ 63 → mag (z .re .im) < 2 ^ 63 → mag (z .im .re) < 2 ^ 63 → mag (z .im .im) < 2 ^ 63
-    → eqb (bitOr (bitOr (bitOr (ofZ w64 (z .re .re)) (ofZ w64 (z .re .im))) (ofZ w64 (z .im .re))) (ofZ w64 (z .im .im))) 0 ≡ isZero z
-union-zero z h0 h1 h2 h3 = rw (or-zero, or-zero, or-zero, word-zero (z .re .re) h0, word-zero (z .re .im) h1, word-zero (z .im .re) h2, word-zero (z .im .im) h3)

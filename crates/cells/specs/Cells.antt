@@ -2,12 +2,11 @@
 use mathlib.Core.Bool.{Bool, _&&_}
 use mathlib.Core.List.{List, [], _∷_}
 use Prim.Native.Nat.{ℕ, _+_}
-use lib.Dec.{eqb}
 use lib.ListN.{getD}
 use lib.IntN.{ℤ, pos, natAbs}
 use Rattle.algebra.specs.Dyadic.{frac}
 use Rattle.algebra.specs.Words.{upTo, blocks, joined}
-use Rattle.exact.specs.Exact.{Exact, Number, number, maxExponent, wellFormed}
+use Rattle.exact.specs.Exact.{Exact, number, maxExponent, wellFormed, isZero}
 
 abbrev pub cellSize : ℕ
 cellSize = 5
@@ -26,10 +25,6 @@ exponentAt l at = upTo maxExponent (getD l (at + 4) (pos 0))
 -- the five words are a number in range and in lowest form
 abbrev pub wellFormedAt : List ℤ → ℕ → Bool
 wellFormedAt l at = exponentAt l at && wellFormed (cellAt l at)
-
--- all four numerators are 0
-abbrev pub isZero : Number → Bool
-isZero z = ((eqb (natAbs (z .re .re)) 0 && eqb (natAbs (z .re .im)) 0) && eqb (natAbs (z .im .re)) 0) && eqb (natAbs (z .im .im)) 0
 
 abbrev pub zeroAt : List ℤ → ℕ → Bool
 zeroAt l at = isZero (cellAt l at .num)

@@ -1,4 +1,4 @@
-// A scalar as five words of a lent slice, n0 to n3 and e: read, written, and tested; and the arithmetic on what was read.
+// A scalar as five words of a lent slice, n0 to n3 and e: read, written, and tested.
 ghost use mathlib.Core.Path.{_≡_};
 ghost use mathlib.Core.Bool.{true};
 ghost use Prim.Native.Nat.{_+_, _≤_};
@@ -6,9 +6,6 @@ ghost use lib.ListN.{length};
 ghost use lib.Seq.{sets};
 ghost use Rattle.scalar.specs.Calls.{value, scalarOf};
 ghost use Rattle.cells.specs.Cells.{cellAt, cellWords, exponentAt, wellFormedAt, zeroAt};
-
-pub mod products;
-
 use scalar::MAX_EXPONENT;
 use scalar::Scalar;
 

@@ -6,6 +6,7 @@ use super::layout::read_entry;
 use super::layout::read_store;
 use super::well_formed::judge;
 use scalar::Scalar;
+use scalar::ZERO;
 ghost use mathlib.Core.Path.{_≡_};
 ghost use mathlib.Core.Bool.{true};
 ghost use Prim.Native.Nat.{ℕ, _*_, _<_, _≤_};
@@ -54,7 +55,7 @@ struct Cursor {
 fn without_entry(f: Found) -> Difference
     ensures { λ r. ⌜ r ≡ plain f ⌝ }
 {
-    let z = Scalar { n: [0; 4], e: 0 };
+    let z = ZERO;
     Difference {
         found: f,
         left: z,
@@ -79,11 +80,7 @@ fn entry_or_zero(has: bool, s: &[i64], at: usize, k: usize) -> Scalar
     requires { ⌜ Held has (now s) at k ⌝ }
     ensures { λ r. ⌜ r ≡ scalarOf (sideAt has (now (s .entry)) at k) ⌝ }
 {
-    if has {
-        read_entry(s, at, k)
-    } else {
-        Scalar { n: [0; 4], e: 0 }
-    }
+    if has { read_entry(s, at, k) } else { ZERO }
 }
 
 // The first unequal entry of the blocks of one store, rows then columns.

@@ -13,8 +13,7 @@ use Rattle.algebra.specs.Words.{fromBits}
 use Rattle.algebra.specs.Lists.{All, allBelow, every, some, filterBy}
 use Rattle.algebra.proofs.Tests.{test-same, eqb-same, all-at, all-by}
 use Rattle.algebra.proofs.Lists.{every-all, all-append, all-getD, some-append}
-use Rattle.exact.specs.Exact.{Exact, exact, conj}
-use Rattle.cells.specs.Cells.{isZero}
+use Rattle.exact.specs.Exact.{Exact, exact, conj, isZero}
 use Rattle.matrix.proofs.Terms.{row-lt, column-lt}
 use Rattle.gate.specs.Operators.{sameBits}
 use Rattle.gate.proofs.Bits.{Word, same-true, same-refl, same-sym}

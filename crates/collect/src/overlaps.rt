@@ -1,19 +1,19 @@
 // Overlaps of a matrix's entries, written as a block or added to one.
-use cells::products::fma;
 use cells::read_cell;
 use cells::write_cell;
 use cells::zero_at;
 use matrix::words::clear;
 use scalar::Scalar;
-use scalar::numerators::reduce;
+use scalar::ZERO;
+use scalar::products::fma;
+use scalar::products::times_conj;
 ghost use mathlib.Core.Path.{_≡_};
 ghost use mathlib.Core.Bool.{not};
-ghost use Prim.Native.Nat.{_+_, _*_, _^_, _≤_};
+ghost use Prim.Native.Nat.{_+_, _*_, _≤_};
 ghost use lib.ListN.{length};
 ghost use lib.Seq.{sets};
-ghost use Rattle.algebra.specs.Quadratic.{conjugate};
-ghost use Rattle.exact.specs.Exact.{root2, numbers, exact, conj};
-ghost use Rattle.exact.specs.Inner.{numberOf, listOf, Within, Coords};
+ghost use Rattle.exact.specs.Exact.{conj};
+ghost use Rattle.exact.specs.Inner.{Coords};
 ghost use Rattle.scalar.specs.Calls.{value, scalarOf};
 ghost use Rattle.cells.specs.Cells.{cellAt, cellWords, zeroAt, fill};
 ghost use Rattle.matrix.specs.Factors.{Factor};
@@ -42,64 +42,13 @@ fn write_conj(s: &mut [i64], from: usize, at: usize)
     write_cell(s, at, v);
 }
 
-// The numerators of x times the conjugate of y, by nine products.
-fn conj_product(x: [i64; 4], y: [i64; 4]) -> [i64; 4]
-    requires { ⌜ Within (2 ^ 28) (numberOf x) × Within (2 ^ 28) (numberOf y) ⌝ }
-    ensures { λ r. ⌜ r ≡ listOf (numbers ._⊗_ (numberOf x) (conjugate root2 (numberOf y))) ⌝ }
-{
-    let x0 = x[0];
-    let x1 = x[1];
-    let x2 = x[2];
-    let x3 = x[3];
-    let y0 = y[0];
-    let y1 = y[1];
-    let y2 = y[2];
-    let y3 = y[3];
-    let a = x0 * y0;
-    let b = x1 * y1;
-    let c = (x0 + x1) * (y0 + y1) - a - b;
-    let p = x2 * y2;
-    let q = x3 * y3;
-    let r = (x2 + x3) * (y2 + y3) - p - q;
-    let u0 = x0 + x2;
-    let u1 = x1 + x3;
-    let v0 = y0 - y2;
-    let v1 = y1 - y3;
-    let s = u0 * v0;
-    let t = u1 * v1;
-    let w = (u0 + u1) * (v0 + v1) - s - t;
-    let d = a + 2 * b;
-    let e = p + 2 * q;
-    let m0 = d + e;
-    let m1 = c + r;
-    let m2 = s + 2 * t - d + e;
-    let m3 = w - c + r;
-    [m0, m1, m2, m3]
-}
-
-// x times the conjugate of y
-fn times_conj(x: Scalar, y: Scalar) -> Scalar
-    requires { ⌜ Coords 1 28 (value x) × Coords 1 28 (value y) ⌝ }
-    ensures { λ r. ⌜ r ≡ scalarOf (exact ._⊗_ (value x) (conj (value y))) ⌝ }
-{
-    let u = x.n;
-    let v = y.n;
-    let e = x.e + y.e;
-    let z = conj_product(u, v);
-    reduce(z[0], z[1], z[2], z[3], e)
-}
-
 // Write x times the conjugate of the scalar at q of `work` to `at` of `result`.
 fn write_overlap(result: &mut [i64], at: usize, x: Scalar, work: &[i64], q: usize)
     requires { ⌜ (at + 5 ≤ length (now result)) × (Coords 1 28 (value x) × Factor (now work) q) ⌝ }
     ensures { λ _. ⌜ now (result .exit) ≡ sets (now (result .entry)) at (cellWords (overlap (value x) (now (work .entry)) q)) ⌝ }
 {
     if zero_at(work, q) {
-        let o = Scalar {
-            n: [0, 0, 0, 0],
-            e: 0,
-        };
-        write_cell(result, at, o);
+        write_cell(result, at, ZERO);
         return;
     }
     let y = read_cell(work, q);

@@ -9,6 +9,7 @@ use channel::well_formed::judge;
 use scalar::Answer;
 use scalar::Scalar;
 use scalar::Verdict;
+use scalar::ZERO;
 use scalar::refused;
 ghost use mathlib.Core.Path.{_≡_};
 ghost use mathlib.Core.Bool.{true, cond};
@@ -70,7 +71,7 @@ fn sum_entry(s: &[i64], at: usize, d: usize, i: usize) -> Answer
     requires { ⌜ Readable (now s) at d × (i < d * d) ⌝ }
     ensures { λ r. ⌜ r ≡ cond (partialsFit d (term (now (s .entry)) at d i)) (accepted (effectAt (now (s .entry)) at d i)) (refusedWith TooLarge) ⌝ }
 {
-    let mut acc = Scalar { n: [0; 4], e: 0 };
+    let mut acc = ZERO;
     let mut o = 0;
     while o < d {
         let k = term_place(d, i, o);

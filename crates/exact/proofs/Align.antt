@@ -15,7 +15,7 @@ use Rattle.algebra.proofs.Solver.{Expr, con, var, _⊠_, eqn, look, ⟦_⟧}
 use Rattle.algebra.proofs.Quadratic.{ℤ√2i}
 use Rattle.algebra.proofs.Bound as Bound
 use Rattle.algebra.proofs.Dyadic.{power-int, align, late-right, plus-comm, plus-up}
-use Rattle.exact.specs.Exact.{Number, number, numbers, Exact, exact, lowest}
+use Rattle.exact.specs.Exact.{Number, number, numbers, Exact, exact, lowest, narrowNumerator}
 use Rattle.exact.specs.Inner.{Within, scaled, Coords, roomNumerator, roomExponent}
 use Rattle.exact.proofs.Exact.{exactHalving, exacts}
 use Rattle.exact.proofs.Coordinates.{formulas, x, xy, eight, bounds, bounded}
@@ -84,8 +84,8 @@ product-within x y h k = widen (6 * (1 * 2 ^ x .exp * (1 * 2 ^ y .exp))) (8 * 2 
     le = omega (arith, one)
 
 -- a factor that `product` takes
-pub factor-within : (x : Exact) → Coords 1 28 x → Within (2 ^ 29) (x .num)
-factor-within x b = widen (1 * 2 ^ 28) (2 ^ 29) (x .num) (lit≤ tt) (power-within 1 (x .exp) 28 (x .num) (b .exponent) (b .size))
+pub factor-within : (x : Exact) → Coords 1 28 x → Within narrowNumerator (x .num)
+factor-within x b = widen (1 * 2 ^ 28) narrowNumerator (x .num) (lit≤ tt) (power-within 1 (x .exp) 28 (x .num) (b .exponent) (b .size))
 
 -- coordinates from −8 to 8 over at most 2^56
 pub small : (e : ℕ) (z : Number) → e ≤ roomExponent → Within (8 * 2 ^ e) z → Within roomNumerator z

@@ -1,7 +1,9 @@
 pub mod Exact
 pub mod Zeros
 pub mod Coordinates
+pub mod Products
 pub mod Align
 pub mod Sizes
 pub mod Overflow
 pub mod Equal
+pub mod IsZero

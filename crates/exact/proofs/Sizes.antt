@@ -15,7 +15,7 @@ use borrow.Author.Tests.{le-leb, lt-leb, leb-true}
 use Rattle.algebra.specs.Dyadic.{evenℤ}
 use Rattle.algebra.proofs.Tests.{and-split}
 use Rattle.algebra.proofs.Signed.{reads, neg-fits, neg-back, under-by, over, within as within-by, and-one, or-even, bit-parity}
-use Rattle.exact.specs.Exact.{Exact, Number, number, within, numberHalves, inRange, isLowest, wellFormed, narrow}
+use Rattle.exact.specs.Exact.{Exact, Number, number, within, numberHalves, inRange, isLowest, wellFormed, narrow, narrowNumerator, narrowExponent}
 use Rattle.exact.specs.Inner.{numberOf, Within, roomNumerator}
 use Rattle.exact.proofs.Align.{widen}
 
@@ -101,11 +101,8 @@ module _ (x : Exact) (h : wellFormed x ≡ true) where
   well-lowest = and-split (inRange x) (isLowest x) h .1
 
 module _ (x : Exact) (h : narrow x ≡ true) where
-  pub narrow-bound : Within (2 ^ 28) (x .num)
-  narrow-bound = within-of (2 ^ 28) (x .num) (and-split (within (2 ^ 28) (x .num)) (leb (x .exp) 28) h .0)
+  pub narrow-bound : Within narrowNumerator (x .num)
+  narrow-bound = within-of narrowNumerator (x .num) (and-split (within narrowNumerator (x .num)) (leb (x .exp) narrowExponent) h .0)
 
-  pub narrow-within : Within (2 ^ 29) (x .num)
-  narrow-within = widen (2 ^ 28) (2 ^ 29) (x .num) (lit≤ tt) narrow-bound
-
-  pub narrow-exponent : x .exp ≤ 28
-  narrow-exponent = leb-true _ _ (and-split (within (2 ^ 28) (x .num)) (leb (x .exp) 28) h .1)
+  pub narrow-exponent : x .exp ≤ narrowExponent
+  narrow-exponent = leb-true _ _ (and-split (within narrowNumerator (x .num)) (leb (x .exp) narrowExponent) h .1)

@@ -92,6 +92,10 @@ wellFormed x = inRange x && isLowest x
 abbrev pub narrow : Exact → Bool
 narrow x = within narrowNumerator (x .num) && leb (x .exp) narrowExponent
 
+-- all four numerators are 0
+abbrev pub isZero : Number → Bool
+isZero z = ((eqb (natAbs (z .re .re)) 0 && eqb (natAbs (z .re .im)) 0) && eqb (natAbs (z .im .re)) 0) && eqb (natAbs (z .im .im)) 0
+
 -- ---- equality: lowest forms are unique
 abbrev pub equal : Exact → Exact → Bool
 equal x y =

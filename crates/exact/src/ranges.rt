@@ -1,9 +1,9 @@
-// The questions that are asked of four numerators: ranges, and whether all are even.
+// The questions that are asked of four numerators: ranges, and whether all are even or zero.
 ghost use mathlib.Core.Path.{_≡_};
 ghost use Prim.Native.Nat.{_≤_};
 ghost use lib.Dec.{leb};
 ghost use lib.IntN.{pos, natAbs};
-ghost use Rattle.exact.specs.Exact.{numberHalves, within};
+ghost use Rattle.exact.specs.Exact.{numberHalves, within, isZero};
 ghost use Rattle.exact.specs.Inner.{numberOf, scaled, roomNumerator};
 
 // Whether x lies from −m to m.
@@ -42,4 +42,11 @@ pub fn all_even(x: [i64; 4]) -> bool
     ensures { λ r. ⌜ r ≡ numberHalves .even (numberOf x) ⌝ }
 {
     ((x[0] | x[1]) | (x[2] | x[3])) & 1 == 0
+}
+
+// Whether all four are zero.
+pub fn all_zero(x: [i64; 4]) -> bool
+    ensures { λ r. ⌜ r ≡ isZero (numberOf x) ⌝ }
+{
+    (x[0] | x[1] | x[2] | x[3]) == 0
 }

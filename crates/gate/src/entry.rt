@@ -7,10 +7,10 @@ use super::masks::mask;
 use super::masks::set_bit;
 use super::tables::core_table;
 use super::tables::identity_table;
-use super::tables::unit;
-use super::tables::zero;
 use cells::write_cell;
+use scalar::ONE;
 use scalar::Scalar;
+use scalar::ZERO;
 ghost use mathlib.Core.Path.{_≡_};
 ghost use mathlib.Core.Bool.{cond};
 ghost use mathlib.Core.List.{[], _∷_};
@@ -60,7 +60,7 @@ fn one_qubit(u: [[Scalar; 2]; 2], n: u32, q: u32, row: usize, col: usize) -> Sca
     if col == set_bit(n, q, row) {
         return pick_entry(u, x, 1);
     }
-    zero()
+    ZERO
 }
 
 // u on qubit b under control a.
@@ -103,9 +103,9 @@ fn swap_entry(n: u32, a: u32, b: u32, row: usize, col: usize) -> Scalar
     let z = bit_of(n, a, col);
     let p = bit_of(n, b, col);
     if (s == t) & ((x == p) & (y == z)) {
-        return unit();
+        return ONE;
     }
-    zero()
+    ZERO
 }
 
 // Qubits b and c change places under control a.

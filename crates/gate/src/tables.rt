@@ -1,43 +1,23 @@
 // The two-by-two matrices of the kinds, as arrays by value.
 use super::judge::GateWords;
 use super::judge::qubit_count;
+use scalar::ONE;
 use scalar::Scalar;
+use scalar::ZERO;
 ghost use mathlib.Core.Path.{_≡_};
 ghost use mathlib.Core.Bool.{true};
 ghost use mathlib.Core.List.{[], _∷_};
 ghost use Prim.Native.Nat.{_<_};
 ghost use Rattle.gate.specs.Gate.{gate, elem};
-ghost use Rattle.scalar.specs.Calls.{scalarOf};
-ghost use Rattle.gate.specs.Operators.{one, none, phase};
+ghost use Rattle.gate.specs.Operators.{phase};
 ghost use Rattle.gate.specs.Verdict.{gateOf};
 ghost use Rattle.gate.specs.Entries.{Ready, unitaryOf, targetOf, operatorAt, tableOf, coreOf, identity};
-
-pub fn zero() -> Scalar
-    ensures { λ r. ⌜ r ≡ scalarOf none ⌝ }
-{
-    Scalar { n: [0; 4], e: 0 }
-}
-
-pub fn unit() -> Scalar
-    ensures { λ r. ⌜ r ≡ scalarOf one ⌝ }
-{
-    Scalar {
-        n: [1, 0, 0, 0],
-        e: 0,
-    }
-}
 
 pub fn identity_table() -> [[Scalar; 2]; 2]
     ensures { λ r. ⌜ r ≡ tableOf identity ⌝ }
 {
-    let z = Scalar {
-        n: [0, 0, 0, 0],
-        e: 0,
-    };
-    let o = Scalar {
-        n: [1, 0, 0, 0],
-        e: 0,
-    };
+    let z = ZERO;
+    let o = ONE;
     [[o, z], [z, o]]
 }
 
@@ -45,8 +25,8 @@ pub fn identity_table() -> [[Scalar; 2]; 2]
 fn phase_table(k: u32) -> [[Scalar; 2]; 2]
     ensures { λ r. ⌜ r ≡ tableOf (phase k) ⌝ }
 {
-    let z = zero();
-    let o = unit();
+    let z = ZERO;
+    let o = ONE;
     let a = Scalar::omega(k);
     let w = a.value;
     [[o, z], [z, w]]
@@ -57,14 +37,8 @@ fn constant_table(kind: u32) -> [[Scalar; 2]; 2]
     requires { ⌜ elem kind (0 ∷ 1 ∷ 15 ∷ 16 ∷ []) ≡ true ⌝ }
     ensures { λ r. ⌜ r ≡ tableOf (unitaryOf kind 0) ⌝ }
 {
-    let z = Scalar {
-        n: [0, 0, 0, 0],
-        e: 0,
-    };
-    let o = Scalar {
-        n: [1, 0, 0, 0],
-        e: 0,
-    };
+    let z = ZERO;
+    let o = ONE;
     let i = Scalar {
         n: [0, 0, 1, 0],
         e: 0,
@@ -118,14 +92,8 @@ fn split_table(kind: u32, j: usize) -> [[Scalar; 2]; 2]
     requires { ⌜ (elem kind (12 ∷ 13 ∷ []) ≡ true) × (j < 2) ⌝ }
     ensures { λ r. ⌜ r ≡ tableOf (operatorAt (gate kind 0 0 0 0) j .small) ⌝ }
 {
-    let z = Scalar {
-        n: [0, 0, 0, 0],
-        e: 0,
-    };
-    let o = Scalar {
-        n: [1, 0, 0, 0],
-        e: 0,
-    };
+    let z = ZERO;
+    let o = ONE;
     if j == 0 {
         return [[o, z], [z, z]];
     }

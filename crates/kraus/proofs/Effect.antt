@@ -15,10 +15,9 @@ use Rattle.algebra.proofs.Adjoint.{dot, δ-turn}
 use Rattle.algebra.proofs.Quadratic.{ℤ√2i}
 use Rattle.algebra.proofs.Ring.{mul-zero}
 use Rattle.algebra.proofs.Dyadic.{low-zero}
-use Rattle.exact.specs.Exact.{Exact, exact, conj, Number, numbers, lowest}
+use Rattle.exact.specs.Exact.{Exact, exact, conj, Number, numbers, lowest, isZero}
 use Rattle.exact.proofs.Exact.{exactHalving, exacts}
-use Rattle.cells.specs.Cells.{isZero}
-use Rattle.cells.proofs.Cell.{zero-is}
+use Rattle.exact.proofs.IsZero.{zero-is}
 use Rattle.gate.specs.Gate.{Gate, valid}
 use Rattle.gate.specs.Operators.{sameBits}
 use Rattle.gate.proofs.Bits.{same-true, same-refl}

@@ -4,8 +4,7 @@ use mathlib.Core.List.{List, [], _∷_, foldl}
 use Prim.Native.Nat.{ℕ}
 use lib.ListN.{getD}
 use Rattle.algebra.specs.Lists.{every, filterBy}
-use Rattle.exact.specs.Exact.{Exact, exact, conj}
-use Rattle.cells.specs.Cells.{isZero}
+use Rattle.exact.specs.Exact.{Exact, exact, conj, isZero}
 use Rattle.gate.specs.Operators.{sameBits}
 use Rattle.kraus.specs.Branch.{Store, Branch}
 

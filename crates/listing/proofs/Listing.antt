@@ -12,8 +12,8 @@ use mir.Val.{toZ, ofZ}
 use Rattle.algebra.specs.Words.{upTo}
 use Rattle.algebra.specs.Lists.{concatMap}
 use Rattle.algebra.proofs.Signed.{reads}
-use Rattle.exact.specs.Exact.{Exact}
-use Rattle.cells.specs.Cells.{cellWords, isZero}
+use Rattle.exact.specs.Exact.{Exact, isZero}
+use Rattle.cells.specs.Cells.{cellWords}
 use Rattle.algebra.proofs.Tests.{and-split}
 use Rattle.channel.specs.Layout.{bits, side, word, storeAt, chain, dimAt, bitsAt, readBack, blockAt}
 use Rattle.channel.specs.WellFormed.{storeOk, rises, entriesOk, wellFormed, shapeAt}

@@ -11,8 +11,8 @@ use lib.ListN.{length, drop, set, length-set, length-append, length-map}
 use lib.Seq.{sets, sets-eq}
 use lib.IntN.{ℤ, pos, negsuc, natAbs}
 use Rattle.algebra.specs.Lists.{concatMap}
-use Rattle.exact.specs.Exact.{Exact}
-use Rattle.cells.specs.Cells.{cellWords, isZero}
+use Rattle.exact.specs.Exact.{Exact, isZero}
+use Rattle.cells.specs.Cells.{cellWords}
 use Rattle.channel.specs.Layout.{Block, recordSize, side, bits, word, dimAt, bitsAt, countAt, chain, blockAt}
 use Rattle.channel.specs.WellFormed.{wellFormed}
 use Rattle.channel.proofs.Judging.{formed}

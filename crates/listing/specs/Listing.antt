@@ -4,8 +4,8 @@ use mathlib.Core.List.{List, [], _∷_, _++_, map}
 use Prim.Native.Nat.{ℕ, zero, suc, _+_, _*_, _/_, _%_}
 use lib.IntN.{ℤ, pos}
 use Rattle.algebra.specs.Lists.{concatMap}
-use Rattle.exact.specs.Exact.{Exact}
-use Rattle.cells.specs.Cells.{cellWords, isZero}
+use Rattle.exact.specs.Exact.{Exact, isZero}
+use Rattle.cells.specs.Cells.{cellWords}
 use Rattle.channel.specs.Layout.{Block, side, bits, dimAt, bitsAt, countAt, readBack}
 use Rattle.channel.specs.WellFormed.{wellFormed}
 use Rattle.circuit_text.specs.Text.{ascii}

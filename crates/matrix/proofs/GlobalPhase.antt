@@ -17,12 +17,11 @@ use Rattle.algebra.proofs.Semi.{Semi, mul-four, mul-left}
 use Rattle.algebra.proofs.Quadratic.{ℤ√2i}
 use Rattle.algebra.proofs.Dyadic.{low-zero}
 use Rattle.algebra.proofs.Domain.{ℤ√2i-domain, zero-fraction, cancel-fraction}
-use Rattle.exact.specs.Exact.{Exact, exact, Number, numbers, root2, conj, lowest, equal}
+use Rattle.exact.specs.Exact.{Exact, exact, Number, numbers, root2, conj, lowest, equal, isZero}
 use Rattle.exact.proofs.Equal.{equal-true, equal-of}
 use Rattle.exact.proofs.Exact.{exacts, exactHalving, conj-by, conj-conj, is-lowest, mul-lowest}
 use Rattle.scalar.specs.declared.Verdict.the-variants.{TooLarge, Malformed}
-use Rattle.cells.specs.Cells.{isZero}
-use Rattle.cells.proofs.Cell.{zero-is}
+use Rattle.exact.proofs.IsZero.{zero-is}
 use Rattle.matrix.specs.declared.Phase.the-variants.{Equivalent, Different}
 use Rattle.matrix.specs.declared.PhaseAnswer.{PhaseAnswer}
 use Rattle.matrix.proofs.Terms.{zero-by}

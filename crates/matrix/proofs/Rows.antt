@@ -10,10 +10,10 @@ use lib.Seq.{sets}
 use lib.IntN.{ℤ, pos, negsuc, natAbs}
 use Rattle.algebra.specs.Words.{upTo, fillWords, joined}
 use Rattle.algebra.proofs.Blocks.{blocks-joined, blocks-same, joined-rows, joined-same}
-use Rattle.exact.specs.Exact.{Exact, exact, equal}
+use Rattle.exact.specs.Exact.{Exact, exact, equal, isZero}
 use Rattle.exact.proofs.Exact.{one-by, mul-lowest}
 use Rattle.exact.proofs.Equal.{equal-true}
-use Rattle.cells.specs.Cells.{cellAt, cellWords, exponentAt, isZero, fill}
+use Rattle.cells.specs.Cells.{cellAt, cellWords, exponentAt, fill}
 use Rattle.matrix.specs.Factors.{Scaling, scaledRow, combinedRow}
 use Rattle.matrix.proofs.Terms.{zero-by, zero-left, zero-first}
 

@@ -11,11 +11,11 @@ use Rattle.algebra.proofs.Ring.{semi}
 use Rattle.algebra.proofs.Quadratic.{ℤ√2i}
 use Rattle.algebra.proofs.Dyadic.{low-zero}
 use Rattle.algebra.proofs.Blocks.{Same}
-use Rattle.exact.specs.Exact.{Exact, exact, Number, numbers, lowest, isLowest}
+use Rattle.exact.specs.Exact.{Exact, exact, Number, numbers, lowest, isLowest, isZero}
 use Rattle.exact.specs.Inner.{Coords}
 use Rattle.exact.proofs.Exact.{exacts, exactHalving, plus-zero}
-use Rattle.cells.specs.Cells.{isZero}
-use Rattle.cells.proofs.Cell.{zero-is, cell-same, exponent-same}
+use Rattle.exact.proofs.IsZero.{zero-is}
+use Rattle.cells.proofs.Cell.{cell-same, exponent-same}
 use Rattle.matrix.specs.Factors.{Factor}
 
 -- ---- a zero factor

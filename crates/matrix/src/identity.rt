@@ -1,6 +1,8 @@
 // The identity, written.
 use cells::write_cell;
+use scalar::ONE;
 use scalar::Scalar;
+use scalar::ZERO;
 ghost use mathlib.Core.Path.{_≡_};
 ghost use Prim.Native.Nat.{_+_, _*_, _≤_};
 ghost use lib.ListN.{length};
@@ -13,14 +15,7 @@ ghost use Rattle.matrix.specs.Matrix.{identified};
 fn unit_entry(r: usize, c: usize) -> Scalar
     ensures { λ v. ⌜ v ≡ scalarOf (δ exact r c) ⌝ }
 {
-    if r == c {
-        Scalar {
-            n: [1, 0, 0, 0],
-            e: 0,
-        }
-    } else {
-        Scalar { n: [0; 4], e: 0 }
-    }
+    if r == c { ONE } else { ZERO }
 }
 
 // Write the identity of d rows and columns to `at` on.

@@ -1,34 +1,19 @@
 // Rows of numbers in words: one multiplied, or two multiplied and added.
 use super::words::clear;
 use super::words::copy;
-use cells::products::sum_of_products;
-use cells::products::times;
 use cells::read_cell;
 use cells::write_cell;
 use cells::zero_at;
 use scalar::Scalar;
+use scalar::ZERO;
+use scalar::products::sum_of_products;
+use scalar::products::times;
 ghost use mathlib.Core.Path.{_≡_};
-ghost use Rattle.exact.specs.Exact.{exact, equal};
+ghost use Rattle.exact.specs.Exact.{exact};
 ghost use Rattle.exact.specs.Inner.{Coords};
 ghost use Rattle.scalar.specs.Calls.{value};
-ghost use Rattle.cells.specs.Cells.{cellAt, isZero, fill};
+ghost use Rattle.cells.specs.Cells.{cellAt, fill};
 ghost use Rattle.matrix.specs.Factors.{Factor, Scaling, scaledRow, combinedRow};
-
-fn is_zero(x: Scalar) -> bool
-    ensures { λ r. ⌜ r ≡ isZero (value x .num) ⌝ }
-{
-    let a = x.n;
-    (a[0] | a[1] | a[2] | a[3]) == 0
-}
-
-fn is_one(x: Scalar) -> bool
-    ensures { λ r. ⌜ r ≡ equal (value x) (exact .𝟙) ⌝ }
-{
-    x.equals(Scalar {
-        n: [1, 0, 0, 0],
-        e: 0,
-    })
-}
 
 // x times the number at q; a zero is passed over.
 fn scaled_entry(buf: &[i64], x: Scalar, q: usize) -> Scalar
@@ -36,7 +21,7 @@ fn scaled_entry(buf: &[i64], x: Scalar, q: usize) -> Scalar
     ensures { λ v. ⌜ value v ≡ exact ._⊗_ (value x) (cellAt (now (buf .entry)) q) ⌝ }
 {
     if zero_at(buf, q) {
-        return Scalar { n: [0; 4], e: 0 };
+        return ZERO;
     }
     let b = read_cell(buf, q);
     times(x, b)
@@ -78,11 +63,11 @@ fn scale_row(buf: &mut [i64], x: Scalar, from: usize, to: usize, d: usize)
     requires { ⌜ Scaling (now buf) (value x) from to d ⌝ }
     ensures { λ _. ⌜ now (buf .exit) ≡ fill (now (buf .entry)) to d (scaledRow (now (buf .entry)) (value x) from) ⌝ }
 {
-    if is_zero(x) {
+    if x.is_zero() {
         clear(buf, to, d * 5);
         return;
     }
-    if is_one(x) {
+    if x.is_one() {
         copy(buf, from, to, d * 5);
         return;
     }
@@ -110,11 +95,11 @@ pub fn combine_rows(buf: &mut [i64], x: Scalar, p: usize, y: Scalar, q: usize, t
     requires { ⌜ Scaling (now buf) (value x) p to d × Scaling (now buf) (value y) q to d ⌝ }
     ensures { λ _. ⌜ now (buf .exit) ≡ fill (now (buf .entry)) to d (combinedRow (now (buf .entry)) (value x) p (value y) q) ⌝ }
 {
-    if is_zero(y) {
+    if y.is_zero() {
         scale_row(buf, x, p, to, d);
         return;
     }
-    if is_zero(x) {
+    if x.is_zero() {
         scale_row(buf, y, q, to, d);
         return;
     }

@@ -6,6 +6,7 @@ ghost use Rattle.exact.specs.Exact.{exact, imaginary, invSqrtTwo, wellFormed};
 ghost use Rattle.scalar.specs.Calls.{value, verdictNumber, acceptedAs, accepted, refusedWith, fitting, fittingScalar, integerAnswer, omegaAnswer, negAnswer, conjAnswer, halfAnswer, addAnswer, mulAnswer};
 
 pub mod numerators;
+pub mod products;
 pub mod ranges;
 
 use exact::numerators::neg4;
@@ -33,6 +34,13 @@ pub struct Scalar {
     pub n: [i64; 4],
     pub e: u32,
 }
+
+pub const ZERO: Scalar = Scalar { n: [0; 4], e: 0 };
+
+pub const ONE: Scalar = Scalar {
+    n: [1, 0, 0, 0],
+    e: 0,
+};
 
 // Document 01's numbers: 0 is no refusal, TooLarge is 9, Malformed is 10.
 pub enum Verdict {
@@ -63,7 +71,7 @@ pub fn refused(v: Verdict) -> Answer
     ensures { λ r. ⌜ r ≡ refusedWith v ⌝ }
 {
     Answer {
-        value: Scalar { n: [0; 4], e: 0 },
+        value: ZERO,
         verdict: v,
     }
 }
@@ -201,7 +209,7 @@ impl Scalar {
         }
         let x = self.n;
         let e = self.e;
-        checked(reduce(x[0], x[1], x[2], x[3], e + 1))
+        checked(reduce(x, e + 1))
     }
 
     pub fn mul(self, other: Scalar) -> Answer
@@ -219,7 +227,7 @@ impl Scalar {
         let f = other.e;
         let z = product(x, y);
         Answer {
-            value: reduce(z[0], z[1], z[2], z[3], e + f),
+            value: reduce(z, e + f),
             verdict: Verdict::Accepted,
         }
     }

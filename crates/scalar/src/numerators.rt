@@ -7,15 +7,19 @@ use exact::numerators::sum4;
 ghost use mathlib.Core.Path.{_≡_};
 ghost use Prim.Native.Nat.{_-_, _≤_};
 ghost use Rattle.algebra.specs.Dyadic.{frac};
-ghost use Rattle.exact.specs.Exact.{number, exact, lowest};
+ghost use Rattle.exact.specs.Exact.{exact, lowest};
 ghost use Rattle.exact.specs.Inner.{numberOf, Within, scaled, roomNumerator};
 ghost use Rattle.scalar.specs.Calls.{scalarOf};
 
 // The lowest form of the numerators over 2^e, by one shift.
-pub fn reduce(a: i64, b: i64, c: i64, d: i64, e: u32) -> Scalar
+pub fn reduce(x: [i64; 4], e: u32) -> Scalar
     requires { ⌜ e ≤ 63 ⌝ }
-    ensures { λ r. ⌜ r ≡ scalarOf (lowest (number a b c d) e) ⌝ }
+    ensures { λ r. ⌜ r ≡ scalarOf (lowest (numberOf x) e) ⌝ }
 {
+    let a = x[0];
+    let b = x[1];
+    let c = x[2];
+    let d = x[3];
     let t = common_zeros(a, b, c, d);
     let k = least(t, e);
     Scalar {
@@ -31,5 +35,5 @@ pub fn aligned_sum(x: [i64; 4], e: u32, y: [i64; 4], f: u32) -> Scalar
 {
     let p = scaled4(x, f - e);
     let s = sum4(p, y);
-    reduce(s[0], s[1], s[2], s[3], f)
+    reduce(s, f)
 }

@@ -3,12 +3,14 @@ use super::MAX_EXPONENT;
 use super::MAX_NUMERATOR;
 use super::NARROW_EXPONENT;
 use super::NARROW_NUMERATOR;
+use super::ONE;
 use super::Scalar;
 use exact::ranges::all_even;
+use exact::ranges::all_zero;
 use exact::ranges::are_within;
 ghost use mathlib.Core.Path.{_≡_};
 ghost use mathlib.Core.Bool.{_&&_};
-ghost use Rattle.exact.specs.Exact.{inRange, isLowest, wellFormed, narrow, equal};
+ghost use Rattle.exact.specs.Exact.{exact, inRange, isLowest, wellFormed, narrow, isZero, equal};
 ghost use Rattle.scalar.specs.Calls.{value};
 
 impl Scalar {
@@ -52,6 +54,19 @@ impl Scalar {
         let e = self.e;
         let f = other.e;
         (((x[0] == y[0]) & (x[1] == y[1])) & ((x[2] == y[2]) & (x[3] == y[3]))) & (e == f)
+    }
+
+    pub fn is_zero(self) -> bool
+        ensures { λ r. ⌜ r ≡ isZero (value self .num) ⌝ }
+    {
+        let x = self.n;
+        all_zero(x)
+    }
+
+    pub fn is_one(self) -> bool
+        ensures { λ r. ⌜ r ≡ equal (value self) (exact .𝟙) ⌝ }
+    {
+        self.equals(ONE)
     }
 }
 

@@ -1,6 +1,6 @@
 -- `zero_at` meets its contract.
 use Rattle.cells.specs.Cells.{cellAt}
-use Rattle.cells.proofs.Cell.{union-zero}
+use Rattle.exact.proofs.IsZero.{union-zero}
 use borrow.Author.Needs.{needs}
 use Rattle.cells.proofs.zero_at.Statement.{statement}
 use Rattle.cells.proofs.zero_at.Tie as tie

@@ -3,7 +3,6 @@ use mathlib.Core.Path.{sym, ap, _∙_}
 use mathlib.Core.Bool.{Bool, cond}
 use native.Mathlib.Omega.{arith}
 use borrow.Author.Needs.{needs}
-use Rattle.scalar.specs.Calls.{value}
 use Rattle.gate.specs.Operators.{one, none}
 use Rattle.gate.proofs.Columns.{swap-test, spot-below}
 use borrow.Author.Needs.{needs}
@@ -28,17 +27,11 @@ bit-of-requires-3 c κs = search needs
 bit-of-requires-4 : tie.Need-bit-of-requires-4
 bit-of-requires-4 c κs = search needs
 
-unit-requires : tie.Need-unit-requires
-unit-requires c κs = search needs
-
 returns : tie.Need-returns
-returns c = ap value (c .unit .ensures) ∙ sym (swap-test (c .before .before .before .before .before .before .before .before .args .n) (c .before .before .before .before .before .before .before .before .args .a) (c .before .before .before .before .before .before .before .before .args .b) (c .before .before .before .before .before .before .before .before .args .row) (c .before .before .before .before .before .before .before .before .args .col) (c .before .before .before .before .before .before .before .clear-both .result) (c .before .before .before .before .before .before .clear-both2 .result) (c .before .before .before .before .before .bit-of .result) (c .before .before .before .before .bit-of2 .result) (c .before .before .before .bit-of3 .result) (c .before .before .bit-of4 .result) (c .before .before .before .before .before .before .before .before .pre .0) (c .before .before .before .before .before .before .before .before .pre .1) (c .before .before .before .before .before .before .before .clear-both .ensures) (c .before .before .before .before .before .before .clear-both2 .ensures) (c .before .before .before .before .before .bit-of .ensures) (c .before .before .before .before .bit-of2 .ensures) (c .before .before .before .bit-of3 .ensures) (c .before .before .bit-of4 .ensures) ∙ ap (λ (t : Bool). cond t one none) (c .before .if1 .taken))
-
-zero-requires : tie.Need-zero-requires
-zero-requires c κs = search needs
+returns c = sym (swap-test (c .before .before .before .before .before .before .before .args .n) (c .before .before .before .before .before .before .before .args .a) (c .before .before .before .before .before .before .before .args .b) (c .before .before .before .before .before .before .before .args .row) (c .before .before .before .before .before .before .before .args .col) (c .before .before .before .before .before .before .clear-both .result) (c .before .before .before .before .before .clear-both2 .result) (c .before .before .before .before .bit-of .result) (c .before .before .before .bit-of2 .result) (c .before .before .bit-of3 .result) (c .before .bit-of4 .result) (c .before .before .before .before .before .before .before .pre .0) (c .before .before .before .before .before .before .before .pre .1) (c .before .before .before .before .before .before .clear-both .ensures) (c .before .before .before .before .before .clear-both2 .ensures) (c .before .before .before .before .bit-of .ensures) (c .before .before .before .bit-of2 .ensures) (c .before .before .bit-of3 .ensures) (c .before .bit-of4 .ensures) ∙ ap (λ (t : Bool). cond t one none) (c .if1 .taken))
 
 returns-2 : tie.Need-returns-2
-returns-2 c = ap value (c .zero .ensures) ∙ sym (swap-test (c .before .before .before .before .before .before .before .before .args .n) (c .before .before .before .before .before .before .before .before .args .a) (c .before .before .before .before .before .before .before .before .args .b) (c .before .before .before .before .before .before .before .before .args .row) (c .before .before .before .before .before .before .before .before .args .col) (c .before .before .before .before .before .before .before .clear-both .result) (c .before .before .before .before .before .before .clear-both2 .result) (c .before .before .before .before .before .bit-of .result) (c .before .before .before .before .bit-of2 .result) (c .before .before .before .bit-of3 .result) (c .before .before .bit-of4 .result) (c .before .before .before .before .before .before .before .before .pre .0) (c .before .before .before .before .before .before .before .before .pre .1) (c .before .before .before .before .before .before .before .clear-both .ensures) (c .before .before .before .before .before .before .clear-both2 .ensures) (c .before .before .before .before .before .bit-of .ensures) (c .before .before .before .before .bit-of2 .ensures) (c .before .before .before .bit-of3 .ensures) (c .before .before .bit-of4 .ensures) ∙ ap (λ (t : Bool). cond t one none) (c .before .if1 .left))
+returns-2 c = sym (swap-test (c .before .before .before .before .before .before .before .args .n) (c .before .before .before .before .before .before .before .args .a) (c .before .before .before .before .before .before .before .args .b) (c .before .before .before .before .before .before .before .args .row) (c .before .before .before .before .before .before .before .args .col) (c .before .before .before .before .before .before .clear-both .result) (c .before .before .before .before .before .clear-both2 .result) (c .before .before .before .before .bit-of .result) (c .before .before .before .bit-of2 .result) (c .before .before .bit-of3 .result) (c .before .bit-of4 .result) (c .before .before .before .before .before .before .before .pre .0) (c .before .before .before .before .before .before .before .pre .1) (c .before .before .before .before .before .before .clear-both .ensures) (c .before .before .before .before .before .clear-both2 .ensures) (c .before .before .before .before .bit-of .ensures) (c .before .before .before .bit-of2 .ensures) (c .before .before .bit-of3 .ensures) (c .before .bit-of4 .ensures) ∙ ap (λ (t : Bool). cond t one none) (c .if1 .left))
 
 pub swap-entry-spec : {M : Type 1} → statement M
 swap-entry-spec =
@@ -50,7 +43,5 @@ swap-entry-spec =
     bit-of-requires-2
     bit-of-requires-3
     bit-of-requires-4
-    unit-requires
     returns
-    zero-requires
     returns-2)

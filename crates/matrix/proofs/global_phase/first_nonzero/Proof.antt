@@ -3,7 +3,7 @@ use mathlib.Core.Path.{_≡_, sym, ap, _∙_}
 use Prim.Native.Nat.{ℕ, _-_, _≤_}
 use native.Mathlib.Omega.{arith}
 use borrow.Author.Tests.{not-true, not-false}
-use Rattle.cells.specs.Cells.{isZero}
+use Rattle.exact.specs.Exact.{isZero}
 use Rattle.matrix.specs.Phase.{entryOf, firstNot, pivot}
 use Rattle.matrix.proofs.GlobalPhase.{first-next, first-here, first-end}
 use Rattle.matrix.proofs.global_phase.first_nonzero.Statement.{statement}

@@ -1,14 +1,16 @@
 -- `Scalar::mul` meets its contract: the questions, then the product of the numerators, reduced.
 use mathlib.Core.Path.{_≡_, ap, sym, _∙_}
 use mathlib.Core.Bool.{true, _&&_}
+use mathlib.Core.List.{List}
 use Prim.Native.Nat.{_+_}
+use lib.IntN.{ℤ}
 use native.Mathlib.Omega.{arith}
 use borrow.Author.Tests.{not-true, not-false}
 use borrow.Author.Needs.{needs}
 use Rattle.algebra.proofs.Tests.{and-split}
-use Rattle.exact.specs.Exact.{Exact, Number, lowest, wellFormed, narrow}
+use Rattle.exact.specs.Exact.{Exact, lowest, wellFormed, narrow}
 use Rattle.exact.specs.Inner.{numberOf}
-use Rattle.exact.proofs.Sizes.{narrow-within, narrow-exponent, number-back}
+use Rattle.exact.proofs.Sizes.{narrow-bound, narrow-exponent}
 use Rattle.scalar.specs.Calls.{value, scalarOf, acceptedAs, narrowAnswer}
 use Rattle.scalar.proofs.Questions.{both-no, mul-yes, mul-wide}
 use Rattle.scalar.proofs.Scalar.mul.Statement.{statement}
@@ -56,42 +58,26 @@ product-requires : tie.Need-product-requires
 product-requires c κs =
     let k = c .before .before in
     let s = k .before .before .before .before in
-    (narrow-within (left s) (each-narrow k .0), narrow-within (right s) (each-narrow k .1))
-
-array-copy-out-reduce : tie.Need-array-copy-out-reduce
-array-copy-out-reduce c = search needs
-
-array-copy-out-reduce-2 : tie.Need-array-copy-out-reduce-2
-array-copy-out-reduce-2 c = search needs
-
-array-copy-out-reduce-3 : tie.Need-array-copy-out-reduce-3
-array-copy-out-reduce-3 c = search needs
-
-array-copy-out-reduce-4 : tie.Need-array-copy-out-reduce-4
-array-copy-out-reduce-4 c = search needs
+    (narrow-bound (left s) (each-narrow k .0), narrow-bound (right s) (each-narrow k .1))
 
 add-reduce : tie.Need-add-reduce
 add-reduce c =
-    let k = c .before .before .before .before .before .before .before in
+    let k = c .before .before .before in
     let s = k .before .before .before .before in
     omega (arith, narrow-exponent (left s) (each-narrow k .0), narrow-exponent (right s) (each-narrow k .1))
 
 reduce-requires : tie.Need-reduce-requires
 reduce-requires c κs =
-    let k = c .before .before .before .before .before .before .before in
+    let k = c .before .before .before in
     let s = k .before .before .before .before in
     omega (arith, narrow-exponent (left s) (each-narrow k .0), narrow-exponent (right s) (each-narrow k .1))
 
 returns-3 : tie.Need-returns-3
 returns-3 c =
-    let a = c .before in
-    let m = a .before .before .before .before in
+    let m = c .before in
     let k = m .before .before .before in
     let s = k .before .before .before .before in
-    ap acceptedAs (c .reduce .ensures
-    ∙ ap (λ (z : Number). scalarOf (lowest z (left s .exp + right s .exp)))
-    (number-back (m .product .result) (a .before .before .before .reduce-arg .given) (a .before .before .reduce-arg2 .given) (a .before .reduce-arg3 .given) (a .reduce-arg4 .given)
-    ∙ ap numberOf (m .product .ensures)))
+    ap acceptedAs (c .reduce .ensures ∙ ap (λ (l : List ℤ). scalarOf (lowest (numberOf l) (left s .exp + right s .exp))) (m .product .ensures))
     ∙ sym (mul-yes (left s) (right s) (formed (k .before .before)) (narrows k))
 
 pub mul-spec : {M : Type 1} → statement M
@@ -105,10 +91,6 @@ mul-spec =
     refused-requires-2
     returns-2
     product-requires
-    array-copy-out-reduce
-    array-copy-out-reduce-2
-    array-copy-out-reduce-3
-    array-copy-out-reduce-4
     add-reduce
     reduce-requires
     returns-3)

@@ -3,9 +3,8 @@ use mathlib.Core.Path.{ap, _∙_}
 use mathlib.Core.List.{List}
 use lib.IntN.{ℤ}
 use Rattle.algebra.specs.Dyadic.{frac}
-use Rattle.exact.specs.Exact.{Number, numbers, lowest}
+use Rattle.exact.specs.Exact.{numbers, lowest}
 use Rattle.exact.specs.Inner.{numberOf}
-use Rattle.exact.proofs.Sizes.{number-back}
 use Rattle.exact.proofs.Align.{aligned}
 use Rattle.scalar.specs.Calls.{scalarOf}
 use borrow.Author.Needs.{needs}
@@ -21,45 +20,19 @@ scaled4-requires c κs = search needs
 sum4-requires : tie.Need-sum4-requires
 sum4-requires c κs = (rw (c .scaled4 .ensures) (c .before .pre .1 .1 .0), c .before .pre .1 .1 .1)
 
-array-copy-out-reduce : tie.Need-array-copy-out-reduce
-array-copy-out-reduce c = search needs
-
-array-copy-out-reduce-2 : tie.Need-array-copy-out-reduce-2
-array-copy-out-reduce-2 c = search needs
-
-array-copy-out-reduce-3 : tie.Need-array-copy-out-reduce-3
-array-copy-out-reduce-3 c = search needs
-
-array-copy-out-reduce-4 : tie.Need-array-copy-out-reduce-4
-array-copy-out-reduce-4 c = search needs
-
 reduce-requires : tie.Need-reduce-requires
 reduce-requires c κs = search needs
 
 returns : tie.Need-returns
 returns c =
-    let a4 = c .before in
-    let m = a4 .before .before .before .before in
+    let m = c .before in
     let s = m .before .before in
     let f = s .args .f in
     let y = numberOf (s .args .y) in
     c .reduce .ensures
-    ∙ ap (λ (z : Number). scalarOf (lowest z f))
-    (number-back (m .sum4 .result) (a4 .before .before .before .reduce-arg .given) (a4 .before .before .reduce-arg2 .given) (a4 .before .reduce-arg3 .given) (a4 .reduce-arg4 .given)
-    ∙ ap numberOf (m .sum4 .ensures)
-    ∙ ap (λ (l : List ℤ). numbers ._⊕_ (numberOf l) y) (m .before .scaled4 .ensures))
+    ∙ ap (λ (l : List ℤ). scalarOf (lowest (numberOf l) f)) (m .sum4 .ensures)
+    ∙ ap (λ (l : List ℤ). scalarOf (lowest (numbers ._⊕_ (numberOf l) y) f)) (m .before .scaled4 .ensures)
     ∙ ap scalarOf (aligned (frac (numberOf (s .args .x)) (s .args .e)) (frac y f) (s .pre .0))
 
 pub aligned-sum-spec : {M : Type 1} → statement M
-aligned-sum-spec =
-    tie.close
-    (tie.spec
-    sub-scaled4
-    scaled4-requires
-    sum4-requires
-    array-copy-out-reduce
-    array-copy-out-reduce-2
-    array-copy-out-reduce-3
-    array-copy-out-reduce-4
-    reduce-requires
-    returns)
+aligned-sum-spec = tie.close (tie.spec sub-scaled4 scaled4-requires sum4-requires reduce-requires returns)

@@ -1,13 +1,14 @@
-// A sum with a product, a product, and a sum of two products. No verdicts: a caller shows that all fits.
+// A sum with a product, a product, one with a conjugate, and a sum of two products. No verdicts: a caller shows that all fits.
+use super::Scalar;
+use super::numerators::aligned_sum;
+use super::numerators::reduce;
+use exact::numerators::conj_product;
 use exact::numerators::product;
-use scalar::Scalar;
-use scalar::numerators::aligned_sum;
-use scalar::numerators::reduce;
 ghost use mathlib.Core.Path.{_≡_};
 ghost use Prim.Native.Nat.{_+_};
-ghost use Rattle.exact.specs.Exact.{exact};
+ghost use Rattle.exact.specs.Exact.{exact, conj};
 ghost use Rattle.exact.specs.Inner.{Coords, Room};
 ghost use Rattle.scalar.specs.Calls.{value, scalarOf};
 
 // acc + x·y
 pub fn fma(acc: Scalar, x: Scalar, y: Scalar) -> Scalar
@@ -36,7 +37,19 @@ pub fn times(x: Scalar, y: Scalar) -> Scalar
     let v = y.n;
     let f = x.e + y.e;
     let z = product(u, v);
-    reduce(z[0], z[1], z[2], z[3], f)
+    reduce(z, f)
+}
+
+// x times the conjugate of y, in lowest form.
+pub fn times_conj(x: Scalar, y: Scalar) -> Scalar
+    requires { ⌜ Coords 1 28 (value x) × Coords 1 28 (value y) ⌝ }
+    ensures { λ r. ⌜ r ≡ scalarOf (exact ._⊗_ (value x) (conj (value y))) ⌝ }
+{
+    let u = x.n;
+    let v = y.n;
+    let f = x.e + y.e;
+    let z = conj_product(u, v);
+    reduce(z, f)
 }
 
 // x·p + y·q, put into lowest form once.

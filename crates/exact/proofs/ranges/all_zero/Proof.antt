@@ -1,9 +1,9 @@
--- `matrix::linear::is_zero` meets its contract.
-use Rattle.exact.specs.Inner.{numberOf}
-use Rattle.cells.proofs.Cell.{union-zero}
+-- `all_zero` meets its contract: the four words joined.
 use borrow.Author.Needs.{needs}
-use Rattle.matrix.proofs.linear.is_zero.Statement.{statement}
-use Rattle.matrix.proofs.linear.is_zero.Tie as tie
+use Rattle.exact.specs.Inner.{numberOf}
+use Rattle.exact.proofs.IsZero.{union-zero}
+use Rattle.exact.proofs.ranges.all_zero.Statement.{statement}
+use Rattle.exact.proofs.ranges.all_zero.Tie as tie
 
 array-copy-out-result : tie.Need-array-copy-out-result
 array-copy-out-result c = search needs
@@ -18,14 +18,10 @@ array-copy-out-result-4 : tie.Need-array-copy-out-result-4
 array-copy-out-result-4 c = search needs
 
 returns : tie.Need-returns
-returns c =
-    let c3 = c .before in
-    let c2 = c3 .before in
-    let c1 = c2 .before in
-    union-zero (numberOf (c1 .before .before .args .x .n)) (c1 .result .given) (c2 .result2 .given) (c3 .result3 .given) (c .result4 .given)
+returns c = union-zero (numberOf (c .before .before .before .before .args .t1)) (c .before .before .before .result .given) (c .before .before .result2 .given) (c .before .result3 .given) (c .result4 .given)
 
-pub is-zero-spec : {M : Type 1} → statement M
-is-zero-spec =
+pub all-zero-spec : {M : Type 1} → statement M
+all-zero-spec =
     tie.close
     (tie.spec
     array-copy-out-result

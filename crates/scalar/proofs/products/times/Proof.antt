@@ -1,0 +1,34 @@
+-- `times` meets its contract.
+use mathlib.Core.Path.{ap, _∙_}
+use mathlib.Core.List.{List}
+use Prim.Native.Nat.{_+_}
+use lib.IntN.{ℤ}
+use native.Mathlib.Omega.{arith}
+use Rattle.exact.specs.Exact.{lowest}
+use Rattle.exact.specs.Inner.{numberOf}
+use Rattle.exact.proofs.Align.{factor-within}
+use Rattle.scalar.specs.Calls.{value, scalarOf}
+use borrow.Author.Needs.{needs}
+use Rattle.scalar.proofs.products.times.Statement.{statement}
+use Rattle.scalar.proofs.products.times.Tie as tie
+
+abbrev start : tie.After-struct-known2 → tie.Start
+start c = c .before .before .before .before
+
+add-f : tie.Need-add-f
+add-f c = search needs
+
+product-requires : tie.Need-product-requires
+product-requires c κs = let s = start c in (factor-within (value (s .args .x)) (s .pre .0), factor-within (value (s .args .y)) (s .pre .1))
+
+reduce-requires : tie.Need-reduce-requires
+reduce-requires c κs = let s = start (c .before) in omega (arith, s .pre .0 .exponent, s .pre .1 .exponent)
+
+returns : tie.Need-returns
+returns c =
+    let m = c .before in
+    let a = start (m .before) .args in
+    c .reduce .ensures ∙ ap (λ (l : List ℤ). scalarOf (lowest (numberOf l) (a .x .e + a .y .e))) (m .product .ensures)
+
+pub times-spec : {M : Type 1} → statement M
+times-spec = tie.close (tie.spec add-f product-requires reduce-requires returns)
