@@ -11,11 +11,12 @@ use Rattle.gate.specs.Gate.{Gate, gatesOf, formed, placed, supported, valid, we
 use Rattle.gate.specs.Verdict.{firstFault, faultOf}
 use Rattle.circuit.specs.declared.limits.Limits.{Limits}
 use Rattle.circuit.specs.declared.footprint.Footprint.{Footprint}
-use Rattle.circuit.specs.declared.verdict.Verdict.{Verdict}
-use Rattle.circuit.specs.declared.verdict.Verdict.the-variants.{Accepted, OverLimit, UnsupportedAt, OperandAt, BadStore, MalformedAt, OverCeiling, TooHeavy, ShortBuffer}
+use Rattle.verdict.specs.declared.Verdict.{Verdict}
+use Rattle.verdict.specs.declared.Verdict.the-variants.{Accepted, OverLimit, UnsupportedAt, OperandAt, BadStore, MalformedAt, OverCeiling, TooHeavy, ShortBuffer}
 use Rattle.circuit.specs.Limits.{matrixCeilings, branchCeilings}
 use Rattle.circuit.specs.Footprint.{footprintOf}
-use Rattle.circuit.specs.Questions.{accepted, ask, after, atGate, gatesVerdict, storeFits, sizesOf, withinLimits, maxWeight, roomFor, channelVerdict}
+use Rattle.verdict.specs.Verdict.{accepted}
+use Rattle.circuit.specs.Questions.{ask, after, atGate, gatesVerdict, storeFits, sizesOf, withinLimits, maxWeight, roomFor, channelVerdict}
 use Rattle.circuit.specs.Asked.{Question, question, firstBy, firstNo, decidedBy, ofGates, gateQuestions, numberQuestions, asked}
 
 abbrev pub yes : Question → Bool

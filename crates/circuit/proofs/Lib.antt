@@ -1,5 +1,5 @@
 pub mod Counts
 pub mod Products
-pub mod Gates
+pub mod AlongGates
 pub mod Numbers
 pub mod Asked

@@ -16,12 +16,13 @@ use Rattle.gate.specs.Verdict.{faultOf}
 use Rattle.circuit.specs.declared.limits.Limits.{Limits}
 use Rattle.circuit.specs.declared.footprint.Footprint.{Footprint}
 use Rattle.circuit.specs.declared.sizes.Sizes.{Sizes}
-use Rattle.circuit.specs.declared.verdict.Verdict.{Verdict}
-use Rattle.circuit.specs.declared.verdict.Verdict.the-variants.{Accepted, OverLimit, BadStore, MalformedAt, OverCeiling, TooHeavy, ShortBuffer}
+use Rattle.verdict.specs.declared.Verdict.{Verdict}
+use Rattle.verdict.specs.declared.Verdict.the-variants.{Accepted, OverLimit, BadStore, MalformedAt, OverCeiling, TooHeavy, ShortBuffer}
 use Rattle.circuit.specs.Limits.{matrixCeilings, branchCeilings}
 use Rattle.circuit.specs.Footprint.{footprintOf}
 use Rattle.circuit.specs.Sizes.{cellsNeeded, termsNeeded, unitaryCells, unitaryTerms, unitaryResult, unitaryWork}
-use Rattle.circuit.specs.Questions.{ask, after, accepted, sizesOf, withinLimits, roomFor, gatesVerdict, wordsVerdict, numbersVerdict, unitaryWithin, matrixVerdict}
+use Rattle.verdict.specs.Verdict.{accepted}
+use Rattle.circuit.specs.Questions.{ask, after, sizesOf, withinLimits, roomFor, gatesVerdict, wordsVerdict, numbersVerdict, unitaryWithin, matrixVerdict}
 
 module _ (l : Limits) where
   pub matrix-low : matrixCeilings l ≡ true → (l .«max_qubits» ≤ 5) × (l .«max_operations» ≤ 1024)

@@ -7,8 +7,8 @@ use lib.ListN.{length}
 use Rattle.algebra.specs.Lists.{total}
 use Rattle.gate.specs.Gate.{Gate, gatesOf, elem, formed, placed, supported, weight}
 use Rattle.circuit.specs.declared.limits.Limits.{Limits}
-use Rattle.circuit.specs.declared.verdict.Verdict.{Verdict}
-use Rattle.circuit.specs.declared.verdict.Verdict.the-variants.{Accepted, OverLimit, UnsupportedAt, OperandAt, BadStore, MalformedAt, OverCeiling, TooHeavy, ShortBuffer}
+use Rattle.verdict.specs.declared.Verdict.{Verdict}
+use Rattle.verdict.specs.declared.Verdict.the-variants.{Accepted, OverLimit, UnsupportedAt, OperandAt, BadStore, MalformedAt, OverCeiling, TooHeavy, ShortBuffer}
 use Rattle.circuit.specs.Limits.{matrixCeilings, branchCeilings}
 use Rattle.circuit.specs.Footprint.{footprintOf}
 use Rattle.circuit.specs.Questions.{storeFits, sizesOf, withinLimits, maxWeight, roomFor}

@@ -4,9 +4,10 @@ use mathlib.Core.List.{List, [], _∷_, _++_}
 use Prim.Native.Nat.{ℕ, zero, suc, _^_}
 use lib.Dec.{eqb}
 use lib.ListN.{replicate}
-use Rattle.circuit.specs.declared.verdict.Verdict.{Verdict}
+use Rattle.verdict.specs.declared.Verdict.{Verdict}
 use Rattle.circuit.specs.Limits.{ceilings}
-use Rattle.circuit.specs.Questions.{channelVerdict, verdictNumber, verdictIndex}
+use Rattle.verdict.specs.Verdict.{verdictNumber, verdictIndex}
+use Rattle.circuit.specs.Questions.{channelVerdict}
 
 -- the words of k gates of one kind, with words a and b
 abbrev pub gates : ℕ → ℕ → ℕ → ℕ → List ℕ

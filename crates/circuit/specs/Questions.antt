@@ -13,37 +13,12 @@ use Rattle.gate.specs.Verdict.{faultOf}
 use Rattle.circuit.specs.declared.limits.Limits.{Limits}
 use Rattle.circuit.specs.declared.footprint.Footprint.{Footprint}
 use Rattle.circuit.specs.declared.sizes.Sizes.{Sizes}
-use Rattle.circuit.specs.declared.verdict.Verdict.{Verdict}
-use Rattle.circuit.specs.declared.verdict.Verdict.the-variants.{Accepted, OverLimit, UnsupportedAt, OperandAt, BadStore, MalformedAt, OverCeiling, TooHeavy, ShortBuffer}
+use Rattle.verdict.specs.declared.Verdict.{Verdict}
+use Rattle.verdict.specs.declared.Verdict.the-variants.{Accepted, OverLimit, UnsupportedAt, OperandAt, BadStore, MalformedAt, OverCeiling, TooHeavy, ShortBuffer}
+use Rattle.verdict.specs.Verdict.{accepted}
 use Rattle.circuit.specs.Limits.{matrixCeilings, branchCeilings}
 use Rattle.circuit.specs.Footprint.{footprintOf}
 use Rattle.circuit.specs.Sizes.{cellsNeeded, termsNeeded, resultWords, workWords, unitaryCells, unitaryTerms, unitaryResult, unitaryWork}
-
--- ---- document 01's number and index of a verdict
-abbrev pub verdictNumber : Verdict → ℕ
-verdictNumber Accepted = 0
-verdictNumber OverLimit = 1
-verdictNumber (UnsupportedAt i) = 2
-verdictNumber (OperandAt i) = 3
-verdictNumber BadStore = 4
-verdictNumber (MalformedAt i) = 5
-verdictNumber OverCeiling = 6
-verdictNumber TooHeavy = 7
-verdictNumber ShortBuffer = 8
-
-abbrev pub verdictIndex : Verdict → ℕ
-verdictIndex Accepted = 0
-verdictIndex OverLimit = 0
-verdictIndex (UnsupportedAt i) = i
-verdictIndex (OperandAt i) = i
-verdictIndex BadStore = 0
-verdictIndex (MalformedAt i) = i
-verdictIndex OverCeiling = 0
-verdictIndex TooHeavy = 0
-verdictIndex ShortBuffer = 0
-
-abbrev pub accepted : Verdict → Bool
-accepted v = eqb (verdictNumber v) 0
 
 -- ---- one question after the other
 -- the refusal where the answer is no, and what follows where it is yes

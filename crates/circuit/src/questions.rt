@@ -1,14 +1,14 @@
 // The questions of circuit_channel and of circuit_unitary, in order.
 use crate::footprint::Footprint;
+use crate::gates::is_store;
+use crate::gates::judge_gates;
 use crate::limits::Limits;
 use crate::sizes::Sizes;
 use crate::sizes::has_unitary_room;
 use crate::sizes::is_unitary_within;
 use crate::sizes::power;
-use crate::verdict::Verdict;
-use crate::verdict::is_store;
-use crate::verdict::judge_gates;
 use gate::judge::Asking;
+use verdict::Verdict;
 ghost use mathlib.Core.Path.{_≡_};
 ghost use mathlib.Core.Bool.{true, _&&_};
 ghost use Prim.Native.Nat.{_≤_};

@@ -26,7 +26,8 @@ use Rattle.kraus.proofs.Counts.{Counts, schedule-counts}
 use Rattle.kraus.proofs.Limits.{Kraus}
 use Rattle.circuit.specs.declared.limits.Limits.{Limits}
 use Rattle.circuit.specs.Footprint.{footprintOf}
-use Rattle.circuit.specs.Questions.{accepted, channelVerdict}
+use Rattle.verdict.specs.Verdict.{accepted}
+use Rattle.circuit.specs.Questions.{channelVerdict}
 use Rattle.channel.specs.Layout.{side, readBack}
 use Rattle.collect.specs.Delivered.{overwritten}
 use Rattle.judge.specs.Delivered.{circuitWords, zeroed}

@@ -9,8 +9,8 @@ use Rattle.algebra.specs.Lists.{every}
 use Rattle.gate.specs.Gate.{gatesOf, valid}
 use Rattle.circuit.specs.declared.limits.Limits.{Limits}
 use Rattle.circuit.specs.declared.footprint.Footprint.{Footprint}
-use Rattle.circuit.specs.declared.verdict.Verdict.{Verdict}
-use Rattle.circuit.specs.declared.verdict.Verdict.the-variants.{Accepted, OverLimit, BadStore, MalformedAt, OverCeiling, TooHeavy, ShortBuffer}
+use Rattle.verdict.specs.declared.Verdict.{Verdict}
+use Rattle.verdict.specs.declared.Verdict.the-variants.{Accepted, OverLimit, BadStore, MalformedAt, OverCeiling, TooHeavy, ShortBuffer}
 use Rattle.circuit.specs.Limits.{matrixCeilings, branchCeilings}
 use Rattle.circuit.specs.Footprint.{footprintOf}
 use Rattle.circuit.specs.Questions.{storeFits, sizesOf, withinLimits, maxWeight, roomFor}

@@ -6,10 +6,11 @@ use lib.ListN.{length}
 use lib.IntN.{ℤ}
 use Rattle.gate.specs.Gate.{gatesOf}
 use Rattle.circuit.specs.declared.limits.Limits.{Limits}
-use Rattle.circuit.specs.declared.verdict.Verdict.{Verdict}
+use Rattle.verdict.specs.declared.Verdict.{Verdict}
 use Rattle.circuit.specs.Footprint.{footprintOf}
 use Rattle.circuit.specs.Sizes.{workWords}
-use Rattle.circuit.specs.Questions.{accepted, sizesOf, channelVerdict}
+use Rattle.verdict.specs.Verdict.{accepted}
+use Rattle.circuit.specs.Questions.{sizesOf, channelVerdict}
 use Rattle.collect.specs.Delivered.{overwritten}
 use Rattle.judge.specs.Delivered.{circuitWords, zeroed}
 

@@ -3,7 +3,7 @@ use circuit::limits::Limits;
 use judge::call::circuit_channel;
 use unitary::circuit_unitary;
 ghost use mathlib.Core.Path.{_≡_};
-ghost use Rattle.circuit.specs.Questions.{verdictNumber, verdictIndex};
+ghost use Rattle.verdict.specs.Verdict.{verdictNumber, verdictIndex};
 ghost use Rattle.judge.specs.Call as channel;
 ghost use Rattle.unitary.specs.Unitary as unitary;
 ghost use Rattle.judge_c.specs.Interface.{limitsOf};

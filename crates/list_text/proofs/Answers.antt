@@ -4,10 +4,10 @@ use mathlib.Core.Bool.{Bool, true, false, cond}
 use mathlib.Core.List.{List}
 use Prim.Native.Nat.{ℕ}
 use lib.IntN.{ℤ}
-use Rattle.circuit.specs.declared.verdict.Verdict.{Verdict}
+use Rattle.verdict.specs.declared.Verdict.{Verdict}
 use Rattle.circuit.specs.declared.limits.Limits.{Limits}
 use Rattle.circuit.specs.Limits.{ceilings}
-use Rattle.circuit.specs.Questions.{accepted, verdictNumber, verdictIndex}
+use Rattle.verdict.specs.Verdict.{accepted, verdictNumber, verdictIndex}
 use Rattle.judge.specs.Call.{verdictOf, resultAfter, workAfter}
 use Rattle.circuit_text.specs.declared.input.Circuit.{Circuit}
 use Rattle.circuit_text.specs.Input.{bitsIn, storeIn, wordsIn, circuitIn, numbersOf, isInputText}

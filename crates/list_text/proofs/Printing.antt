@@ -7,7 +7,7 @@ use native.Mathlib.Omega.{arith}
 use lib.ListN.{length, drop, length-append, length-drop}
 use lib.IntN.{ℤ}
 use Rattle.circuit.specs.Limits.{ceilings}
-use Rattle.circuit.specs.Questions.{verdictNumber, verdictIndex}
+use Rattle.verdict.specs.Verdict.{verdictNumber, verdictIndex}
 use Rattle.judge.specs.Call.{verdictOf, accepts, resultAfter}
 use Rattle.demands.specs.Demands.{delivered}
 use Rattle.demands.proofs.Demands.{demand1, demand2}

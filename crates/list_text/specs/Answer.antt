@@ -3,9 +3,9 @@ use mathlib.Core.Bool.{cond}
 use mathlib.Core.List.{List}
 use Prim.Native.Nat.{ℕ}
 use lib.IntN.{ℤ}
-use Rattle.circuit.specs.declared.verdict.Verdict.{Verdict}
+use Rattle.verdict.specs.declared.Verdict.{Verdict}
 use Rattle.circuit.specs.Limits.{ceilings}
-use Rattle.circuit.specs.Questions.{accepted, verdictNumber, verdictIndex}
+use Rattle.verdict.specs.Verdict.{accepted, verdictNumber, verdictIndex}
 use Rattle.judge.specs.Call.{verdictOf, resultAfter, workAfter}
 use Rattle.circuit_text.specs.Input.{bitsIn, storeIn, wordsIn, circuitIn, numbersOf, isInputText}
 use Rattle.listing.specs.Listing.{listingOf, refusalLine, inputLine}

@@ -6,8 +6,8 @@ use lib.Dec.{eqb}
 use lib.IntN.{ℤ}
 use Rattle.exact.specs.Exact.{equal}
 use Rattle.scalar.specs.Calls.{value}
-use Rattle.circuit.specs.declared.verdict.Verdict.{Verdict}
-use Rattle.circuit.specs.Questions.{verdictNumber, verdictIndex}
+use Rattle.verdict.specs.declared.Verdict.{Verdict}
+use Rattle.verdict.specs.Verdict.{verdictNumber, verdictIndex}
 use Rattle.channel.specs.declared.compare.Difference.{Difference}
 use Rattle.channel.specs.declared.compare.Found.{Found}
 use Rattle.channel.specs.declared.compare.Found.the-variants.{Refused, Same, Dimensions, Entry}

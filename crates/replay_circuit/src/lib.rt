@@ -3,11 +3,11 @@ pub mod difference;
 pub mod effects_of;
 
 use circuit::limits::Limits;
-use circuit::verdict::Verdict;
 use replay::record::check;
 use replay::sum::checksum;
 use replay::tally::Outcome;
 use replay::text::read;
+use verdict::Verdict;
 ghost use mathlib.Core.Path.{_≡_};
 ghost use Rattle.replay_circuit.specs.Limits.{matrixLimitsAt};
 ghost use Rattle.replay_circuit.specs.Answers.{comparedAt};

@@ -24,11 +24,12 @@ use Rattle.gate.specs.Verdict.{firstFault, onQubits, faultOf}
 use Rattle.gate.proofs.Questions.{placed-other}
 use Rattle.kraus.specs.Branch.{branches}
 use Rattle.circuit.specs.declared.limits.Limits.{Limits}
-use Rattle.circuit.specs.declared.verdict.Verdict.{Verdict}
-use Rattle.circuit.specs.declared.verdict.Verdict.the-variants.{Accepted as Yes, OverLimit, MalformedAt, OverCeiling, TooHeavy, ShortBuffer}
+use Rattle.verdict.specs.declared.Verdict.{Verdict}
+use Rattle.verdict.specs.declared.Verdict.the-variants.{Accepted as Yes, OverLimit, MalformedAt, OverCeiling, TooHeavy, ShortBuffer}
 use Rattle.circuit.specs.Limits.{matrixCeilings}
 use Rattle.circuit.specs.Sizes.{unitaryResult, unitaryWork}
-use Rattle.circuit.specs.Questions.{accepted, ask, after, atGate, gatesVerdict, unitaryWithin, matrixVerdict, unitaryVerdict}
+use Rattle.verdict.specs.Verdict.{accepted}
+use Rattle.circuit.specs.Questions.{ask, after, atGate, gatesVerdict, unitaryWithin, matrixVerdict, unitaryVerdict}
 use Rattle.circuit.proofs.Numbers.{matrix-low}
 use Rattle.circuit.proofs.Products.{square-is}
 use Rattle.branches.specs.Store.{storeWords}

@@ -11,7 +11,7 @@ use Rattle.gate.specs.Gate.{gatesOf}
 use Rattle.gate.specs.Embedding.{Matrix, Equal, adjoint}
 use Rattle.kraus.specs.Dense.{cell}
 use Rattle.circuit.specs.declared.limits.Limits.{Limits}
-use Rattle.circuit.specs.Questions.{accepted}
+use Rattle.verdict.specs.Verdict.{accepted}
 use Rattle.unitary.specs.Unitary.{circuitUnitary, verdictOf, resultAfter}
 
 -- U†U = I, of a matrix of d rows and columns

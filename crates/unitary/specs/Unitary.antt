@@ -12,9 +12,10 @@ use Rattle.gate.specs.Gate.{Gate, gatesOf}
 use Rattle.gate.specs.Entries.{gateEntry}
 use Rattle.kraus.specs.Dense.{table, left}
 use Rattle.circuit.specs.declared.limits.Limits.{Limits}
-use Rattle.circuit.specs.declared.verdict.Verdict.{Verdict}
+use Rattle.verdict.specs.declared.Verdict.{Verdict}
 use Rattle.circuit.specs.Sizes.{unitaryWork}
-use Rattle.circuit.specs.Questions.{accepted, unitaryVerdict}
+use Rattle.verdict.specs.Verdict.{accepted}
+use Rattle.circuit.specs.Questions.{unitaryVerdict}
 
 abbrev pub unitaryStep : ℕ → List Exact → Gate → List Exact
 unitaryStep n m g = left exact (2 ^ n) (gateEntry n g 0) m

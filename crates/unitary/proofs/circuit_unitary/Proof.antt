@@ -2,7 +2,7 @@
 use mathlib.Core.Path.{sym, ap, _∙_}
 use lib.ListN.{length}
 use borrow.Author.Needs.{needs}
-use Rattle.circuit.specs.Questions.{accepted}
+use Rattle.verdict.specs.Verdict.{accepted}
 use Rattle.unitary.proofs.Accepting.{unitary-accepted, after-yes, after-no}
 use Rattle.unitary.proofs.circuit_unitary.Statement.{statement}
 use Rattle.unitary.proofs.circuit_unitary.Tie as tie

@@ -4,7 +4,7 @@ use mathlib.Core.Bool.{true, false}
 use native.Mathlib.Omega.{arith}
 use borrow.Author.Needs.{needs}
 use borrow.Author.Tests.{le-leb, lt-leb}
-use Rattle.circuit.specs.Questions.{accepted}
+use Rattle.verdict.specs.Verdict.{accepted}
 use Rattle.circuit.proofs.Numbers.{judged, last, three-asked, unitary-few, unitary-many, unitary-room, unitary-weight, few-gates-small, after-yes, after-no}
 use Rattle.circuit.proofs.questions.judge_matrix.Statement.{statement}
 use Rattle.circuit.proofs.questions.judge_matrix.Tie as tie

@@ -4,7 +4,7 @@ use Prim.Native.Nat.{_%_}
 use borrow.Author.Needs.{needs}
 use borrow.Author.Tests.{eq-eqb, ne-eqb}
 use lib.ListN.{length}
-use Rattle.circuit.specs.declared.verdict.Verdict.the-variants.{MalformedAt, OverCeiling}
+use Rattle.verdict.specs.declared.Verdict.the-variants.{MalformedAt, OverCeiling}
 use Rattle.circuit.specs.Questions.{ask, matrixVerdict}
 use Rattle.circuit.proofs.questions.judge_unitary.Statement.{statement}
 use Rattle.circuit.proofs.questions.judge_unitary.Tie as tie

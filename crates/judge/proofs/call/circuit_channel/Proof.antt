@@ -2,7 +2,7 @@
 use mathlib.Core.Path.{_≡_, sym, ap, _∙_}
 use mathlib.Core.Bool.{true, false}
 use borrow.Author.Needs.{needs}
-use Rattle.circuit.specs.Questions.{accepted}
+use Rattle.verdict.specs.Verdict.{accepted}
 use Rattle.judge.specs.Call.{accepts}
 use Rattle.judge.proofs.Running.{result-accepted, work-accepted, result-refused, work-refused}
 use Rattle.judge.proofs.call.circuit_channel.Statement.{statement}

@@ -1,6 +1,6 @@
 -- `foreituka_circuit_channel` meets its contract.
 use mathlib.Core.Path.{ap, _∙_}
-use Rattle.circuit.specs.Questions.{verdictNumber, verdictIndex}
+use Rattle.verdict.specs.Verdict.{verdictNumber, verdictIndex}
 use Rattle.judge.specs.Call.{verdictOf, resultAfter, workAfter}
 use borrow.Author.Needs.{needs}
 use Rattle.judge_c.proofs.circuits.foreituka_circuit_channel.Statement.{statement}

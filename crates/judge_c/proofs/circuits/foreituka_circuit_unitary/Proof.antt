@@ -1,6 +1,6 @@
 -- `foreituka_circuit_unitary` meets its contract.
 use mathlib.Core.Path.{ap, _∙_}
-use Rattle.circuit.specs.Questions.{verdictNumber, verdictIndex}
+use Rattle.verdict.specs.Verdict.{verdictNumber, verdictIndex}
 use Rattle.unitary.specs.Unitary.{verdictOf, resultAfter, workAfter}
 use borrow.Author.Needs.{needs}
 use Rattle.judge_c.proofs.circuits.foreituka_circuit_unitary.Statement.{statement}

@@ -8,9 +8,9 @@ use Rattle.gate.specs.declared.judge.GateVerdict.{GateVerdict}
 use Rattle.gate.specs.Gate.{gatesOf}
 use Rattle.gate.specs.Verdict.{gateOf, faultOf}
 use Rattle.circuit.specs.Questions.{atGate, gatesVerdict}
-use Rattle.circuit.proofs.Gates.{verdictFrom, verdict-more, verdict-none}
-use Rattle.circuit.proofs.verdict.judge_gates.Statement.{statement}
-use Rattle.circuit.proofs.verdict.judge_gates.Tie as tie
+use Rattle.circuit.proofs.AlongGates.{verdictFrom, verdict-more, verdict-none}
+use Rattle.circuit.proofs.gates.judge_gates.Statement.{statement}
+use Rattle.circuit.proofs.gates.judge_gates.Tie as tie
 
 abbrev Inv-loop : tie.InvT-loop
 Inv-loop words n asking count i₀ i = gatesVerdict (faultOf asking n) 0 (gatesOf words) ≡ verdictFrom words (faultOf asking n) i

@@ -7,9 +7,9 @@ use lib.Dec.{leb}
 use lib.ListN.{length, getD, drop}
 use borrow.Author.Tests.{le-leb, lt-leb, eq-eqb, ne-eqb}
 use Rattle.algebra.specs.Lists.{every}
-use Rattle.circuit.proofs.Gates.{every-more, every-none}
-use Rattle.circuit.proofs.verdict.is_store.Statement.{statement}
-use Rattle.circuit.proofs.verdict.is_store.Tie as tie
+use Rattle.circuit.proofs.AlongGates.{every-more, every-none}
+use Rattle.circuit.proofs.gates.is_store.Statement.{statement}
+use Rattle.circuit.proofs.gates.is_store.Tie as tie
 
 abbrev Inv-loop : tie.InvT-loop
 Inv-loop store bits i₀ i = every (λ (b : ℕ). leb b 1) store ≡ every (λ (b : ℕ). leb b 1) (drop i store)

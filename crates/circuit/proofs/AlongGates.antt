@@ -10,8 +10,8 @@ use Rattle.algebra.specs.Lists.{every}
 use Rattle.gate.specs.declared.judge.GateVerdict.{GateVerdict}
 use Rattle.gate.specs.Gate.{Gate, gateAt, gatesFrom}
 use Rattle.gate.proofs.Listed.{gates-more, gates-none}
-use Rattle.circuit.specs.declared.verdict.Verdict.{Verdict}
-use Rattle.circuit.specs.declared.verdict.Verdict.the-variants.{Accepted}
+use Rattle.verdict.specs.declared.Verdict.{Verdict}
+use Rattle.verdict.specs.declared.Verdict.the-variants.{Accepted}
 use Rattle.circuit.specs.Questions.{atGate, gatesVerdict}
 
 -- ---- gates
