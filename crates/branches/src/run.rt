@@ -2,8 +2,8 @@
 use super::bank::branch_size;
 use super::bank::start_branch;
 use super::bank::step;
-use gate::entry::flips;
-use gate::entry::write_rows;
+use gate::rows::flips;
+use gate::rows::write_rows;
 use gate::judge::GateWords;
 use gate::judge::read_gate;
 ghost use mathlib.Core.Path.{_≡_};

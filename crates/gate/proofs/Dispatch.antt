@@ -16,7 +16,7 @@ use Rattle.gate.specs.Embed.{embed}
 use Rattle.gate.specs.Verdict.{onQubits}
 use Rattle.gate.specs.Entries.{Table, tableOf, identity, coreOf, smallOf, unitaryOf, targetOf, operatorAt, gateEntry, Ready, Apart2, Apart3}
 use Rattle.gate.proofs.Gate.{elem-in}
-use Rattle.gate.proofs.Columns.{one-table, two-table, three-table}
+use Rattle.gate.proofs.Placed.{one-table, two-table, three-table}
 use Rattle.gate.proofs.Questions.{on-one, on-two, on-three}
 
 -- ---- kinds

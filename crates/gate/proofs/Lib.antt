@@ -7,8 +7,8 @@ pub mod Isometry
 pub mod Complete
 pub mod Embedding
 pub mod Listed
-pub mod Masked
-pub mod Columns
+pub mod Placed
 pub mod Kind
 pub mod Dispatch
 pub mod Partner
+pub mod Masks

@@ -8,21 +8,20 @@ use native.Mathlib.Decide.{ℕ-discrete}
 use native.Mathlib.Omega.{arith}
 use lib.Bits.{bitXor}
 use lib.Dec.{T, eqb, ltb}
-use lib.ListN.{length, getD}
+use lib.ListN.{length}
 use lib.Pow.{pow-mono}
 use borrow.Author.Tests.{ltb-true, eqb-true, eqb-false, eq-eqb, ne-eqb, not-true}
 use Rattle.algebra.specs.Lists.{allBelow}
 use Rattle.algebra.proofs.Tests.{exhaust, and-split, holds-true}
 use Rattle.exact.specs.Exact.{Exact, exact}
-use Rattle.scalar.specs.Calls.{value}
 use Rattle.gate.specs.Gate.{Gate, gate, arity, elem}
 use Rattle.gate.specs.Operators.{Small, one, none, operators, controlled, swapped}
 use Rattle.gate.specs.Embed.{bit, bitsOf, embed}
-use Rattle.gate.specs.Entries.{cleared, Table, pick, smallOf, coreOf, operatorAt, targetOf, gateEntry, flips, partner, rowEntry, Ready, Spot, Apart2, Apart3}
+use Rattle.gate.specs.Entries.{operatorAt, targetOf, gateEntry, partner, Ready, Apart2, Apart3}
 use Rattle.gate.proofs.Embedding.{respects-identity}
-use Rattle.gate.proofs.Columns.{agree-one, embed-controlled, embed-swap}
+use Rattle.gate.proofs.Placed.{clear, cleared, agree-one, embed-controlled, embed-swap}
 use Rattle.gate.proofs.Gate.{elem-in}
-use Rattle.gate.proofs.Dispatch.{one-kinds, two-kinds, three-kinds, three-else, one-on, two-on, three-on, one-entry, controlled-entry, swap-entry, twice-controlled-entry, controlled-swap-entry}
+use Rattle.gate.proofs.Dispatch.{one-kinds, two-kinds, three-kinds, three-else, one-on, two-on, three-on, controlled-entry, swap-entry, twice-controlled-entry, controlled-swap-entry}
 
 -- row r has entries in columns r and s alone, below d
 pub record Two (d : ℕ) (row : ℕ → Exact) (r s : ℕ) : Type 0 where
@@ -39,13 +38,10 @@ ruled true b c h p q = absurd (true≢false p)
 ruled false true c h p q = absurd (true≢false q)
 ruled false false c h p q = not-true c h
 
-small : {n : ℕ} → n ≤ 5 → (r : ℕ) → r < 2 ^ n → r < 32
+pub small : {n : ℕ} → n ≤ 5 → (r : ℕ) → r < 2 ^ n → r < 32
 small few r h = omega (arith, pow-mono {i = _} {j = 5} few)
 
 -- ---- one bit
-abbrev clr : ℕ → ℕ → ℕ
-clr w r = r - r / 2 ^ w % 2 * 2 ^ w
-
 abbrev one-below : ℕ → ℕ → ℕ → Bool
 one-below n w r = ltb (bitXor r (2 ^ w)) (2 ^ n)
 
@@ -53,7 +49,7 @@ abbrev one-other : ℕ → ℕ → Bool
 one-other w r = not (eqb (bitXor r (2 ^ w)) r)
 
 abbrev one-alone : ℕ → ℕ → ℕ → Bool
-one-alone w r c = eqb c r || (eqb c (bitXor r (2 ^ w)) || not (eqb (clr w r) (clr w c)))
+one-alone w r c = eqb c r || (eqb c (bitXor r (2 ^ w)) || not (eqb (clear w r) (clear w c)))
 
 one-computed : T (allBelow 6 (λ (n : ℕ). allBelow n (λ (w : ℕ). allBelow (2 ^ n) (one-below n w))))
 one-computed = tt
@@ -64,14 +60,14 @@ other-computed = tt
 alone-computed : T (allBelow 5 (λ (w : ℕ). allBelow 32 (λ (r : ℕ). allBelow 32 (one-alone w r))))
 alone-computed = tt
 
-one-two : (n q r : ℕ) → n ≤ 5 → q < n → r < 2 ^ n → (u : Small) → Two (2 ^ n) (embed exact n (q ∷ []) u r) r (bitXor r (2 ^ (n - 1 - q)))
+pub one-two : (n q r : ℕ) → n ≤ 5 → q < n → r < 2 ^ n → (u : Small) → Two (2 ^ n) (embed exact n (q ∷ []) u r) r (bitXor r (2 ^ (n - 1 - q)))
 one-two n q r few l hr u =
     record {
       below = ltb-true (bitXor r (2 ^ w)) (2 ^ n) (holds-true (exhaust (one-below n w) (2 ^ n) (exhaust (λ (w : ℕ). allBelow (2 ^ n) (one-below n w)) n (exhaust (λ (n : ℕ). allBelow n (λ (w : ℕ). allBelow (2 ^ n) (one-below n w))) 6 one-computed n (omega arith)) w lw) r hr));
       other = eqb-false (bitXor r (2 ^ w)) r (not-true _ (holds-true (exhaust (one-other w) 32 (exhaust (λ (w : ℕ). allBelow 32 (one-other w)) 5 other-computed w lw5) r (small few r hr))));
       zeros = λ c hc p e.
           ap (λ (t : Bool). cond t (u (bitsOf n (q ∷ []) r) (bitsOf n (q ∷ []) c)) none)
-          (agree-one n q r c few l hr hc ∙ ruled (eqb c r) (eqb c (bitXor r (2 ^ w))) (eqb (clr w r) (clr w c))
+          (agree-one n q r c l hr hc ∙ ruled (eqb c r) (eqb c (bitXor r (2 ^ w))) (eqb (clear w r) (clear w c))
           (holds-true (exhaust (one-alone w r) 32 (exhaust (λ (r : ℕ). allBelow 32 (one-alone w r)) 32 (exhaust (λ (w : ℕ). allBelow 32 (λ (r : ℕ). allBelow 32 (one-alone w r))) 5 alone-computed w lw5) r (small few r hr)) c (small few c hc)))
           (ne-eqb c r p) (ne-eqb c (bitXor r (2 ^ w)) e));
     }
@@ -87,20 +83,20 @@ one-two n q r few l hr u =
 
 -- one bit flipped: the other bits are the same
 abbrev one-flipped : ℕ → ℕ → Bool
-one-flipped w r = eqb (clr w r) (clr w (bitXor r (2 ^ w))) && eqb (1 - r / 2 ^ w % 2) (bitXor r (2 ^ w) / 2 ^ w % 2)
+one-flipped w r = eqb (clear w r) (clear w (bitXor r (2 ^ w))) && eqb (1 - r / 2 ^ w % 2) (bitXor r (2 ^ w) / 2 ^ w % 2)
 
 flipped-computed : T (allBelow 5 (λ (w : ℕ). allBelow 32 (one-flipped w)))
 flipped-computed = tt
 
 -- the two entries of a row of a matrix on one qubit
 module _ (n q r : ℕ) (few : n ≤ 5) (l : q < n) (hr : r < 2 ^ n) (u : Small) where
-  single-own : u (bit n q r ∷ []) (bit n q r ∷ []) ≡ embed exact n (q ∷ []) u r r
-  single-own = sym (ap (λ (t : Bool). cond t (u (bit n q r ∷ []) (bit n q r ∷ [])) none) (agree-one n q r r few l hr hr ∙ eq-eqb (cleared n q r) (cleared n q r) refl))
+  pub single-own : u (bit n q r ∷ []) (bit n q r ∷ []) ≡ embed exact n (q ∷ []) u r r
+  single-own = sym (ap (λ (t : Bool). cond t (u (bit n q r ∷ []) (bit n q r ∷ [])) none) (agree-one n q r r l hr hr ∙ eq-eqb (cleared n q r) (cleared n q r) refl))
 
-  single-other : u (bit n q r ∷ []) ((1 - bit n q r) ∷ []) ≡ embed exact n (q ∷ []) u r (bitXor r (2 ^ (n - 1 - q)))
+  pub single-other : u (bit n q r ∷ []) ((1 - bit n q r) ∷ []) ≡ embed exact n (q ∷ []) u r (bitXor r (2 ^ (n - 1 - q)))
   single-other =
       ap (λ (y : ℕ). u (bit n q r ∷ []) (y ∷ [])) (eqb-true (1 - bit n q r) (bit n q s) (tests .1))
-      ∙ sym (ap (λ (t : Bool). cond t (u (bit n q r ∷ []) (bit n q s ∷ [])) none) (agree-one n q r s few l hr (one-two n q r few l hr u .below) ∙ tests .0))
+      ∙ sym (ap (λ (t : Bool). cond t (u (bit n q r ∷ []) (bit n q s ∷ [])) none) (agree-one n q r s l hr (one-two n q r few l hr u .below) ∙ tests .0))
     where
       w : ℕ
       w = n - 1 - q
@@ -108,11 +104,11 @@ module _ (n q r : ℕ) (few : n ≤ 5) (l : q < n) (hr : r < 2 ^ n) (u : Small) 
       s : ℕ
       s = bitXor r (2 ^ w)
 
-      tests : (eqb (clr w r) (clr w s) ≡ true) × (eqb (1 - r / 2 ^ w % 2) (s / 2 ^ w % 2) ≡ true)
+      tests : (eqb (clear w r) (clear w s) ≡ true) × (eqb (1 - r / 2 ^ w % 2) (s / 2 ^ w % 2) ≡ true)
       tests = and-split _ _ (holds-true (exhaust (one-flipped w) 32 (exhaust (λ (w : ℕ). allBelow 32 (one-flipped w)) 5 flipped-computed w (omega arith)) r (small few r hr)))
 
 -- ---- a control
-control-two : (n q : ℕ) (qs : List ℕ) (u : Small) {r s : ℕ} → r < 2 ^ n → q < n → elem q qs ≡ false → Two (2 ^ n) (embed exact n qs u r) r s → Two (2 ^ n) (embed exact n (q ∷ qs) (controlled u) r) r s
+pub control-two : (n q : ℕ) (qs : List ℕ) (u : Small) {r s : ℕ} → r < 2 ^ n → q < n → elem q qs ≡ false → Two (2 ^ n) (embed exact n qs u r) r s → Two (2 ^ n) (embed exact n (q ∷ qs) (controlled u) r) r s
 control-two n q qs u {r} hr l other t =
     record {
       below = t .below;
@@ -133,8 +129,8 @@ both-below n w v r = eqb w v || ltb (bitXor r (2 ^ w + 2 ^ v)) (2 ^ n)
 abbrev both-other : ℕ → ℕ → ℕ → Bool
 both-other w v r = not (eqb (bitXor r (2 ^ w + 2 ^ v)) r)
 
-abbrev changed : ℕ → ℕ → ℕ → ℕ → Bool
-changed w v r c = eqb (clr w (clr v r)) (clr w (clr v c)) && (eqb (r / 2 ^ w % 2) (c / 2 ^ v % 2) && eqb (r / 2 ^ v % 2) (c / 2 ^ w % 2))
+abbrev pub changed : ℕ → ℕ → ℕ → ℕ → Bool
+changed w v r c = eqb (clear w (clear v r)) (clear w (clear v c)) && (eqb (r / 2 ^ w % 2) (c / 2 ^ v % 2) && eqb (r / 2 ^ v % 2) (c / 2 ^ w % 2))
 
 abbrev both-alone : ℕ → ℕ → ℕ → ℕ → Bool
 both-alone w v r c = eqb c r || (eqb c (bitXor r (2 ^ w + 2 ^ v)) || not (changed w v r c))
@@ -148,7 +144,7 @@ differ-computed = tt
 swap-computed : T (allBelow 5 (λ (w : ℕ). allBelow 5 (λ (v : ℕ). allBelow 32 (λ (r : ℕ). allBelow 32 (both-alone w v r)))))
 swap-computed = tt
 
-swap-two : (n a b r : ℕ) → n ≤ 5 → Apart2 n a b → r < 2 ^ n → Two (2 ^ n) (embed exact n (a ∷ b ∷ []) swapped r) r (bitXor r (2 ^ (n - 1 - a) + 2 ^ (n - 1 - b)))
+pub swap-two : (n a b r : ℕ) → n ≤ 5 → Apart2 n a b → r < 2 ^ n → Two (2 ^ n) (embed exact n (a ∷ b ∷ []) swapped r) r (bitXor r (2 ^ (n - 1 - a) + 2 ^ (n - 1 - b)))
 swap-two n a b r few h hr =
     record {
       below = ltb-true s (2 ^ n) (unequal (eqb w v) (ltb s (2 ^ n)) (holds-true
@@ -239,63 +235,3 @@ row-two {n} {g} {j} ready few r hr = go (ℕ-discrete (arity (g .kind)) 1) (ℕ-
     go (yes p) q = one-pair n j r few hr (g .a) (g .b) (g .c) (g .k) (one-on ready p) (g .kind) (one-kinds ready p)
     go (no p) (yes q) = two-pair n j r few hr (g .a) (g .b) (g .c) (g .k) (two-on ready q) (g .kind) (two-kinds ready q) (ready .which)
     go (no p) (no q) = let e = three-else ready (arity (g .kind)) refl p q in three-pair n j r few hr (g .a) (g .b) (g .c) (g .k) (three-on ready e) (g .kind) (three-kinds ready e) (ready .which)
-
--- ---- the bits that a gate may change, as the code finds them
-module _ (n a b c k : ℕ) where
-  abbrev weight : ℕ → ℕ
-  weight q = 2 ^ (n - 1 - q)
-
-  pub flips-swap : (m : ℕ) → m ≡ 19 → weight a + weight b ≡ flips n (gate m a b c k)
-  flips-swap m e = subst (λ (m : ℕ). weight a + weight b ≡ flips n (gate m a b c k)) (sym e) refl
-
-  pub flips-controlled-swap : (m : ℕ) → m ≡ 26 → weight b + weight c ≡ flips n (gate m a b c k)
-  flips-controlled-swap m e = subst (λ (m : ℕ). weight b + weight c ≡ flips n (gate m a b c k)) (sym e) refl
-
-  pub flips-target : (m : ℕ) → (m ≡ 19 → ⊥) → (m ≡ 26 → ⊥) → (u v : ℕ) → u ≡ arity m → u ≡ v → weight (getD (a ∷ b ∷ c ∷ []) (v - 1) 0) ≡ flips n (gate m a b c k)
-  flips-target m p q u v e f =
-      ap (λ (u : ℕ). weight (getD (a ∷ b ∷ c ∷ []) (u - 1) 0)) (sym f ∙ e)
-      ∙ sym (λ i. cond (ne-eqb m 19 p i) (weight a + weight b) (cond (ne-eqb m 26 q i) (weight b + weight c) (weight (getD (a ∷ b ∷ c ∷ []) (arity m - 1) 0))))
-
--- the weight of a qubit
-pub weight-small : (n q m : ℕ) → n ≤ 5 → m ≡ 2 ^ (n - 1 - q) → m ≤ 16
-weight-small n q m few e = omega (arith, e, pow-mono {i = n - 1 - q} {j = 4} (omega arith))
-
--- entry i of the rows lies in the matrix
-pub row-spot : {n : ℕ} {g : Gate} {j d i m c : ℕ} → Ready n g j → n ≤ 5 → d ≡ 2 ^ n → m ≡ flips n g → i < d * 2 → c ≡ cond (eqb (i % 2) 0) (i / 2) (bitXor (i / 2) m) → Spot n (i / 2) c
-row-spot {n} {g} {i = i} {m} {c} ready few e f h q = record { few = few; row-in = row; col-in = subst (λ (c : ℕ). c < 2 ^ n) (sym q) (go (eqb (i % 2) 0)) }
-  where
-    row : i / 2 < 2 ^ n
-    row = omega (arith, e, h)
-
-    other : bitXor (i / 2) m < 2 ^ n
-    other = subst (λ (m : ℕ). bitXor (i / 2) m < 2 ^ n) (sym f) (row-two ready few (i / 2) row .below)
-
-    go : (t : Bool) → cond t (i / 2) (bitXor (i / 2) m) < 2 ^ n
-    go true = row
-    go false = other
-
-pub row-entry : (n : ℕ) (g : Gate) (j i m c : ℕ) → m ≡ flips n g → c ≡ cond (eqb (i % 2) 0) (i / 2) (bitXor (i / 2) m) → gateEntry n g j (i / 2) c ≡ rowEntry n g j i
-row-entry n g j i m c f q = ap (gateEntry n g j (i / 2)) (q ∙ ap (λ (m : ℕ). cond (eqb (i % 2) 0) (i / 2) (bitXor (i / 2) m)) f)
-
--- entry i of the rows of a gate on one qubit, whose bit in the row is x
-module _ {n : ℕ} {g : Gate} {j i : ℕ} (ready : Ready n g j) (few : n ≤ 5) (single : arity (g .kind) ≡ 1) (h : i < 2 ^ n * 2) {u : Table} (e : u ≡ coreOf g j) {x : ℕ} (b : x ≡ bit n (g .a) (i / 2)) where
-  row : i / 2 < 2 ^ n
-  row = omega arith
-
-  entry-at : (c : ℕ) → embed exact n (g .a ∷ []) (smallOf (coreOf g j)) (i / 2) c ≡ gateEntry n g j (i / 2) c
-  entry-at c = one-entry n j (i / 2) c (g .a) (g .b) (g .c) (g .k) (g .kind) (one-kinds ready single) (ready .which)
-
-  one-flips : (m : ℕ) → elem m (12 ∷ 13 ∷ 2 ∷ 3 ∷ 4 ∷ 5 ∷ 6 ∷ 7 ∷ 0 ∷ 1 ∷ 15 ∷ 16 ∷ []) ≡ true → 2 ^ (n - 1 - g .a) ≡ flips n (gate m (g .a) (g .b) (g .c) (g .k))
-  one-flips = elem-in (λ (m : ℕ). 2 ^ (n - 1 - g .a) ≡ flips n (gate m (g .a) (g .b) (g .c) (g .k))) (12 ∷ 13 ∷ 2 ∷ 3 ∷ 4 ∷ 5 ∷ 6 ∷ 7 ∷ 0 ∷ 1 ∷ 15 ∷ 16 ∷ [])
-      (refl, (refl, (refl, (refl, (refl, (refl, (refl, (refl, (refl, (refl, (refl, (refl, tt))))))))))))
-
-  pub own-entry : i % 2 ≡ 0 → value (pick u x x) ≡ rowEntry n g j i
-  own-entry z =
-      (λ k. value (pick (e k) (b k) (b k))) ∙ single-own n (g .a) (i / 2) few (one-on ready single) row (smallOf (coreOf g j)) ∙ entry-at (i / 2)
-      ∙ sym (ap (λ (t : Bool). gateEntry n g j (i / 2) (cond t (i / 2) (partner n g (i / 2)))) (eq-eqb (i % 2) 0 z))
-
-  pub other-entry : i % 2 ≢ 0 → value (pick u x (1 - x)) ≡ rowEntry n g j i
-  other-entry z =
-      (λ k. value (pick (e k) (b k) (1 - b k))) ∙ single-other n (g .a) (i / 2) few (one-on ready single) row (smallOf (coreOf g j)) ∙ entry-at (bitXor (i / 2) (2 ^ (n - 1 - g .a)))
-      ∙ ap (λ (m : ℕ). gateEntry n g j (i / 2) (bitXor (i / 2) m)) (one-flips (g .kind) (one-kinds ready single))
-      ∙ sym (ap (λ (t : Bool). gateEntry n g j (i / 2) (cond t (i / 2) (partner n g (i / 2)))) (ne-eqb (i % 2) 0 z))

@@ -1,25 +1,19 @@
 -- Entries of a gate's matrix as the code finds them: qubits by their masks, and two-by-two matrices as arrays.
 use mathlib.Core.Path.{_≡_}
-use mathlib.Core.Bool.{cond, true, false}
+use mathlib.Core.Bool.{cond, true, false, _||_}
 use mathlib.Core.List.{List, [], _∷_}
-use Prim.Native.Nat.{ℕ, _+_, _-_, _*_, _/_, _%_, _^_, _≤_, _<_}
-use lib.Bits.{bitXor}
+use Prim.Native.Nat.{ℕ, _+_, _-_, _*_, _/_, _%_, _^_, _<_}
+use lib.Bits.{bitAnd, bitXor}
 use lib.Dec.{eqb}
 use lib.ListN.{length, getD}
 use Rattle.exact.specs.Exact.{Exact, exact}
 use Rattle.scalar.specs.declared.Scalar.{Scalar}
 use Rattle.scalar.specs.Calls.{value, scalarOf}
 use Rattle.gate.specs.Gate.{Gate, gate, arity, elem, qubits, formed, supported}
+use Rattle.gate.specs.declared.rows.Pair.{Pair}
 use Rattle.gate.specs.Verdict.{onQubits}
 use Rattle.gate.specs.Operators.{Small, Operator, operator, operators, unitaries, noUnitary, one, none, sameBits}
-use Rattle.gate.specs.Embed.{bit, embed}
-
--- ---- qubit q of a row or column number r, cleared and set
-abbrev pub cleared : ℕ → ℕ → ℕ → ℕ
-cleared n q r = r - bit n q r * 2 ^ (n - 1 - q)
-
-abbrev pub raised : ℕ → ℕ → ℕ → ℕ
-raised n q r = cleared n q r + 2 ^ (n - 1 - q)
+use Rattle.gate.specs.Embed.{embed}
 
 -- ---- two-by-two matrices as arrays, indexed by the row's and the column's bit
 abbrev pub Table : Type 0
@@ -77,6 +71,33 @@ partner n g r = bitXor r (flips n g)
 abbrev pub rowEntry : ℕ → Gate → ℕ → ℕ → Exact
 rowEntry n g j i = gateEntry n g j (i / 2) (cond (eqb (i % 2) 0) (i / 2) (partner n g (i / 2)))
 
+-- ---- the entries by masks
+-- the bits of a row number that are a gate's controls
+abbrev pub controls : ℕ → Gate → ℕ
+controls n g =
+    cond (eqb (arity (g .kind)) 1 || eqb (g .kind) 19) 0
+    (cond (eqb (arity (g .kind)) 2 || eqb (g .kind) 26) (2 ^ (n - 1 - g .a)) (2 ^ (n - 1 - g .a) + 2 ^ (n - 1 - g .b)))
+
+-- the entries of a row in its own column and in its partner's: where the target's bit is x
+abbrev pub pairOf : Table → ℕ → Pair
+pairOf t x = record { own = pick t x x; other = pick t x (1 - x) }
+
+-- where the gate leaves the row as it is
+abbrev pub kept : Pair
+kept = record { own = scalarOf one; other = scalarOf none }
+
+-- where the bits of two qubits that change places differ
+abbrev pub exchanged : Pair
+exchanged = record { own = scalarOf none; other = scalarOf one }
+
+-- the one that entry i of the rows is
+abbrev pub side : Pair → ℕ → Scalar
+side p i = cond (eqb (i % 2) 0) (p .own) (p .other)
+
+-- the pair of row r: `held` are the controls, and m the bits that the gate may change
+abbrev pub rowPair : Pair → Pair → ℕ → ℕ → ℕ → Pair
+rowPair low high held m r = cond (eqb (bitAnd r held) held) (cond (eqb (bitAnd r m) 0) low (cond (eqb (bitAnd r m) m) high exchanged)) kept
+
 -- ---- what is asked
 -- the two-by-two matrix of operator j: on the only qubit, or on the target; the identity for a swap, which has none
 abbrev pub coreOf : Gate → ℕ → Table
@@ -90,12 +111,6 @@ pub record Ready (n : ℕ) (g : Gate) (j : ℕ) : Type 0 where
   pub on : onQubits n g ≡ true
   pub able : supported g ≡ true
   pub which : j < length (operators g)
-
--- a row and a column of a matrix on at most 5 qubits
-pub record Spot (n r c : ℕ) : Type 0 where
-  pub few : n ≤ 5
-  pub row-in : r < 2 ^ n
-  pub col-in : c < 2 ^ n
 
 -- two or three different qubits
 pub record Apart2 (n a b : ℕ) : Type 0 where

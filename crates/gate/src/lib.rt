@@ -1,5 +1,4 @@
-// The gates of a circuit: the questions asked of one gate, and the entries of its matrices.
-pub mod entry;
+// The gates of a circuit: the questions asked of one gate, and the rows of its matrices.
 pub mod judge;
-pub mod masks;
+pub mod rows;
 pub mod tables;

@@ -5,9 +5,9 @@ use native.Mathlib.Omega.{arith}
 use borrow.Author.Needs.{needs}
 use Rattle.gate.specs.Gate.{arity}
 use Rattle.gate.proofs.Dispatch.{one-on, two-on, three-on, three-else}
-use Rattle.gate.proofs.Partner.{flips-swap, flips-controlled-swap, flips-target, weight-small}
-use Rattle.gate.proofs.entry.flips.Statement.{statement}
-use Rattle.gate.proofs.entry.flips.Tie as tie
+use Rattle.gate.proofs.Masks.{flips-swap, flips-controlled-swap, flips-target, weight-small}
+use Rattle.gate.proofs.rows.flips.Statement.{statement}
+use Rattle.gate.proofs.rows.flips.Tie as tie
 
 -- the places before each call
 abbrev start1 : tie.Then1 → tie.Start

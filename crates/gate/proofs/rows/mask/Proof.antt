@@ -2,10 +2,10 @@
 use Prim.Native.Nat.{_-_}
 use native.Mathlib.Omega.{arith}
 use borrow.Author.Needs.{needs}
-use Rattle.gate.proofs.Masked.{shift-is}
+use Rattle.gate.proofs.Masks.{shift-is}
 use borrow.Author.Needs.{needs}
-use Rattle.gate.proofs.masks.mask.Statement.{statement}
-use Rattle.gate.proofs.masks.mask.Tie as tie
+use Rattle.gate.proofs.rows.mask.Statement.{statement}
+use Rattle.gate.proofs.rows.mask.Tie as tie
 
 sub-result : tie.Need-sub-result
 sub-result c = search needs

@@ -1,0 +1,144 @@
+// The rows of a gate's matrices on n qubits. Row r has entries in two columns alone: its own, r, and its partner's, which has the bits flipped that the gate may change.
+use super::judge::GateWords;
+use super::judge::qubit_count;
+use super::tables::core_table;
+use super::tables::unit;
+use super::tables::zero;
+use cells::write_cell;
+use scalar::Scalar;
+ghost use mathlib.Core.Path.{_≡_};
+ghost use Prim.Native.Nat.{_+_, _-_, _*_, _/_, _^_, _≤_, _<_};
+ghost use lib.ListN.{length};
+ghost use Rattle.cells.specs.Cells.{fill};
+ghost use Rattle.gate.specs.Verdict.{gateOf};
+ghost use Rattle.gate.specs.Entries.{Ready, flips, controls, rowEntry, pairOf, kept, exchanged, side, rowPair};
+
+// The entries of a row in its own column and in its partner's.
+pub struct Pair {
+    pub own: Scalar,
+    pub other: Scalar,
+}
+
+// The weight of qubit q in a row or column number.
+fn mask(n: u32, q: u32) -> usize
+    requires { ⌜ (n ≤ 5) × (q < n) ⌝ }
+    ensures { λ m. ⌜ m ≡ 2 ^ (n - 1 - q) ⌝ }
+{
+    1usize << (n - 1 - q)
+}
+
+// The bits of a row number that a gate may change.
+pub fn flips(g: GateWords, n: u32) -> usize
+    requires { ⌜ (n ≤ 5) × Ready n (gateOf g) 0 ⌝ }
+    ensures { λ m. ⌜ m ≡ flips n (gateOf g) ⌝ }
+{
+    if g.kind == 19 {
+        let a = mask(n, g.a);
+        let b = mask(n, g.b);
+        return a + b;
+    }
+    if g.kind == 26 {
+        let b = mask(n, g.b);
+        let c = mask(n, g.c);
+        return b + c;
+    }
+    let used = qubit_count(g.kind);
+    if used == 1 {
+        return mask(n, g.a);
+    }
+    if used == 2 {
+        return mask(n, g.b);
+    }
+    mask(n, g.c)
+}
+
+// The bits of a row number that are a gate's controls.
+fn controls(g: GateWords, n: u32, j: usize) -> usize
+    requires { ⌜ (n ≤ 5) × Ready n (gateOf g) j ⌝ }
+    ensures { λ m. ⌜ m ≡ controls n (gateOf g) ⌝ }
+{
+    let used = qubit_count(g.kind);
+    if (used == 1) | (g.kind == 19) {
+        return 0;
+    }
+    let a = mask(n, g.a);
+    if (used == 2) | (g.kind == 26) {
+        return a;
+    }
+    let b = mask(n, g.b);
+    a + b
+}
+
+// The pair of the rows in which the target's bit is x.
+fn pair_of(u: [[Scalar; 2]; 2], x: usize) -> Pair
+    requires { ⌜ x < 2 ⌝ }
+    ensures { λ p. ⌜ p ≡ pairOf u x ⌝ }
+{
+    Pair {
+        own: u[x][x],
+        other: u[x][1 - x],
+    }
+}
+
+// The pair of a row that the gate leaves as it is.
+fn kept() -> Pair
+    ensures { λ p. ⌜ p ≡ kept ⌝ }
+{
+    let z = zero();
+    let o = unit();
+    Pair { own: o, other: z }
+}
+
+// The pair of a row in which the bits of two qubits that change places differ.
+fn exchanged() -> Pair
+    ensures { λ p. ⌜ p ≡ exchanged ⌝ }
+{
+    let z = zero();
+    let o = unit();
+    Pair { own: z, other: o }
+}
+
+fn side(p: Pair, i: usize) -> Scalar
+    ensures { λ r. ⌜ r ≡ side p i ⌝ }
+{
+    if i % 2 == 0 { p.own } else { p.other }
+}
+
+// Entry i of the rows: the pair is `low` where the bits m that the gate may change are 0, and `high` where they are 1; `held` are the controls.
+fn row_entry(low: Pair, high: Pair, held: usize, m: usize, i: usize) -> Scalar
+    ensures { λ r. ⌜ r ≡ side (rowPair low high held m (i / 2)) i ⌝ }
+{
+    let r = i / 2;
+    if r & held != held {
+        let p = kept();
+        return side(p, i);
+    }
+    let x = r & m;
+    if x == 0 {
+        return side(low, i);
+    }
+    if x == m {
+        return side(high, i);
+    }
+    let p = exchanged();
+    side(p, i)
+}
+
+// Write the two entries of each row of operator j, on n qubits with d rows and columns, to `at` on; m are the bits that the gate may change.
+pub fn write_rows(buf: &mut [i64], at: usize, n: u32, d: usize, g: GateWords, j: usize, m: usize)
+    requires { ⌜ (m ≡ flips n (gateOf g)) × ((at + d * 2 * 5 ≤ length (now buf)) × ((n ≤ 5) × ((d ≡ 2 ^ n) × Ready n (gateOf g) j))) ⌝ }
+    ensures { λ _. ⌜ now (buf .exit) ≡ fill (now (buf .entry)) at (d * 2) (rowEntry n (gateOf g) j) ⌝ }
+{
+    let u = core_table(g, n, j);
+    let low = pair_of(u, 0);
+    let high = pair_of(u, 1);
+    let held = controls(g, n, j);
+    let count = d * 2;
+    let mut i = 0;
+    while i < count {
+        let v = row_entry(low, high, held, m, i);
+        let to = at + i * 5;
+        write_cell(buf, to, v);
+        i += 1;
+    }
+}
