@@ -2,10 +2,10 @@
 use super::bank::branch_size;
 use super::bank::start_branch;
 use super::bank::step;
-use gate::rows::flips;
-use gate::rows::write_rows;
 use gate::judge::GateWords;
 use gate::judge::read_gate;
+use gate::rows::flips;
+use gate::rows::write_rows;
 ghost use mathlib.Core.Path.{_≡_};
 ghost use Prim.Native.Nat.{_*_};
 ghost use lib.ListN.{length};

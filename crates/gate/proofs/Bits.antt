@@ -1,14 +1,12 @@
 -- Qubit q of n is the bit of weight 2^(n − 1 − q) of a row or column number below 2^n: its bits tell a number, and can be chosen freely;
--- a bit tested and cleared by its mask; lists of bits, and when two are the same.
+-- a bit cleared; lists of bits, and when two are the same.
 use mathlib.Core.Path.{_≡_, refl, sym, ap, ap₂, _∙_}
 use mathlib.Core.Logic.{_≢_}
 use mathlib.Core.Bool.{Bool, true, false, cond, _&&_, true≢false}
 use mathlib.Core.List.{List, [], _∷_}
 use Prim.Native.Nat.{ℕ, zero, suc, _+_, _-_, _*_, _/_, _%_, _^_, _≤_, _<_}
-use native.Mathlib.Nat.{pow-succ', div-one, div-div-eq-div-mul, mod-le, div-mul-le-self, mul-le-mul-right, le-trans, add-comm}
-use native.Mathlib.Numerals.{add-one}
+use native.Mathlib.Nat.{pow-succ', div-one, div-div-eq-div-mul, mod-le, div-mul-le-self, mul-le-mul-right, le-trans}
 use native.Mathlib.Omega.{arith}
-use lib.Bits.{bitAnd, and-high}
 use lib.Dec.{eqb}
 use lib.ListN.{length}
 use borrow.Author.Tests.{eqb-true, eq-eqb}
@@ -93,11 +91,7 @@ module _ (n : ℕ) where
     mix-off = λ s c r q l e. mixed-bit s c r q l ∙ ap (λ (b : Bool). cond b (bit n q c) (bit n q r)) e;
   }
 
--- ---- masks
-pub mask-test : (w r : ℕ) → bitAnd r (2 ^ w) ≡ low w r * 2 ^ w
-unfolding low
-mask-test w r = let e : 2 ^ w ≡ 2 ^ (1 + w) - 2 ^ w = rw add-comm (rw add-one (omega arith)) in ap (bitAnd r) e ∙ and-high r 1 w
-
+-- ---- a bit cleared
 -- r with the bit of weight 2^w cleared
 unfoldable pub cleared : ℕ → ℕ → ℕ
 cleared w r = r - low w r * 2 ^ w

@@ -2,16 +2,16 @@
 use super::judge::GateWords;
 use super::judge::qubit_count;
 use super::tables::core_table;
-use super::tables::unit;
-use super::tables::zero;
 use cells::write_cell;
+use scalar::ONE;
 use scalar::Scalar;
+use scalar::ZERO;
 ghost use mathlib.Core.Path.{_≡_};
 ghost use Prim.Native.Nat.{_+_, _-_, _*_, _/_, _^_, _≤_, _<_};
 ghost use lib.ListN.{length};
 ghost use Rattle.cells.specs.Cells.{fill};
 ghost use Rattle.gate.specs.Verdict.{gateOf};
-ghost use Rattle.gate.specs.Entries.{Ready, flips, controls, rowEntry, pairOf, kept, exchanged, side, rowPair};
+ghost use Rattle.gate.specs.Entries.{Ready, flips, controls, rowEntry, pairOf, side, rowPair};
 
 // The entries of a row in its own column and in its partner's.
 pub struct Pair {
@@ -81,22 +81,16 @@ fn pair_of(u: [[Scalar; 2]; 2], x: usize) -> Pair
 }
 
 // The pair of a row that the gate leaves as it is.
-fn kept() -> Pair
-    ensures { λ p. ⌜ p ≡ kept ⌝ }
-{
-    let z = zero();
-    let o = unit();
-    Pair { own: o, other: z }
-}
+const KEPT: Pair = Pair {
+    own: ONE,
+    other: ZERO,
+};
 
 // The pair of a row in which the bits of two qubits that change places differ.
-fn exchanged() -> Pair
-    ensures { λ p. ⌜ p ≡ exchanged ⌝ }
-{
-    let z = zero();
-    let o = unit();
-    Pair { own: z, other: o }
-}
+const EXCHANGED: Pair = Pair {
+    own: ZERO,
+    other: ONE,
+};
 
 fn side(p: Pair, i: usize) -> Scalar
     ensures { λ r. ⌜ r ≡ side p i ⌝ }
@@ -110,8 +104,7 @@ fn row_entry(low: Pair, high: Pair, held: usize, m: usize, i: usize) -> Scalar
 {
     let r = i / 2;
     if r & held != held {
-        let p = kept();
-        return side(p, i);
+        return side(KEPT, i);
     }
     let x = r & m;
     if x == 0 {
@@ -120,8 +113,7 @@ fn row_entry(low: Pair, high: Pair, held: usize, m: usize, i: usize) -> Scalar
     if x == m {
         return side(high, i);
     }
-    let p = exchanged();
-    side(p, i)
+    side(EXCHANGED, i)
 }
 
 // Write the two entries of each row of operator j, on n qubits with d rows and columns, to `at` on; m are the bits that the gate may change.

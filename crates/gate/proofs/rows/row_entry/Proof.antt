@@ -16,17 +16,14 @@ use Rattle.gate.proofs.rows.row_entry.Tie as tie
 chosen : (i : ℕ) {v : Scalar} {p q : Pair} → v ≡ side p i → p ≡ q → v ≡ side q i
 chosen i e f = e ∙ ap (λ (p : Pair). side p i) f
 
-kept-requires : tie.Need-kept-requires
-kept-requires c κs = search needs
-
 side-requires : tie.Need-side-requires
 side-requires c κs = search needs
 
 returns : tie.Need-returns
 returns c =
-    let t = c .before .before in
+    let t = c .before in
     let a = t .before .args in
-    chosen (a .i) (c .side .ensures) (c .before .kept .ensures ∙ pair-by (a .low) (a .high) (a .held) (a .m) (a .i / 2) (ne-eqb (bitAnd (a .i / 2) (a .held)) (a .held) (t .if1 .taken)) refl refl)
+    chosen (a .i) (c .side .ensures) (pair-by (a .low) (a .high) (a .held) (a .m) (a .i / 2) (ne-eqb (bitAnd (a .i / 2) (a .held)) (a .held) (t .if1 .taken)) refl refl)
 
 side-requires-2 : tie.Need-side-requires-2
 side-requires-2 c κs = search needs
@@ -51,33 +48,27 @@ returns-3 c =
     chosen (a .i) (c .side3 .ensures)
     (pair-by (a .low) (a .high) (a .held) (a .m) (a .i / 2) (eq-eqb (bitAnd (a .i / 2) (a .held)) (a .held) (f .if1 .left)) (ne-eqb (bitAnd (a .i / 2) (a .m)) 0 (z .if2 .left)) (eq-eqb (bitAnd (a .i / 2) (a .m)) (a .m) (t .if3 .taken)))
 
-exchanged-requires : tie.Need-exchanged-requires
-exchanged-requires c κs = search needs
-
 side-requires-4 : tie.Need-side-requires-4
 side-requires-4 c κs = search needs
 
 returns-4 : tie.Need-returns-4
 returns-4 c =
-    let t = c .before .before in
+    let t = c .before in
     let z = t .before in
     let f = z .before in
     let a = f .before .args in
     chosen (a .i) (c .side4 .ensures)
-    (c .before .exchanged .ensures
-    ∙ pair-by (a .low) (a .high) (a .held) (a .m) (a .i / 2) (eq-eqb (bitAnd (a .i / 2) (a .held)) (a .held) (f .if1 .left)) (ne-eqb (bitAnd (a .i / 2) (a .m)) 0 (z .if2 .left)) (ne-eqb (bitAnd (a .i / 2) (a .m)) (a .m) (t .if3 .left)))
+    (pair-by (a .low) (a .high) (a .held) (a .m) (a .i / 2) (eq-eqb (bitAnd (a .i / 2) (a .held)) (a .held) (f .if1 .left)) (ne-eqb (bitAnd (a .i / 2) (a .m)) 0 (z .if2 .left)) (ne-eqb (bitAnd (a .i / 2) (a .m)) (a .m) (t .if3 .left)))
 
 pub row-entry-spec : {M : Type 1} → statement M
 row-entry-spec =
     tie.close
     (tie.spec
-    kept-requires
     side-requires
     returns
     side-requires-2
     returns-2
     side-requires-3
     returns-3
-    exchanged-requires
     side-requires-4
     returns-4)
