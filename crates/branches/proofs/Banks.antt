@@ -1,7 +1,7 @@
 -- Banks of branches in words: what is read back of a branch, a bank kept where other words are written, and a bank written by blocks.
 use mathlib.Core.Path.{_≡_, sym, ap, _∙_, subst}
 use mathlib.Core.List.{List, _++_}
-use Prim.Native.Nat.{ℕ, _+_, _*_, _-_, _/_, _%_, _^_, _≤_, _<_}
+use Prim.Native.Nat.{ℕ, _+_, _*_, _-_, _/_, _%_, _≤_, _<_}
 use native.Mathlib.Nat.{add-assoc, div-add-mod', div-lt-iff-lt-mul, mod-lt, zero-add, add-zero}
 use native.Mathlib.Omega.{arith}
 use lib.Dec.{leb}
@@ -17,13 +17,15 @@ use Rattle.exact.specs.Exact.{Exact, exact, maxExponent}
 use Rattle.exact.specs.Inner.{Coords}
 use Rattle.cells.specs.Cells.{cellWords, cellAt, exponentAt, cells}
 use Rattle.cells.proofs.Cell.{cell-is, exponent-is, length-cells, cells-at, cells-same, fill-block}
+use Rattle.store.specs.Store.{maxWord}
 use Rattle.matrix.specs.Matrix.{identified}
 use Rattle.matrix.specs.Factors.{Factor}
 use Rattle.kraus.specs.Dense.{table}
 use Rattle.kraus.specs.Branch.{Store, Branch}
 use Rattle.kraus.proofs.Dense.{tabulate-at}
 use Rattle.kraus.proofs.Limits.{Kraus}
-use Rattle.branches.specs.Store.{Bits, StoreAt, storeWords}
+use Rattle.store.specs.Inner.Held.{Bits, StoreAt}
+use Rattle.branches.specs.Store.{storeWords}
 use Rattle.branches.specs.Bank.{matrixSize, branchSize, branchWords, bankWords, identityBranch, Holds}
 use Rattle.branches.proofs.Stores.{low-below, high-below}
 
@@ -112,8 +114,8 @@ module _ {l : List ℤ} {at : ℕ} (d : ℕ) (bs : List Branch) (h : Holds l at 
     pub store-at : Bits (getD bs j z .store) → length (getD bs j z .store) ≤ 64 → StoreAt l (at + j * branchSize d + matrixSize d)
     store-at b few = record {
       room = omega (arith, bank-room, block-in hj (branchSize d));
-      low = ap (upTo (2 ^ 32 - 1)) bank-low ∙ le-leb (fromBits (take 32 (getD bs j z .store))) (2 ^ 32 - 1) (omega (arith, low-below (getD bs j z .store) b));
-      high = ap (upTo (2 ^ 32 - 1)) bank-high ∙ le-leb (fromBits (drop 32 (getD bs j z .store))) (2 ^ 32 - 1) (omega (arith, high-below (getD bs j z .store) b few));
+      low = ap (upTo maxWord) bank-low ∙ le-leb (fromBits (take 32 (getD bs j z .store))) maxWord (omega (arith, low-below (getD bs j z .store) b));
+      high = ap (upTo maxWord) bank-high ∙ le-leb (fromBits (drop 32 (getD bs j z .store))) maxWord (omega (arith, high-below (getD bs j z .store) b few));
     }
 
 pub held-same : {l m : List ℤ} {at : ℕ} {ws : List ℤ} → Holds l at ws → Same m l at (length ws) → Holds m at ws

@@ -32,7 +32,8 @@ use Rattle.kraus.specs.Dense.{cell}
 use Rattle.kraus.specs.Branch.{Branch, apply, step}
 use Rattle.kraus.proofs.Enough.{Everywhere}
 use Rattle.kraus.proofs.Limits.{Kraus, Enough, matrixOf, gate-entries}
-use Rattle.branches.specs.Store.{StoreAt, outcomePair, outcomeBit}
+use Rattle.store.specs.Inner.Held.{StoreAt}
+use Rattle.branches.specs.Store.{outcomePair, outcomeBit}
 use Rattle.branches.specs.Bank.{matrixSize, branchSize, branchWords, bankWords, Holds}
 use Rattle.branches.specs.Step.{rowSum, product, RowsAt, stepWords}
 use Rattle.branches.proofs.Stores.{outcome-store}

@@ -13,9 +13,11 @@ use Rattle.algebra.proofs.Blocks.{Writing, again, kept, wrote, Same, same-trans
 use Rattle.exact.specs.Exact.{Exact, isLowest}
 use Rattle.cells.specs.Cells.{cells}
 use Rattle.cells.proofs.Cell.{fill-block, length-cells, cell-same, cells-same}
+use Rattle.store.specs.Store.{maxWord}
 use Rattle.matrix.specs.Matrix.{written}
 use Rattle.matrix.proofs.Terms.{row-lt, column-lt, factor-same}
-use Rattle.branches.specs.Store.{StoreAt, outcomePair, outcomeWords}
+use Rattle.store.specs.Inner.Held.{StoreAt}
+use Rattle.branches.specs.Store.{outcomePair, outcomeWords}
 use Rattle.branches.specs.Bank.{matrixSize, branchSize}
 use Rattle.branches.specs.Step.{rowSum, Applying, productWords, stepWords, Step}
 use Rattle.branches.proofs.Products.{own-at, other-at, sum-same}
@@ -139,8 +141,8 @@ module _ {l : List ℤ} {f slots ops from to d count : ℕ} (p : Step l f slots 
             let s = p .stores (j / ops) old-lt in
             record {
               room = omega (arith, store .long, s .room);
-              low = ap (upTo (2 ^ 32 - 1)) (store .word (old + matrixSize d) (omega arith) (omega arith)) ∙ s .low;
-              high = ap (upTo (2 ^ 32 - 1)) (store .word (old + matrixSize d + 1) (omega arith) (omega arith)) ∙ s .high;
+              low = ap (upTo maxWord) (store .word (old + matrixSize d) (omega arith) (omega arith)) ∙ s .low;
+              high = ap (upTo maxWord) (store .word (old + matrixSize d + 1) (omega arith) (omega arith)) ∙ s .high;
             }
 
         pub turn-room : to + j * branchSize d + matrixSize d + 2 ≤ length m

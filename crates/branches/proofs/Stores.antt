@@ -1,15 +1,15 @@
--- Stores in two words: read from bytes from the top down, and the words after a bit is written.
+-- Stores in two words: how large each is, and the words after a bit is written.
 use mathlib.Core.Path.{_≡_, refl, sym, ap, _∙_}
 use mathlib.Core.Bool.{Bool, true, false, cond, _&&_}
 use mathlib.Core.List.{List, [], _∷_}
-use Prim.Native.Nat.{ℕ, zero, suc, _+_, _*_, _-_, _^_, _<_, _≤_, min}
+use Prim.Native.Nat.{ℕ, zero, suc, _+_, _-_, _^_, _<_, _≤_, min}
 use native.Mathlib.Nat.{le-trans, sub-zero}
 use native.Mathlib.Omega.{arith}
 use lib.Dec.{eqb, ltb}
 use lib.IntN.{ℤ, pos, natAbs}
 use lib.Pow.{pow-mono}
 use lib.ListN.{length, getD, take, drop, set, drop-of-length-le, length-take, length-drop}
-use lib.Seq.{drop-cons, getD-take, length-take-le, take-length, take-all, take-set-lt, take-set-le, drop-set-lt, drop-set-add}
+use lib.Seq.{take-length, take-all, take-set-lt, take-set-le, drop-set-lt, drop-set-add}
 use native.Mathlib.Decide.{decLt}
 use borrow.Author.Tests.{ltb-true, lt-ltb, le-ltb}
 use Rattle.algebra.specs.Words.{fromBits}
@@ -19,25 +19,9 @@ use Rattle.gate.specs.Gate.{Gate, measure, reset, qubits, bits, distinct, forme
 use Rattle.gate.specs.Operators.{Operator, operator, operators, unitaries, noUnitary, projectors, resetters}
 use Rattle.gate.proofs.Bits.{Word}
 use Rattle.kraus.specs.Branch.{Store, write}
-use Rattle.branches.specs.Store.{Bits, storeWords, withBit, outcomeWord, outcomePair, outcomeBit}
+use Rattle.store.specs.Inner.Held.{Bits}
+use Rattle.branches.specs.Store.{storeWords, withBit, outcomeWord, outcomePair, outcomeBit}
 use Rattle.algebra.proofs.Bits.{bits-take, bits-drop, bits-below, take-below, bits-set, bit-weight}
-
-module _ (σ : List ℕ) (to : ℕ) (room : to ≤ length σ) where
-  -- one bit more, from the top down
-  pub packed : (i : ℕ) → 0 < i → i ≤ to → fromBits (drop (i - 1) (take to σ)) ≡ fromBits (drop i (take to σ)) * 2 + getD σ (i - 1) 0
-  packed i h k =
-      let e : suc (i - 1) ≡ i = omega arith in
-      ap fromBits (drop-cons (take to σ) (i - 1) 0 (omega (arith, length-take-le to σ room)))
-      ∙ (λ j. getD-take to σ (i - 1) 0 (omega arith) j + 2 * fromBits (drop (e j) (take to σ)))
-      ∙ omega arith
-
-  pub packed-below : Bits σ → (i : ℕ) → to ≤ i + 32 → fromBits (drop i (take to σ)) < 2 ^ 32
-  packed-below b i h =
-      le-trans (bits-below (drop i (take to σ)) (bits-drop i (take to σ) (bits-take to σ b)))
-      (pow-mono {i = length (drop i (take to σ))} {j = 32} (omega (arith, length-drop i (take to σ), length-take-le to σ room)))
-
-  pub packed-none : fromBits (drop to (take to σ)) ≡ 0
-  packed-none = ap fromBits (drop-of-length-le (take to σ) {i = to} (omega (arith, length-take-le to σ room)))
 
 -- ---- the word of the bits from `first` on, with a bit written
 module _ (first bit v : ℕ) (w : ℤ) where

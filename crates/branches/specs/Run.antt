@@ -12,7 +12,8 @@ use Rattle.gate.specs.Gate.{Gate, gateAt, gatesOf, valid, weight, splits}
 use Rattle.gate.specs.Operators.{operators}
 use Rattle.gate.specs.Entries.{flips, rowEntry, Ready}
 use Rattle.kraus.specs.Branch.{Store, branches}
-use Rattle.branches.specs.Store.{Bits, outcomeBit}
+use Rattle.store.specs.Inner.Held.{Bits}
+use Rattle.branches.specs.Store.{outcomeBit}
 use Rattle.branches.specs.Bank.{branchSize, bankWords, Holds}
 use Rattle.branches.specs.Step.{Step, stepWords}
 

@@ -14,7 +14,8 @@ use Rattle.gate.specs.Gate.{Gate}
 use Rattle.gate.specs.Entries.{gateEntry, partner}
 use Rattle.matrix.specs.Matrix.{cell}
 use Rattle.matrix.specs.Factors.{Factor, combinedRow}
-use Rattle.branches.specs.Store.{StoreAt, outcomeWords}
+use Rattle.store.specs.Inner.Held.{StoreAt}
+use Rattle.branches.specs.Store.{outcomeWords}
 use Rattle.branches.specs.Bank.{matrixSize, branchSize}
 
 -- ---- one operator, given by two entries to a row

@@ -1,28 +1,16 @@
 -- Stores in two words: bits 0 to 31, then bits 32 to 63; and one bit written.
-use mathlib.Core.Path.{_≡_}
-use mathlib.Core.Bool.{true, cond}
+use mathlib.Core.Bool.{cond}
 use mathlib.Core.List.{List, [], _∷_}
-use Prim.Native.Nat.{ℕ, _+_, _*_, _-_, _/_, _%_, _^_, _<_, _≤_}
+use Prim.Native.Nat.{ℕ, _+_, _*_, _-_, _/_, _%_, _^_}
 use lib.Dec.{eqb, ltb}
-use lib.ListN.{length, getD, take, drop}
+use lib.ListN.{getD, take, drop}
 use lib.IntN.{ℤ, pos, natAbs}
-use Rattle.algebra.specs.Words.{fromBits, upTo}
-use Rattle.algebra.specs.Lists.{All}
+use Rattle.algebra.specs.Words.{fromBits}
 use Rattle.gate.specs.Gate.{Gate, measure}
 use Rattle.kraus.specs.Branch.{Store}
 
--- each is 0 or 1
-abbrev pub Bits : List ℕ → Type 0
-Bits = All (λ (b : ℕ). b < 2)
-
 abbrev pub storeWords : Store → List ℤ
 storeWords σ = pos (fromBits (take 32 σ)) ∷ pos (fromBits (drop 32 σ)) ∷ []
-
--- two words from `at` on, each below 2^32
-pub record StoreAt (l : List ℤ) (at : ℕ) : Type 0 where
-  pub room : at + 2 ≤ length l
-  pub low : upTo (2 ^ 32 - 1) (getD l at (pos 0)) ≡ true
-  pub high : upTo (2 ^ 32 - 1) (getD l (at + 1) (pos 0)) ≡ true
 
 -- the number x with bit k made v
 abbrev pub withBit : ℕ → ℕ → ℕ → ℕ

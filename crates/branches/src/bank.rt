@@ -1,14 +1,14 @@
 // Branches in words: where they lie, the first one, and a step of all of them.
 use super::apply::apply_operator;
-use super::store::pack;
-use super::store::write_store;
+use super::outcome::write_store;
 use matrix::identity::identity_into;
+use store::pack;
 ghost use mathlib.Core.Path.{_≡_};
 ghost use Prim.Native.Nat.{_+_, _*_, _≤_, min};
 ghost use lib.ListN.{length};
 ghost use lib.Seq.{sets};
 ghost use Rattle.algebra.specs.Words.{blocks};
-ghost use Rattle.branches.specs.Store.{Bits};
+ghost use Rattle.store.specs.Inner.Held.{Bits};
 ghost use Rattle.branches.specs.Bank.{branchSize, branchWords, identityBranch};
 ghost use Rattle.branches.specs.Step.{Step, stepWords};
 

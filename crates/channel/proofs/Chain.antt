@@ -13,6 +13,7 @@ use borrow.Author.Tests.{eqb-true}
 use Rattle.algebra.specs.Words.{eqℤ, upTo}
 use Rattle.algebra.proofs.Tests.{and-split, all-at}
 use Rattle.cells.specs.Cells.{exponentAt, wellFormedAt}
+use Rattle.store.specs.Store.{maxWord}
 use Rattle.channel.specs.Layout.{headerSize, recordSize, entryPlace, side, word, storeAt, dimAt, bitsAt, countAt}
 use Rattle.channel.specs.WellFormed.{storeOk, rises, recordOk, chainOk, wellFormed, Onward}
 use Rattle.channel.proofs.Words.{Starts, starts, starts-inside}
@@ -62,8 +63,8 @@ module _ {l : List ℤ} {n at : ℕ} (o : Onward l n at) (h : 0 < n) where
   pub on-store : storeOk l at (bitsAt l) ≡ true
   on-store = and-split (storeOk l at (bitsAt l)) _ on-record .0
 
-  pub on-words : (upTo 4294967295 (word l (at + 1)) ≡ true) × (upTo 4294967295 (word l (at + 2)) ≡ true)
-  on-words = and-split (upTo 4294967295 (word l (at + 1))) _ (and-split (upTo 4294967295 (word l (at + 1)) && upTo 4294967295 (word l (at + 2))) _ on-store .0)
+  pub on-words : (upTo maxWord (word l (at + 1)) ≡ true) × (upTo maxWord (word l (at + 2)) ≡ true)
+  on-words = and-split (upTo maxWord (word l (at + 1))) _ (and-split (upTo maxWord (word l (at + 1)) && upTo maxWord (word l (at + 2))) _ on-store .0)
 
   pub on-entry : (k : ℕ) → k < side (dimAt l) * side (dimAt l) → wellFormedAt l (entryPlace at k) ≡ true
   on-entry =

@@ -1,64 +1,18 @@
--- Looking a store up: its bytes as a number, the walk along the chain, and the part that is handed back.
+-- Looking a store up: the walk along the chain, and the part that is handed back.
 use mathlib.Core.Path.{_≡_, refl, sym, ap, _∙_, subst}
 use mathlib.Core.Bool.{Bool, true, false, cond}
-use mathlib.Core.List.{List, [], _∷_}
-use Prim.Native.Nat.{ℕ, zero, suc, _+_, _*_, _-_, _^_, _<_, _≤_}
-use native.Mathlib.Nat.{pow-suc, lt-of-lt-of-le}
+use mathlib.Core.List.{List}
+use Prim.Native.Nat.{ℕ, zero, suc, _+_, _-_, _<_, _≤_}
 use native.Mathlib.Omega.{arith}
-use lib.Dec.{eqb, leb}
-use lib.Pow.{pow-mono}
-use lib.ListN.{length, getD, take, drop}
-use lib.Seq.{drop-cons}
+use lib.Dec.{eqb}
+use lib.ListN.{length, take, drop}
 use lib.IntN.{ℤ, natAbs}
-use borrow.Author.Tests.{leb-true, eqb-true}
 use Rattle.algebra.specs.Words.{fromBits}
-use Rattle.algebra.proofs.Tests.{and-split, all-at}
 use Rattle.channel.specs.Layout.{recordSize, side, word, storeAt, dimAt, bitsAt, countAt}
 use Rattle.channel.specs.WellFormed.{wellFormed, Onward}
-use Rattle.channel.specs.Lookup.{storeRight, Lookup, malformed, wrongStore, missing, found, find, placed, lookupOf, partOf, spanOf}
+use Rattle.store.specs.Store.{storeFits}
+use Rattle.channel.specs.Lookup.{Lookup, malformed, wrongStore, missing, found, find, placed, lookupOf, partOf, spanOf}
 use Rattle.channel.proofs.Chain.{onward-begin, on-inside, on-next}
-
--- ---- a store's bytes
-module _ (m : ℕ) (bs : List ℕ) (e : storeRight m bs ≡ true) where
-  pub right-length : length bs ≡ m
-  right-length = eqb-true (length bs) m (and-split (eqb (length bs) m) _ e .0)
-
-  pub right-byte : (i : ℕ) → i < length bs → getD bs i 0 ≤ 1
-  right-byte i h = leb-true (getD bs i 0) 1 (all-at (length bs) (λ (i : ℕ). leb (getD bs i 0) 1) (and-split (eqb (length bs) m) _ e .1) i h)
-
--- x is the store of the bytes from i on
-pub record Read (bs : List ℕ) (i x : ℕ) : Type 0 where
-  pub count : i ≤ length bs
-  pub is : x ≡ fromBits (drop i bs)
-  pub small : x < 2 ^ (length bs - i)
-
-pub read-none : (bs : List ℕ) → Read bs (length bs) 0
-read-none bs = record { count = omega arith; is = sym (ap fromBits (drop-length bs)); small = by (length bs - length bs) (omega arith) }
-  where
-    drop-length : (bs : List ℕ) → drop (length bs) bs ≡ []
-    drop-length [] = refl
-    drop-length (b ∷ bs) = drop-length bs
-
-    by : (k : ℕ) → k ≡ 0 → 0 < 2 ^ k
-    by k e = subst (λ (j : ℕ). 0 < 2 ^ j) (sym e) (omega arith)
-
--- one byte more
-pub read-more : (m : ℕ) (bs : List ℕ) {i x : ℕ} → storeRight m bs ≡ true → Read bs i x → 0 < i → Read bs (i - 1) (getD bs (i - 1) 0 + 2 * x)
-read-more m bs {i} {x} e r h = record {
-  count = omega (arith, r .count);
-  is =
-      let next : suc (i - 1) ≡ i = omega arith in
-      ap (λ (y : ℕ). getD bs (i - 1) 0 + 2 * y) (r .is ∙ ap (λ (k : ℕ). fromBits (drop k bs)) (sym next)) ∙ sym (ap fromBits (drop-cons bs (i - 1) 0 (omega (arith, r .count))));
-  small =
-      let next : length bs - (i - 1) ≡ suc (length bs - i) = omega (arith, r .count) in
-      subst (λ (k : ℕ). getD bs (i - 1) 0 + 2 * x < 2 ^ k) (sym next) (by (length bs - i) (getD bs (i - 1) 0) (right-byte m bs e (i - 1) (omega (arith, r .count))) (r .small));
-}
-  where
-    by : (k b : ℕ) → b ≤ 1 → x < 2 ^ k → b + 2 * x < 2 ^ suc k
-    by k b p q = omega (arith, pow-suc 2 k)
-
-pub read-fits : {bs : List ℕ} {i x : ℕ} → length bs ≤ 64 → Read bs i x → x < 2 ^ 64
-read-fits {bs} {i} {x} h r = let q : length bs - i ≤ 64 = omega arith in lt-of-lt-of-le (r .small) (pow-mono q)
 
 -- ---- one step of the walk
 module _ (l : List ℤ) (s n at : ℕ) (h : 0 < n) where
@@ -104,12 +58,12 @@ module _ (l : List ℤ) (bs : List ℕ) where
   index = find l (fromBits bs) (countAt l) (natAbs (word l 3))
 
   pub look-malformed : wellFormed l ≡ false → lookupOf l bs ≡ malformed
-  look-malformed e = ap (λ (b : Bool). cond b (cond (storeRight (bitsAt l) bs) (placed index) wrongStore) malformed) e
+  look-malformed e = ap (λ (b : Bool). cond b (cond (storeFits (bitsAt l) bs) (placed index) wrongStore) malformed) e
 
-  pub look-wrong : wellFormed l ≡ true → storeRight (bitsAt l) bs ≡ false → lookupOf l bs ≡ wrongStore
+  pub look-wrong : wellFormed l ≡ true → storeFits (bitsAt l) bs ≡ false → lookupOf l bs ≡ wrongStore
   look-wrong e f = λ i. cond (e i) (cond (f i) (placed index) wrongStore) malformed
 
-  pub look-placed : wellFormed l ≡ true → storeRight (bitsAt l) bs ≡ true → lookupOf l bs ≡ placed index
+  pub look-placed : wellFormed l ≡ true → storeFits (bitsAt l) bs ≡ true → lookupOf l bs ≡ placed index
   look-placed e f = λ i. cond (e i) (cond (f i) (placed index) wrongStore) malformed
 
   pub index-inside : wellFormed l ≡ true → (a : ℕ) → index ≡ a → 0 < a → a + recordSize (side (dimAt l)) ≤ length l
@@ -125,10 +79,10 @@ module _ (l : List ℤ) (bs : List ℕ) where
       placed-inside zero h = omega arith
       placed-inside (suc a) h = let q = h (omega arith) in omega arith
 
-      right : (b : Bool) → storeRight (bitsAt l) bs ≡ b → wellFormed l ≡ true → Inside (lookupOf l bs)
+      right : (b : Bool) → storeFits (bitsAt l) bs ≡ b → wellFormed l ≡ true → Inside (lookupOf l bs)
       right true t e = subst Inside (sym (look-placed e t)) (placed-inside index (index-inside e index refl))
       right false t e = subst Inside (sym (look-wrong e t)) (omega arith)
 
       go : (b : Bool) → wellFormed l ≡ b → Inside (lookupOf l bs)
-      go true e = right (storeRight (bitsAt l) bs) refl e
+      go true e = right (storeFits (bitsAt l) bs) refl e
       go false e = subst Inside (sym (look-malformed e)) (omega arith)

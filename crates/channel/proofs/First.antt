@@ -12,7 +12,7 @@ use Rattle.exact.specs.Exact.{equal}
 use Rattle.exact.proofs.Equal.{equal-true, equal-of}
 use Rattle.channel.specs.declared.compare.Difference.{Difference}
 use Rattle.channel.specs.declared.compare.Found.the-variants.{Same}
-use Rattle.channel.specs.Layout.{before}
+use Rattle.store.specs.Store.{before}
 use Rattle.channel.specs.Compare.{Both, plain, entry, orElse, scan, first}
 use Rattle.channel.specs.Claims.{earlier}
 use Rattle.channel.proofs.Sorted.{Above, Sorted, above-trans, stores, lookLeft, lookRight, none-left, none-right}

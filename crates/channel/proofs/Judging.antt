@@ -15,7 +15,8 @@ use Rattle.channel.specs.Layout.{headerSize, recordSize, side, word, sto
 use Rattle.channel.specs.declared.Shape.{Shape}
 use Rattle.channel.specs.declared.well_formed.Judged.{Judged}
 use Rattle.channel.specs.WellFormed.{judged, isDim, isStart, recordOk, chainOk, headerOk, chained, wellFormed, Room, shapeAt, shapeOf, noShape}
-use Rattle.channel.proofs.Words.{up-abs, dim-range, square-small}
+use Rattle.store.proofs.Words.{up-abs}
+use Rattle.channel.proofs.Words.{dim-range, square-small}
 
 pub good : (j : Judged) (b : Bool) (s : ℕ) → j ≡ judged b s → j .ok ≡ true → (b ≡ true) × (j .store ≡ s)
 good j b s e f =

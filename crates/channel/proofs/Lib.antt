@@ -1,4 +1,3 @@
-pub mod Stores
 pub mod Words
 pub mod Judging
 pub mod Chain

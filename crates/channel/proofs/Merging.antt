@@ -12,7 +12,8 @@ use Rattle.channel.specs.declared.compare.Difference.{Difference}
 use Rattle.channel.specs.declared.compare.Found.the-variants.{Same}
 use Rattle.channel.specs.declared.compare.Turn.{Turn}
 use Rattle.channel.specs.declared.compare.Cursor.{Cursor}
-use Rattle.channel.specs.Layout.{recordSize, entryPlace, side, word, storeAt, before, dimAt, countAt, chain, readBack}
+use Rattle.store.specs.Store.{before}
+use Rattle.channel.specs.Layout.{recordSize, entryPlace, side, word, storeAt, dimAt, countAt, chain, readBack}
 use Rattle.channel.specs.WellFormed.{wellFormed, Onward}
 use Rattle.channel.specs.Compare.{Both, isSame, plain, orElse, scan, first, merge}
 use Rattle.channel.specs.Walk.{bothAt, onLeft, onRight, onBoth, turnBy, turnOf, cursorAt, advance, On, Held}

@@ -14,10 +14,11 @@ use Rattle.algebra.specs.Lists.{All}
 use Rattle.algebra.specs.Words.{eqℤ, upTo}
 use Rattle.algebra.proofs.Tests.{all-by}
 use Rattle.cells.specs.Cells.{wellFormedAt}
-use Rattle.channel.specs.Layout.{Block, headerSize, recordSize, recordAt, entryPlace, side, word, storeAt, before, least, link, next, readBack}
+use Rattle.store.specs.Store.{maxWord, before}
+use Rattle.channel.specs.Layout.{Block, headerSize, recordSize, recordAt, entryPlace, side, word, storeAt, least, link, next, readBack}
 use Rattle.channel.specs.WellFormed.{storeOk, entriesOk, recordOk, chainOk, headerOk, wellFormed}
 use Rattle.channel.specs.Claims.{entryOf, places, rising, storesOf, Writable, ReadsBack, RoundTrip}
-use Rattle.channel.proofs.Stores.{before-irrefl, before-trans}
+use Rattle.store.proofs.Order.{before-irrefl, before-trans}
 use Rattle.channel.proofs.Words.{start-is}
 use Rattle.channel.proofs.Judging.{well-formed}
 use Rattle.channel.proofs.Sorted.{Sorted, sorted, other}
@@ -53,21 +54,21 @@ module _ (d m n : ℕ) (block : ℕ → Block) (wr : Writable d m n block) (rest
 
   -- a record that was written is well formed
   module _ (i : ℕ) (h : i < n) where
-    low-fits : upTo 4294967295 (pos (st i % 2 ^ 32)) ≡ true
-    low-fits = le-leb _ 4294967295 (by (st i % 2 ^ 32) (mod-lt (st i) (pow-pos 32)))
+    low-fits : upTo maxWord (pos (st i % 2 ^ 32)) ≡ true
+    low-fits = le-leb _ maxWord (by (st i % 2 ^ 32) (mod-lt (st i) (pow-pos 32)))
       where
-        by : (k : ℕ) → k < 2 ^ 32 → k ≤ 4294967295
+        by : (k : ℕ) → k < 2 ^ 32 → k ≤ maxWord
         by k q = omega arith
 
-    high-fits : upTo 4294967295 (pos (st i / 2 ^ 32)) ≡ true
-    high-fits = le-leb _ 4294967295 (by (st i) (small i h))
+    high-fits : upTo maxWord (pos (st i / 2 ^ 32)) ≡ true
+    high-fits = le-leb _ maxWord (by (st i) (small i h))
       where
-        by : (k : ℕ) → k < 2 ^ 64 → k / 2 ^ 32 ≤ 4294967295
+        by : (k : ℕ) → k < 2 ^ 64 → k / 2 ^ 32 ≤ maxWord
         by k q = omega arith
 
     store-right : storeOk l (recordAt w i) m ≡ true
     store-right =
-        λ k. ((ap (upTo 4294967295) (written-low d m n block rest i h) ∙ low-fits) k && (ap (upTo 4294967295) (written-high d m n block rest i h) ∙ high-fits) k)
+        λ k. ((ap (upTo maxWord) (written-low d m n block rest i h) ∙ low-fits) k && (ap (upTo maxWord) (written-high d m n block rest i h) ∙ high-fits) k)
         && (ap (λ (s : ℕ). ltb s (2 ^ m)) (written-store d m n block rest i h) ∙ lt-ltb (st i) (2 ^ m) (wr .small i h)) k
 
     entries-right : entriesOk l (recordAt w i) (w * w) ≡ true

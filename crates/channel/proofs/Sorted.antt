@@ -12,11 +12,12 @@ use borrow.Author.Tests.{eq-eqb, ne-eqb, eqb-true, eqb-false, ltb-true}
 use Rattle.algebra.specs.Words.{upTo}
 use Rattle.algebra.proofs.Tests.{and-split}
 use Rattle.exact.specs.Exact.{Exact, exact}
-use Rattle.channel.specs.Layout.{Block, side, word, storeAt, before, dimAt, bitsAt, countAt, chain, readBack}
+use Rattle.store.specs.Store.{maxWord, before}
+use Rattle.channel.specs.Layout.{Block, side, word, storeAt, dimAt, bitsAt, countAt, chain, readBack}
 use Rattle.channel.specs.WellFormed.{storeOk, rises, entriesOk, chainOk, wellFormed}
 use Rattle.channel.specs.Compare.{Both, leftOnly, rightOnly, paired, merge}
 use Rattle.channel.specs.Claims.{look}
-use Rattle.channel.proofs.Stores.{before-trans, before-total, before-apart}
+use Rattle.store.proofs.Order.{before-trans, before-total, before-apart}
 use Rattle.channel.proofs.Judging.{formed, chain-record, chain-rest}
 
 -- s comes before each store
@@ -64,7 +65,7 @@ module _ (l : List ℤ) (w m count : ℕ) (few : m ≤ 64) where
       tests = and-split (storeOk l (natAbs z) m) _ (chain-record l w m count (suc n) z first prev (omega arith) e)
 
       small : s < 2 ^ 64
-      small = lt-of-lt-of-le (ltb-true s (2 ^ m) (and-split (upTo 4294967295 (word l (natAbs z + 1)) && upTo 4294967295 (word l (natAbs z + 2))) _ (tests .0) .1)) (pow-mono few)
+      small = lt-of-lt-of-le (ltb-true s (2 ^ m) (and-split (upTo maxWord (word l (natAbs z + 1)) && upTo maxWord (word l (natAbs z + 2))) _ (tests .0) .1)) (pow-mono few)
 
       rise : first ≡ false → before prev s ≡ true
       rise f = sym (ap (λ (b : Bool). b || before prev s) f) ∙ and-split (rises first prev s) _ (tests .1) .0

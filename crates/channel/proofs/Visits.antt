@@ -12,10 +12,11 @@ use lib.ListN.{length}
 use lib.IntN.{ℤ, natAbs}
 use borrow.Author.Tests.{eq-eqb, ne-eqb, eqb-true}
 use Rattle.algebra.specs.Lists.{All, some, marks}
-use Rattle.channel.specs.Layout.{headerSize, recordSize, recordAt, side, word, storeAt, entryAt, before, dimAt, countAt, chain}
+use Rattle.store.specs.Store.{before}
+use Rattle.channel.specs.Layout.{headerSize, recordSize, recordAt, side, word, storeAt, entryAt, dimAt, countAt, chain}
 use Rattle.channel.specs.WellFormed.{wellFormed, Onward}
 use Rattle.channel.specs.Claims.{look, entryOf, places, visits, VisitsOnce}
-use Rattle.channel.proofs.Stores.{before-irrefl, before-apart}
+use Rattle.store.proofs.Order.{before-irrefl, before-apart}
 use Rattle.channel.proofs.Words.{Starts}
 use Rattle.channel.proofs.Chain.{onward-begin, on-start, on-next}
 use Rattle.channel.proofs.Sorted.{Above, Sorted, keys, sorted}

@@ -12,7 +12,8 @@ use Rattle.scalar.specs.Calls.{scalarOf}
 use Rattle.channel.specs.declared.compare.Place.{Place}
 use Rattle.channel.specs.declared.compare.Found.the-variants.{Same, Entry}
 use Rattle.channel.specs.declared.compare.Difference.{Difference}
-use Rattle.channel.specs.Layout.{Block, headerSize, recordSize, side, word, before, dimAt, bitsAt, countAt, channelWords, readBack}
+use Rattle.store.specs.Store.{before}
+use Rattle.channel.specs.Layout.{Block, headerSize, recordSize, side, word, dimAt, bitsAt, countAt, channelWords, readBack}
 use Rattle.channel.specs.WellFormed.{isDim, wellFormed}
 use Rattle.channel.specs.Compare.{plain, compareOf}
 

@@ -9,7 +9,8 @@ use Rattle.scalar.specs.Calls.{scalarOf}
 use Rattle.channel.specs.declared.compare.Found.{Found}
 use Rattle.channel.specs.declared.compare.Found.the-variants.{Refused, Same, Dimensions, Entry}
 use Rattle.channel.specs.declared.compare.Difference.{Difference}
-use Rattle.channel.specs.Layout.{Block, side, before, dimAt, bitsAt, readBack}
+use Rattle.store.specs.Store.{before}
+use Rattle.channel.specs.Layout.{Block, side, dimAt, bitsAt, readBack}
 use Rattle.channel.specs.WellFormed.{wellFormed}
 
 -- document 01's number of an answer: 10 is the refusal

@@ -1,12 +1,13 @@
 -- The words of a channel: a header, then records end to end, chained by next indices in the order of their stores.
-use mathlib.Core.Bool.{Bool, true, false, cond, _&&_, _||_}
+use mathlib.Core.Bool.{Bool, true, cond, _&&_, _||_}
 use mathlib.Core.List.{List, [], _∷_, _++_}
-use Prim.Native.Nat.{ℕ, zero, suc, _+_, _*_, _-_, _/_, _%_, _^_}
-use lib.Dec.{eqb, ltb}
+use Prim.Native.Nat.{ℕ, zero, suc, _+_, _*_, _-_}
+use lib.Dec.{eqb}
 use lib.ListN.{getD}
 use lib.IntN.{ℤ, pos, natAbs}
 use Rattle.algebra.specs.Sum.{sum}
 use Rattle.algebra.specs.Words.{joined}
+use Rattle.store.specs.Store.{before, storeFrom, lowWord, highWord}
 use Rattle.exact.specs.Exact.{Exact, exact}
 use Rattle.cells.specs.Cells.{cellSize, cellAt, cells}
 
@@ -48,26 +49,7 @@ entryAt l at k = cellAt l (entryPlace at k)
 abbrev pub word : List ℤ → ℕ → ℤ
 word l at = getD l at (pos 0)
 
--- ---- stores: bit j weighs 2^j
--- bits 0 to n − 1
-abbrev pub bits : ℕ → ℕ → List ℕ
-bits zero x = []
-bits (suc n) x = x % 2 ∷ bits n (x / 2)
-
--- 0 before 1, at the first bit that differs
-abbrev pub precedes : List ℕ → List ℕ → Bool
-precedes [] ys = false
-precedes (x ∷ xs) [] = false
-precedes (x ∷ xs) (y ∷ ys) = cond (eqb x y) (precedes xs ys) (ltb x y)
-
--- stores in rising order, read from bit 0 on
-unfoldable pub before : ℕ → ℕ → Bool
-before x y = precedes (bits 64 x) (bits 64 y)
-
--- the store in two words
-abbrev pub storeFrom : ℤ → ℤ → ℕ
-storeFrom low high = natAbs low + natAbs high * 2 ^ 32
-
+-- the store of the record at `at`
 abbrev pub storeAt : List ℤ → ℕ → ℕ
 storeAt l at = storeFrom (word l (at + 1)) (word l (at + 2))
 
@@ -85,7 +67,7 @@ abbrev pub effectOf : ℕ → (ℕ → Exact) → ℕ → ℕ → Exact
 effectOf d x r c = sum exact d (λ (o : ℕ). x (effectPlace d r c o))
 
 abbrev pub recordWords : ℕ → ℕ → Block → List ℤ
-recordWords w next b = pos next ∷ pos (b .store % 2 ^ 32) ∷ pos (b .store / 2 ^ 32) ∷ cells (w * w) (b .entry)
+recordWords w next b = pos next ∷ lowWord (b .store) ∷ highWord (b .store) ∷ cells (w * w) (b .entry)
 
 -- of the first n records, 1 more than the place of the one with the least store that passes p; 0 where none passes
 abbrev pub least : ℕ → (ℕ → ℕ) → (ℕ → Bool) → ℕ

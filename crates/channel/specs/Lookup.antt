@@ -1,19 +1,15 @@
 -- The block of a store: where it lies in a channel's words.
-use mathlib.Core.Bool.{Bool, cond, _&&_}
+use mathlib.Core.Bool.{cond}
 use mathlib.Core.List.{List, []}
 use Prim.Native.Nat.{ℕ, zero, suc, _+_}
-use lib.Dec.{eqb, leb}
-use lib.ListN.{length, getD, take, drop}
+use lib.Dec.{eqb}
+use lib.ListN.{take, drop}
 use lib.IntN.{ℤ, natAbs}
-use Rattle.algebra.specs.Lists.{allBelow}
 use Rattle.algebra.specs.Words.{fromBits}
+use Rattle.store.specs.Store.{storeFits}
 use Rattle.channel.specs.declared.lookup.Span.{Span}
 use Rattle.channel.specs.Layout.{recordHead, blockSize, side, word, storeAt, dimAt, bitsAt, countAt}
 use Rattle.channel.specs.WellFormed.{wellFormed}
-
--- one byte a bit, each 0 or 1
-abbrev pub storeRight : ℕ → List ℕ → Bool
-storeRight m bytes = eqb (length bytes) m && allBelow (length bytes) (λ (i : ℕ). leb (getD bytes i 0) 1)
 
 pub data Lookup : Type 0 where
   malformed : Lookup
@@ -33,7 +29,7 @@ placed (suc a) = found (suc a)
 
 abbrev pub lookupOf : List ℤ → List ℕ → Lookup
 lookupOf l bytes =
-    cond (wellFormed l) (cond (storeRight (bitsAt l) bytes) (placed (find l (fromBits bytes) (countAt l) (natAbs (word l 3)))) wrongStore) malformed
+    cond (wellFormed l) (cond (storeFits (bitsAt l) bytes) (placed (find l (fromBits bytes) (countAt l) (natAbs (word l 3)))) wrongStore) malformed
 
 -- the words of a block's entries
 abbrev pub blockWords : List ℤ → ℕ

@@ -10,7 +10,8 @@ use Rattle.exact.specs.Exact.{Exact, exact}
 use Rattle.cells.specs.Cells.{exponentAt}
 use Rattle.channel.specs.declared.compare.Turn.{Turn}
 use Rattle.channel.specs.declared.compare.Cursor.{Cursor}
-use Rattle.channel.specs.Layout.{entrySize, side, dimAt, countAt, word, entryPlace, entryAt, storeAt, before}
+use Rattle.store.specs.Store.{before}
+use Rattle.channel.specs.Layout.{entrySize, side, dimAt, countAt, word, entryPlace, entryAt, storeAt}
 use Rattle.channel.specs.WellFormed.{wellFormed, Onward}
 use Rattle.channel.specs.Compare.{Both}
 

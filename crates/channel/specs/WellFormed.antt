@@ -11,7 +11,8 @@ use Rattle.algebra.specs.Words.{eqℤ, upTo}
 use Rattle.cells.specs.Cells.{wellFormedAt}
 use Rattle.channel.specs.declared.Shape.{Shape}
 use Rattle.channel.specs.declared.well_formed.Judged.{Judged}
-use Rattle.channel.specs.Layout.{headerSize, recordSize, entryPlace, side, word, storeFrom, before, storeAt, dimAt, bitsAt, countAt}
+use Rattle.store.specs.Store.{maxWord, storeFrom, before}
+use Rattle.channel.specs.Layout.{headerSize, recordSize, entryPlace, side, word, storeAt, dimAt, bitsAt, countAt}
 
 abbrev pub isDim : ℤ → Bool
 isDim z = (((eqℤ z (pos 1) || eqℤ z (pos 2)) || eqℤ z (pos 4)) || eqℤ z (pos 8)) || eqℤ z (pos 16)
@@ -30,7 +31,7 @@ isStart w count (negsuc a) = false
 
 -- both words in range, and the bits beyond the m-th zero
 abbrev pub wordsOk : ℤ → ℤ → ℕ → Bool
-wordsOk low high m = (upTo (2 ^ 32 - 1) low && upTo (2 ^ 32 - 1) high) && ltb (storeFrom low high) (2 ^ m)
+wordsOk low high m = (upTo maxWord low && upTo maxWord high) && ltb (storeFrom low high) (2 ^ m)
 
 abbrev pub storeOk : List ℤ → ℕ → ℕ → Bool
 storeOk l at m = wordsOk (word l (at + 1)) (word l (at + 2)) m

@@ -1,12 +1,12 @@
 // The comparison of two channels: their chains are walked in step, and the blocks of each store compared entry by entry. A word is read at most
 // twice: once to judge it, and once to compare it.
-use super::layout::comes_before;
 use super::layout::follow;
 use super::layout::read_entry;
 use super::layout::read_store;
 use super::well_formed::judge;
 use scalar::Scalar;
 use scalar::ZERO;
+use store::comes_before;
 ghost use mathlib.Core.Path.{_≡_};
 ghost use mathlib.Core.Bool.{true};
 ghost use Prim.Native.Nat.{ℕ, _*_, _<_, _≤_};

@@ -4,14 +4,14 @@ use super::layout::block_size;
 use super::layout::follow;
 use super::layout::read_store;
 use super::well_formed::judge;
+use store::is_store;
+use store::pack;
 ghost use mathlib.Core.Path.{_≡_};
 ghost use mathlib.Core.Bool.{true};
-ghost use Prim.Native.Nat.{_≤_};
 ghost use lib.IntN.{natAbs};
-ghost use Rattle.algebra.specs.Words.{fromBits};
 ghost use Rattle.channel.specs.Layout.{word, countAt};
 ghost use Rattle.channel.specs.WellFormed.{wellFormed};
-ghost use Rattle.channel.specs.Lookup.{storeRight, find, lookupOf, partOf, spanOf, noSpan};
+ghost use Rattle.channel.specs.Lookup.{find, lookupOf, partOf, spanOf, noSpan};
 
 // A part of a slice.
 pub struct Span {
@@ -23,37 +23,6 @@ fn none() -> Span
     ensures { λ r. ⌜ r ≡ noSpan ⌝ }
 {
     Span { start: 0, size: 0 }
-}
-
-// Whether a store has m bytes, each 0 or 1.
-fn right_store(m: u32, bytes: &[u8]) -> bool
-    ensures { λ r. ⌜ r ≡ storeRight m (now (bytes .entry)) ⌝ }
-{
-    if bytes.len() != m as usize {
-        return false;
-    }
-    let mut i = 0;
-    while i < bytes.len() {
-        if 1 < bytes[i] {
-            return false;
-        }
-        i += 1;
-    }
-    true
-}
-
-// The store of a list of bits, bit 0 first.
-fn store_number(m: u32, bytes: &[u8]) -> u64
-    requires { ⌜ (m ≤ 64) × (storeRight m (now bytes) ≡ true) ⌝ }
-    ensures { λ r. ⌜ r ≡ fromBits (now (bytes .entry)) ⌝ }
-{
-    let mut x = 0;
-    let mut i = bytes.len();
-    while 0 < i {
-        i -= 1;
-        x = bytes[i] as u64 + 2 * x;
-    }
-    x
 }
 
 // The index of the record of a store in a well-formed channel of `count` blocks, or 0.
@@ -82,10 +51,10 @@ pub fn locate(s: &[i64], store: &[u8]) -> Span
         return none();
     }
     let m = h.bits;
-    if !right_store(m, store) {
+    if !is_store(store, m) {
         return none();
     }
-    let at = find_store(s, store_number(m, store), h.count);
+    let at = find_store(s, pack(store, 0, store.len()), h.count);
     if at == 0 {
         return none();
     }

@@ -1,19 +1,21 @@
 // Whether words are a well-formed channel. Each word is read once.
 use super::Shape;
 use super::layout::HEADER;
-use super::layout::comes_before;
 use super::layout::entry_place;
-use super::layout::fits_bits;
 use super::layout::is_start;
-use super::layout::join;
 use super::layout::record_size;
 use super::layout::up_to;
 use cells::well_formed_at;
+use store::MAX_WORD;
+use store::comes_before;
+use store::fits_bits;
+use store::join;
 ghost use mathlib.Core.Path.{_≡_};
 ghost use mathlib.Core.Bool.{true, false};
 ghost use Prim.Native.Nat.{_+_, _≤_};
 ghost use lib.ListN.{length};
-ghost use Rattle.channel.specs.Layout.{recordHead, recordSize, entryPlace, storeFrom, storeAt, word};
+ghost use Rattle.store.specs.Store.{storeFrom};
+ghost use Rattle.channel.specs.Layout.{recordHead, recordSize, entryPlace, storeAt, word};
 ghost use Rattle.channel.specs.WellFormed.{judged, isDim, wordsOk, storeOk, entriesOk, recordOk, chainOk, Room, wellFormed, headerOf, shapeOf, noShape};
 
 // What is found of a record: its store, or `ok` false and 0.
@@ -42,7 +44,7 @@ fn judge_words(low: i64, high: i64, m: u32) -> Judged
     requires { ⌜ m ≤ 64 ⌝ }
     ensures { λ r. ⌜ r ≡ judged (wordsOk low high m) (storeFrom low high) ⌝ }
 {
-    if !(up_to(4294967295, low) & up_to(4294967295, high)) {
+    if !(up_to(MAX_WORD, low) & up_to(MAX_WORD, high)) {
         return bad();
     }
     let store = join(low, high);

@@ -1,12 +1,9 @@
 -- Question by question along a list: what the first element decides, and what it leaves to the rest.
 use mathlib.Core.Path.{_≡_, sym, ap, _∙_}
-use mathlib.Core.Bool.{Bool, true, _&&_}
 use mathlib.Core.List.{List}
 use Prim.Native.Nat.{ℕ, _+_, _-_, _*_, _/_, _≤_, _<_}
 use native.Mathlib.Numerals.{add-one}
-use lib.ListN.{length, getD, drop, drop-of-length-le}
-use lib.Seq.{drop-cons}
-use Rattle.algebra.specs.Lists.{every}
+use lib.ListN.{length}
 use Rattle.gate.specs.declared.judge.GateVerdict.{GateVerdict}
 use Rattle.gate.specs.Gate.{Gate, gateAt, gatesFrom}
 use Rattle.gate.proofs.Listed.{gates-more, gates-none}
@@ -25,11 +22,3 @@ module _ (ws : List ℕ) (fault : Gate → GateVerdict) where
 
   pub verdict-none : (i : ℕ) → length ws / 5 ≤ i → verdictFrom i ≡ Accepted
   verdict-none i l = ap (gatesVerdict fault i) (gates-none ws (length ws / 5) i l)
-
--- ---- bytes
-module _ (p : ℕ → Bool) (s : List ℕ) where
-  pub every-more : (i : ℕ) → i < length s → every p (drop i s) ≡ p (getD s i 0) && every p (drop (i + 1) s)
-  every-more i l = rw (add-one i, drop-cons s i 0)
-
-  pub every-none : (i : ℕ) → length s ≤ i → every p (drop i s) ≡ true
-  every-none i l = ap (every p) (drop-of-length-le s l)

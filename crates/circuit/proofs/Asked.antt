@@ -7,17 +7,14 @@ use lib.Dec.{eqb, leb}
 use lib.ListN.{length}
 use Rattle.algebra.specs.Lists.{All, every}
 use Rattle.gate.specs.declared.judge.Asking.the-variants.{Channel}
-use Rattle.gate.specs.Gate.{Gate, gatesOf, formed, placed, supported, valid, weight}
+use Rattle.gate.specs.Gate.{Gate, gatesOf, formed, placed, supported, valid}
 use Rattle.gate.specs.Verdict.{firstFault, faultOf}
 use Rattle.circuit.specs.declared.limits.Limits.{Limits}
-use Rattle.circuit.specs.declared.footprint.Footprint.{Footprint}
-use Rattle.verdict.specs.declared.Verdict.{Verdict}
-use Rattle.verdict.specs.declared.Verdict.the-variants.{Accepted, OverLimit, UnsupportedAt, OperandAt, BadStore, MalformedAt, OverCeiling, TooHeavy, ShortBuffer}
+use Rattle.verdict.specs.declared.Verdict.the-variants.{OverLimit, UnsupportedAt, OperandAt, MalformedAt, OverCeiling}
 use Rattle.circuit.specs.Limits.{matrixCeilings, branchCeilings}
-use Rattle.circuit.specs.Footprint.{footprintOf}
 use Rattle.verdict.specs.Verdict.{accepted}
-use Rattle.circuit.specs.Questions.{ask, after, atGate, gatesVerdict, storeFits, sizesOf, withinLimits, maxWeight, roomFor, channelVerdict}
-use Rattle.circuit.specs.Asked.{Question, question, firstBy, firstNo, decidedBy, ofGates, gateQuestions, numberQuestions, asked}
+use Rattle.circuit.specs.Questions.{ask, after, atGate, gatesVerdict, channelVerdict}
+use Rattle.circuit.specs.Asked.{Question, firstBy, firstNo, decidedBy, ofGates, gateQuestions, numberQuestions, asked}
 
 abbrev pub yes : Question → Bool
 yes q = q .answer

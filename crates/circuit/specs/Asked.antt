@@ -11,7 +11,8 @@ use Rattle.verdict.specs.declared.Verdict.{Verdict}
 use Rattle.verdict.specs.declared.Verdict.the-variants.{Accepted, OverLimit, UnsupportedAt, OperandAt, BadStore, MalformedAt, OverCeiling, TooHeavy, ShortBuffer}
 use Rattle.circuit.specs.Limits.{matrixCeilings, branchCeilings}
 use Rattle.circuit.specs.Footprint.{footprintOf}
-use Rattle.circuit.specs.Questions.{storeFits, sizesOf, withinLimits, maxWeight, roomFor}
+use Rattle.store.specs.Store.{storeFits}
+use Rattle.circuit.specs.Questions.{sizesOf, withinLimits, maxWeight, roomFor}
 
 pub record Question : Type 0 where
   -- document 01's number of it

@@ -4,7 +4,8 @@ use mathlib.Core.List.{List, [], _∷_}
 use Prim.Native.Nat.{ℕ, suc, _/_, _%_, _^_, _≤_, min}
 use lib.Dec.{eqb, leb}
 use lib.ListN.{length}
-use Rattle.algebra.specs.Lists.{every, total}
+use Rattle.algebra.specs.Lists.{total}
+use Rattle.store.specs.Store.{storeFits}
 use Rattle.gate.specs.declared.judge.GateVerdict.{GateVerdict}
 use Rattle.gate.specs.declared.judge.GateVerdict.the-variants.{Fine, Malformed, Operand, Unsupported}
 use Rattle.gate.specs.declared.judge.Asking.the-variants.{Channel, Unitary}
@@ -50,10 +51,6 @@ wordsVerdict n m l ws =
     (gatesVerdict (faultOf (Channel m) n) 0 (gatesOf ws))))  -- 4 to 6
 
 -- ---- circuit_channel, of the footprint and numbers alone: questions 7 to 10
--- question 7: the store has one byte per bit, each 0 or 1
-abbrev pub storeFits : ℕ → List ℕ → Bool
-storeFits m σ = eqb (length σ) m && every (λ (b : ℕ). leb b 1) σ
-
 -- branches, stores and rows
 abbrev pub sizesOf : Footprint → ℕ → Sizes
 sizesOf f n = record { branches = 2 ^ (f .splits); stores = 2 ^ min (f .splits) (f .written); rows = 2 ^ n }

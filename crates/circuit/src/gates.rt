@@ -1,4 +1,4 @@
-// The questions of the gates of a list, and of the store.
+// The questions of the gates of a list.
 use gate::judge::Asking;
 use gate::judge::GateVerdict;
 use gate::judge::read_gate;
@@ -6,7 +6,7 @@ use verdict::Verdict;
 ghost use mathlib.Core.Path.{_≡_};
 ghost use Rattle.gate.specs.Gate.{gatesOf};
 ghost use Rattle.gate.specs.Verdict.{faultOf};
-ghost use Rattle.circuit.specs.Questions.{gatesVerdict, storeFits};
+ghost use Rattle.circuit.specs.Questions.{gatesVerdict};
 
 // Questions 4 to 6, gate by gate.
 pub fn judge_gates(words: &[u32], n: u32, asking: Asking) -> Verdict
@@ -32,21 +32,4 @@ pub fn judge_gates(words: &[u32], n: u32, asking: Asking) -> Verdict
         i += 1;
     }
     Verdict::Accepted
-}
-
-// Question 7: one byte per bit, each 0 or 1.
-pub fn is_store(store: &[u8], bits: u32) -> bool
-    ensures { λ r. ⌜ r ≡ storeFits bits (now (store .entry)) ⌝ }
-{
-    if store.len() != bits as usize {
-        return false;
-    }
-    let mut i = 0;
-    while i < store.len() {
-        if 1 < store[i] {
-            return false;
-        }
-        i += 1;
-    }
-    true
 }

@@ -1,6 +1,5 @@
 // The questions of circuit_channel and of circuit_unitary, in order.
 use crate::footprint::Footprint;
-use crate::gates::is_store;
 use crate::gates::judge_gates;
 use crate::limits::Limits;
 use crate::sizes::Sizes;
@@ -8,6 +7,7 @@ use crate::sizes::has_unitary_room;
 use crate::sizes::is_unitary_within;
 use crate::sizes::power;
 use gate::judge::Asking;
+use store::is_store;
 use verdict::Verdict;
 ghost use mathlib.Core.Path.{_≡_};
 ghost use mathlib.Core.Bool.{true, _&&_};

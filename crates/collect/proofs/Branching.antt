@@ -3,7 +3,7 @@ use mathlib.Core.Path.{_≡_, refl, sym, ap, ap₂, _∙_, subst}
 use mathlib.Core.Bool.{Bool, true, false, cond, not, _&&_, _||_}
 use mathlib.Core.List.{List, [], _∷_, _++_, map, foldl, append-nil}
 use Prim.Native.Nat.{ℕ, zero, suc, _+_, _*_, _/_, _%_, _^_, _≤_, _<_}
-use native.Mathlib.Nat.{pow-succ', div-lt-iff-lt-mul, div-add-mod', zero-add}
+use native.Mathlib.Nat.{zero-add}
 use native.Mathlib.Omega.{arith}
 use lib.Dec.{eqb}
 use lib.ListN.{length, getD, length-map, length-append}
@@ -16,33 +16,20 @@ use Rattle.algebra.proofs.Lists.{every-all, all-append, all-getD, some-append}
 use Rattle.exact.specs.Exact.{Exact, exact, conj, isZero}
 use Rattle.matrix.proofs.Terms.{row-lt, column-lt}
 use Rattle.gate.specs.Operators.{sameBits}
-use Rattle.gate.proofs.Bits.{Word, same-true, same-refl, same-sym}
+use Rattle.gate.proofs.Bits.{same-true, same-refl, same-sym}
 use Rattle.kraus.specs.Dense.{tabulate}
 use Rattle.kraus.specs.Branch.{Store, Branch}
 use Rattle.kraus.specs.Blocks.{alive, survivors, having, overlap, block, stores}
 use Rattle.kraus.proofs.Dense.{tabulate-length, tabulate-at}
 use Rattle.kraus.proofs.Stores.{other}
-use Rattle.channel.specs.Layout.{bits, side, channelWords}
+use Rattle.store.specs.Store.{bits}
+use Rattle.store.proofs.Bytes.{bits-back}
+use Rattle.channel.specs.Layout.{side, channelWords}
 use Rattle.collect.specs.Bank.{storeOf, entry, survives, has, isFirst, starts, overlaps, storesOf, blockOf, bankIn}
 use Rattle.collect.specs.Delivered.{blockNo, branchesWords}
 use Rattle.collect.proofs.Whole.{channel-same}
 
 -- ---- stores as numbers
-bits-back : (m x : ℕ) → x < 2 ^ m → fromBits (bits m x) ≡ x
-bits-back zero x h = omega arith
-bits-back (suc m) x h = omega (arith, bits-back m (x / 2) (div-lt-iff-lt-mul {k = 2} (omega arith) .1 (omega (arith, pow-succ' 2 m))), div-add-mod' x 2)
-
-bits-from : (τ : Store) → All (λ (b : ℕ). b < 2) τ → bits (length τ) (fromBits τ) ≡ τ
-bits-from [] h = refl
-bits-from (b ∷ τ) h =
-    let l : b < 2 = h .0 in
-    let low : (b + 2 * fromBits τ) % 2 ≡ b = omega arith in
-    let high : (b + 2 * fromBits τ) / 2 ≡ fromBits τ = omega arith in
-    (λ i. low i ∷ bits (length τ) (high i)) ∙ ap (λ (ρ : Store). b ∷ ρ) (bits-from τ (h .1))
-
-pub bits-word : (m : ℕ) (τ : Store) → Word m τ → bits m (fromBits τ) ≡ τ
-bits-word m τ (e, h) = subst (λ (k : ℕ). bits k (fromBits τ) ≡ τ) e (bits-from τ h)
-
 same-bits : (m x y : ℕ) → x < 2 ^ m → y < 2 ^ m → sameBits (bits m x) (bits m y) ≡ eqb x y
 same-bits m x y h k = test-same (sameBits (bits m x) (bits m y)) (eqb x y)
     (λ e. eq-eqb x y (sym (bits-back m x h) ∙ ap fromBits (same-true (bits m x) (bits m y) e) ∙ bits-back m y k))

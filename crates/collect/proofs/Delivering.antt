@@ -10,8 +10,9 @@ use Rattle.algebra.proofs.Blocks.{wrote}
 use Rattle.algebra.proofs.Lists.{all-getD}
 use Rattle.algebra.proofs.Signed.{word-is}
 use Rattle.kraus.specs.Blocks.{survivors}
-use Rattle.branches.specs.Store.{StoreAt}
-use Rattle.channel.specs.Layout.{Block, headerSize, recordSize, side, word, storeFrom}
+use Rattle.store.specs.Inner.Held.{StoreAt}
+use Rattle.store.specs.Store.{maxWord, storeFrom}
+use Rattle.channel.specs.Layout.{Block, headerSize, recordSize, side, word}
 use Rattle.collect.specs.Bank.{storesOf, blockOf, records, bankIn}
 use Rattle.collect.specs.Links.{linked, headed, Records}
 use Rattle.collect.specs.Delivered.{branchesWords, overwritten, Deliverable}
@@ -21,7 +22,7 @@ use Rattle.collect.proofs.Branching.{stores-each, stores-few, channel-i
 
 -- a store in two words has 64 bits
 store-below : {l : List ℤ} {at : ℕ} → StoreAt l at → storeFrom (word l at) (word l (at + 1)) < 2 ^ 64
-store-below {l} {at} s = omega (arith, word-is (2 ^ 32 - 1) (word l at) (s .low) .1, word-is (2 ^ 32 - 1) (word l (at + 1)) (s .high) .1)
+store-below {l} {at} s = omega (arith, word-is maxWord (word l at) (s .low) .1, word-is maxWord (word l (at + 1)) (s .high) .1)
 
 module _ {result work : List ℤ} {at d m count : ℕ} (p : Deliverable result work at d m count) where
   abbrev stores : List ℕ

@@ -25,13 +25,15 @@ use Rattle.kraus.specs.Blocks.{alive, survivors, having, block, stores}
 use Rattle.kraus.proofs.Dense.{tabulate-length, tabulate-at}
 use Rattle.kraus.proofs.Counting.{branch-count, branches-bits}
 use Rattle.kraus.proofs.Limits.{Kraus, Enough, never-48}
-use Rattle.branches.specs.Store.{Bits}
+use Rattle.store.specs.Inner.Held.{Bits}
 use Rattle.branches.specs.Bank.{bankWords, Holds}
 use Rattle.branches.proofs.Banks.{read-factor, bank-room, bank-read, bank-low, bank-high, store-at}
-use Rattle.channel.specs.Layout.{headerSize, recordSize, side, bits, storeFrom}
+use Rattle.store.specs.Store.{bits, storeFrom}
+use Rattle.channel.specs.Layout.{headerSize, recordSize, side}
 use Rattle.collect.specs.Bank.{place, entry, storeOf, overlaps, bankIn, Bank}
 use Rattle.collect.specs.Delivered.{Deliverable}
-use Rattle.collect.proofs.Branching.{branchIn, block-is, store-count, bits-word}
+use Rattle.store.proofs.Bytes.{bits-word}
+use Rattle.collect.proofs.Branching.{branchIn, block-is, store-count}
 
 -- the branches bs of a circuit on n qubits with m bits, in a bank at `at` of l
 pub record Held (l : List ℤ) (at n m : ℕ) (bs : List Branch) : Type 0 where

@@ -16,8 +16,9 @@ use Rattle.algebra.proofs.Signed.{word-is}
 use Rattle.exact.specs.Exact.{Exact}
 use Rattle.cells.specs.Cells.{cells, fill}
 use Rattle.cells.proofs.Cell.{fill-block, length-cells}
-use Rattle.branches.specs.Store.{StoreAt}
-use Rattle.channel.specs.Layout.{headerSize, recordSize, side, word, storeFrom, recordWords, Block}
+use Rattle.store.specs.Inner.Held.{StoreAt}
+use Rattle.store.specs.Store.{maxWord, storeFrom}
+use Rattle.channel.specs.Layout.{headerSize, recordSize, side, word, recordWords, Block}
 use Rattle.collect.specs.Bank.{storeOf, starts, storesOf, overlaps, recordOf, records, Bank, Begun}
 
 -- ---- one record
@@ -30,16 +31,16 @@ module _ {l : List ℤ} {at : ℕ} (s : StoreAt l at) where
   number = storeFrom (word l at) (word l (at + 1))
 
   low : natAbs (word l at) < 2 ^ 32
-  low = omega (arith, word-is (2 ^ 32 - 1) (word l at) (s .low) .1)
+  low = omega (arith, word-is maxWord (word l at) (s .low) .1)
 
   swapped : number ≡ natAbs (word l (at + 1)) * 2 ^ 32 + natAbs (word l at)
   swapped = add-comm (natAbs (word l at)) (natAbs (word l (at + 1)) * 2 ^ 32)
 
   pub low-word : word l at ≡ pos (number % 2 ^ 32)
-  low-word = word-is (2 ^ 32 - 1) (word l at) (s .low) .0 ∙ ap pos (sym (ap (λ (x : ℕ). x % 2 ^ 32) swapped ∙ digits-mod (natAbs (word l (at + 1))) low))
+  low-word = word-is maxWord (word l at) (s .low) .0 ∙ ap pos (sym (ap (λ (x : ℕ). x % 2 ^ 32) swapped ∙ digits-mod (natAbs (word l (at + 1))) low))
 
   pub high-word : word l (at + 1) ≡ pos (number / 2 ^ 32)
-  high-word = word-is (2 ^ 32 - 1) (word l (at + 1)) (s .high) .0 ∙ ap pos (sym (ap (λ (x : ℕ). x / 2 ^ 32) swapped ∙ digits-div (natAbs (word l (at + 1))) low))
+  high-word = word-is maxWord (word l (at + 1)) (s .high) .0 ∙ ap pos (sym (ap (λ (x : ℕ). x / 2 ^ 32) swapped ∙ digits-div (natAbs (word l (at + 1))) low))
 
 -- three words, then the entries
 pub record-written : (m : List ℤ) (to : ℕ) {l : List ℤ} {at : ℕ} → StoreAt l at → (n : ℕ) (f : ℕ → Exact) {x y : ℤ} → x ≡ word l at → y ≡ word l (at + 1) → {b : List ℤ}

@@ -15,7 +15,8 @@ use Rattle.algebra.specs.Words as words
 use Rattle.algebra.proofs.Blocks.{wrote, rest, block-in, length-blocks, blocks-at, blocks-same, blocks-over, blocks-parts, length-joined, joined-same}
 use Rattle.cells.specs.Cells.{cells}
 use Rattle.cells.proofs.Cell.{cells-same}
-use Rattle.channel.specs.Layout.{Block, headerSize, recordSize, recordAt, word, side, storeFrom, before, link, next, first, header, recordWords, channelWords}
+use Rattle.store.specs.Store.{maxWord, storeFrom, before}
+use Rattle.channel.specs.Layout.{Block, headerSize, recordSize, recordAt, word, side, link, next, first, header, recordWords, channelWords}
 use Rattle.channel.proofs.Words.{square-small}
 use Rattle.collect.specs.Links.{blockIn, linked, headed, Records}
 use Rattle.collect.specs.Delivered.{overwritten}
@@ -112,8 +113,8 @@ module _ (l : List ℤ) (d m n : ℕ) (B : ℕ → Block) (room : headerSize + n
     stored = λ j h. record {
       width = square-small d small;
       room = omega (arith, room, size, block-in h (recordSize (side d)));
-      low = ap (λ (b : List ℤ). upTo (2 ^ 32 - 1) (word b (recordAt (side d) j + 1))) e ∙ ap (upTo (2 ^ 32 - 1)) (word-read j 1 h (omega arith)) ∙ le-leb (B j .store % 2 ^ 32) (2 ^ 32 - 1) (omega (arith, mod-lt (B j .store) (pow-pos 32)));
-      high = ap (λ (b : List ℤ). upTo (2 ^ 32 - 1) (word b (recordAt (side d) j + 2))) e ∙ ap (upTo (2 ^ 32 - 1)) (word-read j 2 h (omega arith)) ∙ le-leb (B j .store / 2 ^ 32) (2 ^ 32 - 1) (omega (arith, narrow j h));
+      low = ap (λ (b : List ℤ). upTo maxWord (word b (recordAt (side d) j + 1))) e ∙ ap (upTo maxWord) (word-read j 1 h (omega arith)) ∙ le-leb (B j .store % 2 ^ 32) maxWord (omega (arith, mod-lt (B j .store) (pow-pos 32)));
+      high = ap (λ (b : List ℤ). upTo maxWord (word b (recordAt (side d) j + 2))) e ∙ ap (upTo maxWord) (word-read j 2 h (omega arith)) ∙ le-leb (B j .store / 2 ^ 32) maxWord (omega (arith, narrow j h));
     };
   }
     where

@@ -14,7 +14,8 @@ use Rattle.matrix.specs.Matrix.{zeros}
 use Rattle.matrix.specs.Factors.{Factor}
 use Rattle.kraus.specs.Dense.{tabulate}
 use Rattle.kraus.specs.Branch as kraus
-use Rattle.branches.specs.Store.{StoreAt}
+use Rattle.store.specs.Store.{bits, storeFrom}
+use Rattle.store.specs.Inner.Held.{StoreAt}
 use Rattle.branches.specs.Bank.{matrixSize, branchSize}
 use Rattle.channel.specs.Layout as layout
 
@@ -33,7 +34,7 @@ module _ (l : List ℤ) (at d : ℕ) where
 
   -- the store of branch j: bit i weighs 2^i
   abbrev pub storeOf : ℕ → ℕ
-  storeOf j = layout.storeFrom (layout.word l (storePlace at d j)) (layout.word l (storePlace at d j + 1))
+  storeOf j = storeFrom (layout.word l (storePlace at d j)) (layout.word l (storePlace at d j + 1))
 
   -- some entry of branch j is not zero
   abbrev pub survives : ℕ → Bool
@@ -76,7 +77,7 @@ module _ (l : List ℤ) (at d : ℕ) where
   -- the first n branches, with m bits in a store
   unfoldable pub bankIn : ℕ → ℕ → List kraus.Branch
   bankIn m zero = []
-  bankIn m (suc n) = bankIn m n ++ (record { matrix = tabulate (d * d) 0 (entry n); store = layout.bits m (storeOf n) } ∷ [])
+  bankIn m (suc n) = bankIn m n ++ (record { matrix = tabulate (d * d) 0 (entry n); store = bits m (storeOf n) } ∷ [])
 
 -- branch j lies in the words, and its store's words are in range
 pub record Branch (l : List ℤ) (at d j : ℕ) : Type 0 where

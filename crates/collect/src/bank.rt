@@ -1,7 +1,7 @@
 // A bank's branches, read: their stores, and which survive.
 use cells::CELL;
-use channel::layout::store_from;
 use matrix::words::is_zero;
+use store::store_from;
 ghost use mathlib.Core.Path.{_≡_};
 ghost use Prim.Native.Nat.{ℕ, _<_, _≤_};
 ghost use Rattle.collect.specs.Bank.{storeOf, survives, has, isFirst, Branch, Branches, Found};

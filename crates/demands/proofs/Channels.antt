@@ -22,8 +22,9 @@ use Rattle.kraus.specs.Branch.{Store, Branch, branches}
 use Rattle.kraus.specs.Blocks.{survivors, stores, block}
 use Rattle.kraus.proofs.Hermitian as hermitian
 use Rattle.kraus.proofs.Effect.{effect, probabilities}
-use Rattle.channel.specs.Layout.{Block, side, effectOf, bits, readBack}
-use Rattle.collect.proofs.Branching.{bits-word}
+use Rattle.store.specs.Store.{bits}
+use Rattle.channel.specs.Layout.{Block, side, effectOf, readBack}
+use Rattle.store.proofs.Bytes.{bits-word}
 use Rattle.judge.specs.Delivered.{circuitWords}
 use Rattle.demands.specs.Demands.{IsChannel}
 use Rattle.demands.proofs.Reading.{SameBlock, SameBlocks, range-map, back, chained, chained-perm, read-blocks}

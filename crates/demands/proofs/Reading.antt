@@ -15,10 +15,11 @@ use Rattle.algebra.proofs.Lists.{all-imp, filter-keep}
 use Rattle.algebra.proofs.Trace.{nil, keep, swap, join, all-of, all-back, length-of, total-of}
 use Rattle.algebra.proofs.Perm.{Perm, perm-path, perm-sym, map-of, filter-of}
 use Rattle.channel.specs.declared.compare.Found.the-variants.{Same}
-use Rattle.channel.specs.Layout.{Block, side, word, before, dimAt, channelWords, readBack}
+use Rattle.store.specs.Store.{before}
+use Rattle.channel.specs.Layout.{Block, side, word, dimAt, channelWords, readBack}
 use Rattle.channel.specs.Compare.{plain, compareOf}
 use Rattle.channel.specs.Claims.{look, entryOf, Comparable, places, visits, Writable, ReadsBack}
-use Rattle.channel.proofs.Stores.{before-irrefl, before-trans, before-apart}
+use Rattle.store.proofs.Order.{before-irrefl, before-trans, before-apart}
 use Rattle.channel.proofs.Sorted.{Above, Sorted, keys, sorted}
 use Rattle.channel.proofs.Visits.{length-places}
 use Rattle.channel.proofs.Claims.{same-exactly}

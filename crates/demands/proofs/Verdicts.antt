@@ -13,7 +13,8 @@ use Rattle.verdict.specs.declared.Verdict.{Verdict}
 use Rattle.verdict.specs.declared.Verdict.the-variants.{Accepted, OverLimit, BadStore, MalformedAt, OverCeiling, TooHeavy, ShortBuffer}
 use Rattle.circuit.specs.Limits.{matrixCeilings, branchCeilings}
 use Rattle.circuit.specs.Footprint.{footprintOf}
-use Rattle.circuit.specs.Questions.{storeFits, sizesOf, withinLimits, maxWeight, roomFor}
+use Rattle.store.specs.Store.{storeFits}
+use Rattle.circuit.specs.Questions.{sizesOf, withinLimits, maxWeight, roomFor}
 use Rattle.circuit.specs.Asked.{Question, question, firstBy, firstNo, decidedBy, ofGates, numberQuestions, asked}
 use Rattle.circuit.proofs.Asked.{yes, gates, valid-first, gates-every, faulty-by}
 

@@ -19,7 +19,8 @@ use Rattle.kraus.specs.Branch.{Store, Branch, branches}
 use Rattle.kraus.specs.Blocks.{survivors, stores, block}
 use Rattle.circuit.specs.declared.limits.Limits.{Limits}
 use Rattle.channel.specs.declared.compare.Found.the-variants.{Same}
-use Rattle.channel.specs.Layout.{Block, side, effectOf, bits, dimAt, bitsAt, countAt, readBack}
+use Rattle.store.specs.Store.{bits}
+use Rattle.channel.specs.Layout.{Block, side, effectOf, dimAt, bitsAt, countAt, readBack}
 use Rattle.channel.specs.WellFormed.{wellFormed}
 use Rattle.channel.specs.Compare.{plain, compareOf}
 use Rattle.judge.specs.Delivered.{circuitWords}

@@ -10,10 +10,9 @@ use lib.Pow.{pow-pos}
 use lib.ListN.{length, getD, take, length-append}
 use lib.Seq.{take-length}
 use lib.IntN.{ℤ, pos}
-use borrow.Author.Tests.{leb-true, leb-false, eqb-true}
+use borrow.Author.Tests.{leb-true, leb-false}
 use Rattle.algebra.specs.Lists.{All, every, total, marks}
 use Rattle.algebra.proofs.Tests.{and-split, exhaust, holds-true}
-use Rattle.algebra.proofs.Lists.{every-all}
 use Rattle.algebra.proofs.Totals.{sub-whole, sub-filter}
 use Rattle.exact.specs.Exact as scalar
 use Rattle.gate.specs.Gate.{Gate, gatesOf, valid, splits, weight}
@@ -28,7 +27,9 @@ use Rattle.circuit.specs.declared.sizes.Sizes.{Sizes}
 use Rattle.circuit.specs.Limits.{matrixCeilings, branchCeilings}
 use Rattle.circuit.specs.Footprint.{writes, footprintOf}
 use Rattle.circuit.specs.Sizes.{cellsNeeded, resultWords, workWords}
-use Rattle.circuit.specs.Questions.{storeFits, sizesOf, withinLimits, roomFor}
+use Rattle.store.specs.Store.{storeFits}
+use Rattle.store.proofs.Bytes.{fits-word}
+use Rattle.circuit.specs.Questions.{sizesOf, withinLimits, roomFor}
 use Rattle.circuit.proofs.Products.{fourth-is}
 use Rattle.channel.specs.Layout.{side, recordSize}
 use Rattle.channel.specs.WellFormed as wf
@@ -85,7 +86,7 @@ module _ (n m : ℕ) (σ : List ℕ) (l : Limits) (ws : List ℕ) (r w : List �
       let q8 = and-split (withinLimits foot n m l) _ (q7 .1) in
       let q9 = and-split (leb (total weight gs) 48) _ (q8 .1) in
       let q10 = and-split (roomFor sizes (length r) (length w)) _ (q9 .1) in
-      let bytes = and-split (eqb (length σ) m) _ (q7 .0) in
+      let bytes = fits-word m σ (q7 .0) in
       let room = and-split (leb (resultWords (sizes .stores) (sizes .rows)) (length r)) _ (q10 .0) in
       let low = and-split (matrixCeilings l) (branchCeilings l) (q1 .0) in
       let low1 = and-split (leb (l .«max_qubits») 5) _ (low .0) in
@@ -102,8 +103,8 @@ module _ (n m : ℕ) (σ : List ℕ) (l : Limits) (ws : List ℕ) (r w : List �
             (omega (arith, leb-true n (l .«max_qubits») (in3 .0), leb-true (l .«max_qubits») 5 (low1 .0))) (pow-pos (min (foot .splits) (foot .written)))
             (leb-true _ _ (in4 .0)) (leb-true _ _ (low2 .0));
         bit-count = omega (arith, leb-true m (l .«max_classical_bits») (in1 .0), leb-true (l .«max_classical_bits») 64 (low3 .1));
-        bytes = every-all (λ (b : ℕ). leb b 1) (λ (v : ℕ). v < 2) (λ v h. omega (arith, leb-true v 1 h)) σ (bytes .1);
-        byte-count = eqb-true (length σ) m (bytes .0);
+        bytes = bytes .1;
+        byte-count = bytes .0;
         light = leb-true (total weight gs) 48 (q9 .0);
         branch-count = omega (arith, leb-true (sizes .branches) (l .«max_branches») (in2 .0), leb-true (l .«max_branches») 64 (low3 .0));
         room = leb-true _ _ (room .0);

@@ -16,11 +16,12 @@ use Rattle.gate.proofs.Bits.{Word, same-refl}
 use Rattle.kraus.specs.Branch.{Store, Branch}
 use Rattle.kraus.specs.Blocks.{stores}
 use Rattle.kraus.proofs.Stores.{Distinct, stores-distinct}
-use Rattle.channel.specs.Layout.{side, bits}
+use Rattle.store.specs.Store.{bits}
+use Rattle.channel.specs.Layout.{side}
 use Rattle.channel.specs.WellFormed.{isDim}
 use Rattle.channel.specs.Claims.{Writable}
 use Rattle.collect.specs.Delivered.{blockNo}
-use Rattle.collect.proofs.Branching.{bits-word}
+use Rattle.store.proofs.Bytes.{bits-word}
 
 -- ---- a store as a number
 from-word : (m : ℕ) (τ : Store) → Word m τ → fromBits τ < 2 ^ m

@@ -1,7 +1,7 @@
 -- All examples hold, by computation.
 use mathlib.Core.Path.{refl}
 use Rattle.algebra.specs.Words.{blocks, joined}
-use Rattle.channel.specs.Layout.{before}
+use Rattle.store.specs.Store.{before}
 use Rattle.channel.specs.WellFormed.{wellFormed, chainOk}
 use Rattle.listing.specs.Page.{digits}
 use Rattle.listing.specs.Listing.{storeBits, entryLines}

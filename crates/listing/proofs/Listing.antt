@@ -15,7 +15,8 @@ use Rattle.algebra.proofs.Signed.{reads}
 use Rattle.exact.specs.Exact.{Exact, isZero}
 use Rattle.cells.specs.Cells.{cellWords}
 use Rattle.algebra.proofs.Tests.{and-split}
-use Rattle.channel.specs.Layout.{bits, side, word, storeAt, chain, dimAt, bitsAt, readBack, blockAt}
+use Rattle.store.specs.Store.{maxWord, bits}
+use Rattle.channel.specs.Layout.{side, word, storeAt, chain, dimAt, bitsAt, readBack, blockAt}
 use Rattle.channel.specs.WellFormed.{storeOk, rises, entriesOk, wellFormed, shapeAt}
 use Rattle.channel.specs.declared.Shape.{Shape}
 use Rattle.channel.specs.WellFormed.{Onward}
@@ -68,8 +69,8 @@ side-some zero k h = absurd (omega arith)
 side-some (suc w) k h = omega arith
 
 -- ---- blocks
-pub store-words : (l : List ℤ) (at m : ℕ) → storeOk l at m ≡ true → (upTo 4294967295 (word l (at + 1)) ≡ true) × (upTo 4294967295 (word l (at + 2)) ≡ true)
-store-words l at m e = and-split (upTo 4294967295 (word l (at + 1))) _ (and-split (upTo 4294967295 (word l (at + 1)) && upTo 4294967295 (word l (at + 2))) _ e .0)
+pub store-words : (l : List ℤ) (at m : ℕ) → storeOk l at m ≡ true → (upTo maxWord (word l (at + 1)) ≡ true) × (upTo maxWord (word l (at + 2)) ≡ true)
+store-words l at m e = and-split (upTo maxWord (word l (at + 1))) _ (and-split (upTo maxWord (word l (at + 1)) && upTo maxWord (word l (at + 2))) _ e .0)
 
 pub on-entries : {l : List ℤ} {n at : ℕ} (o : Onward l n at) → 0 < n → entriesOk l at (side (dimAt l) * side (dimAt l)) ≡ true
 on-entries {l} {at = at} o h = and-split (rises (o .first) (o .prev) (storeAt l at)) _ (and-split (storeOk l at (bitsAt l)) _ (on-record o h) .1) .1

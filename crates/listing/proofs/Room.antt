@@ -13,7 +13,8 @@ use lib.IntN.{ℤ, pos, negsuc, natAbs}
 use Rattle.algebra.specs.Lists.{concatMap}
 use Rattle.exact.specs.Exact.{Exact, isZero}
 use Rattle.cells.specs.Cells.{cellWords}
-use Rattle.channel.specs.Layout.{Block, recordSize, side, bits, word, dimAt, bitsAt, countAt, chain, blockAt}
+use Rattle.store.specs.Store.{bits}
+use Rattle.channel.specs.Layout.{Block, recordSize, side, word, dimAt, bitsAt, countAt, chain, blockAt}
 use Rattle.channel.specs.WellFormed.{wellFormed}
 use Rattle.channel.proofs.Judging.{formed}
 use Rattle.circuit_text.specs.Text.{ascii}

@@ -13,7 +13,7 @@ use mir.Val.{Fits, SFits, toZ, ofZ}
 use mir.Facts.{toZ-ofZ}
 use Rattle.algebra.proofs.Parts.{sfits-abs}
 use Rattle.algebra.proofs.Signed.{neg-fits, neg-back, is-neg, not-neg}
-use Rattle.channel.proofs.Words.{Casts}
+use Rattle.store.proofs.Words.{Casts}
 use lib.ListN.{length, set, length-set}
 use borrow.Author.Tests.{lt-ltb, le-ltb, ltb-true, ltb-false}
 use Rattle.listing.specs.Page.{Page, page, put, write, Written, digits, decimal, signed}

@@ -6,7 +6,8 @@ use lib.IntN.{ℤ, pos}
 use Rattle.algebra.specs.Lists.{concatMap}
 use Rattle.exact.specs.Exact.{Exact, isZero}
 use Rattle.cells.specs.Cells.{cellWords}
-use Rattle.channel.specs.Layout.{Block, side, bits, dimAt, bitsAt, countAt, readBack}
+use Rattle.store.specs.Store.{bits}
+use Rattle.channel.specs.Layout.{Block, side, dimAt, bitsAt, countAt, readBack}
 use Rattle.channel.specs.WellFormed.{wellFormed}
 use Rattle.circuit_text.specs.Text.{ascii}
 use Rattle.listing.specs.Page.{decimal, signed}

@@ -10,7 +10,7 @@ use mir.Syntax.{w64}
 use mir.Val.{SFits, toZ, ofZ}
 use mir.Facts.{toZ-ofZ, toZ-pos}
 use Rattle.channel.specs.Layout.{recordSize, side}
-use Rattle.channel.proofs.Words.{Casts, read, fits-abs}
+use Rattle.store.proofs.Words.{Casts, read, fits-abs}
 use Rattle.effects.specs.Effects.{relink}
 use Rattle.effects.proofs.Summing.{dim-square}
 use Rattle.effects.proofs.Linking.{zero-word, link-start, relink-at, record-less, link-less}

@@ -10,7 +10,8 @@ use lib.Seq.{sets}
 use lib.IntN.{ℤ}
 use Rattle.algebra.proofs.Blocks.{Writing, begin, done, long}
 use Rattle.matrix.specs.Matrix.{written}
-use Rattle.branches.specs.Store.{StoreAt, outcomeWords}
+use Rattle.store.specs.Inner.Held.{StoreAt}
+use Rattle.branches.specs.Store.{outcomeWords}
 use Rattle.branches.specs.Bank.{matrixSize, branchSize}
 use Rattle.branches.specs.Step.{rowSum, Applying, stepWords}
 use Rattle.branches.proofs.Steps.{step-square, total-le, length-product, number-is, branch-is, op-at, old-in, new-in, turn-applying, turn-store, turn-room, turn-more}

@@ -7,7 +7,7 @@ use mir.Syntax.{w64}
 use mir.Val.{SFits}
 use mir.Facts.{toZ-ofZ}
 use Rattle.channel.specs.Layout.{word}
-use Rattle.channel.proofs.Words.{Casts, read, fits-abs}
+use Rattle.store.proofs.Words.{Casts, read, fits-abs}
 use borrow.Author.Needs.{needs}
 use Rattle.channel.proofs.layout.follow.Statement.{statement}
 use Rattle.channel.proofs.layout.follow.Tie as tie

@@ -6,7 +6,8 @@ use lib.Dec.{eqb, ltb}
 use lib.IntN.{ℤ, pos, natAbs}
 use lib.Signed.{ltZ}
 use mir.Syntax.{w64}
-use Rattle.channel.proofs.Words.{Casts, read, unread, casts, natural, low-start, high-start}
+use Rattle.store.proofs.Words.{Casts, read, unread, casts, natural}
+use Rattle.channel.proofs.Words.{low-start, high-start}
 use borrow.Author.Needs.{needs}
 use Rattle.channel.proofs.layout.is_start.Statement.{statement}
 use Rattle.channel.proofs.layout.is_start.Tie as tie

@@ -1,10 +1,11 @@
 -- `layout::read_store` meets its contract.
 use mathlib.Core.Path.{_≡_, sym, ap, _∙_, subst}
 use mathlib.Core.Bool.{true}
-use Prim.Native.Nat.{ℕ, _+_, _-_, _^_}
+use Prim.Native.Nat.{ℕ, _+_, _-_}
 use native.Mathlib.Omega.{arith}
 use Rattle.algebra.specs.Words.{upTo}
-use Rattle.channel.specs.Layout.{storeFrom, word}
+use Rattle.store.specs.Store.{maxWord, storeFrom}
+use Rattle.channel.specs.Layout.{word}
 use Rattle.channel.proofs.layout.read_store.Statement.{statement}
 use Rattle.channel.proofs.layout.read_store.Tie as tie
 
@@ -16,7 +17,11 @@ add-store-from c = omega (arith, c .pre .0)
 
 store-from-requires : tie.Need-store-from-requires
 store-from-requires c κs =
-    (omega (arith, c .pre .0), (c .pre .1 .0, subst (λ (k : ℕ). upTo (2 ^ 32 - 1) (word (c .args .s .now) k) ≡ true) (sym (next (c .args .at))) (c .pre .1 .1)))
+    record {
+      room = omega (arith, c .pre .0);
+      low = c .pre .1 .0;
+      high = subst (λ (k : ℕ). upTo maxWord (word (c .args .s .now) k) ≡ true) (sym (next (c .args .at))) (c .pre .1 .1);
+    }
 
 returns : tie.Need-returns
 returns c =

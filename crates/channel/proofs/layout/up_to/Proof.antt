@@ -7,7 +7,7 @@ use lib.Signed.{ltZ}
 use mir.Syntax.{w64}
 use Rattle.algebra.specs.Words.{upTo}
 use Rattle.algebra.proofs.Signed.{below-zero}
-use Rattle.channel.proofs.Words.{Casts, read, unread, casts, high-up}
+use Rattle.store.proofs.Words.{Casts, read, unread, casts, high-up}
 use Rattle.channel.proofs.layout.up_to.Statement.{statement}
 use Rattle.channel.proofs.layout.up_to.Tie as tie
 

@@ -5,12 +5,16 @@ use mathlib.Core.List.{List}
 use Prim.Native.Nat.{ℕ, _+_, _*_, _≤_}
 use native.Mathlib.Omega.{arith}
 use lib.ListN.{length}
+use lib.Seq.{take-length}
 use lib.IntN.{ℤ, natAbs}
 use borrow.Author.Tests.{not-true, not-false}
+use Rattle.algebra.specs.Words.{fromBits}
+use Rattle.store.proofs.Bytes.{fits-word}
 use Rattle.channel.specs.declared.Shape.{Shape}
 use Rattle.channel.specs.Layout.{recordHead, blockSize, recordSize, word, side, dimAt, bitsAt}
 use Rattle.channel.specs.WellFormed.{wellFormed, shapeAt}
-use Rattle.channel.specs.Lookup.{storeRight, find, placed, spanOf, lookupOf}
+use Rattle.store.specs.Store.{storeFits}
+use Rattle.channel.specs.Lookup.{find, placed, spanOf, lookupOf}
 use Rattle.channel.proofs.Judging.{formed, shape-test, shape-is}
 use Rattle.channel.proofs.Finding.{placed-found, look-malformed, look-wrong, look-placed, index, index-inside}
 use borrow.Author.Needs.{needs}
@@ -36,14 +40,14 @@ module _ (c : tie.Else1) where
   is : shape (c .before) ≡ shapeAt (words (c .before))
   is = shape-is (words (c .before)) (wellFormed (words (c .before))) (shape (c .before)) (c .before .before .judge .ensures) (not-false _ (c .if1 .left))
 
-stores : (c : tie.After-right-store) → c .right-store .result ≡ storeRight (bitsAt (words (c .before .before))) (bytes (c .before .before))
-stores c = c .right-store .ensures ∙ ap (λ (h : Shape). storeRight (h .bits) (bytes (c .before .before))) (is (c .before))
+stores : (c : tie.After-is-store) → c .is-store .result ≡ storeFits (bitsAt (words (c .before .before))) (bytes (c .before .before))
+stores c = c .is-store .ensures ∙ ap (λ (h : Shape). storeFits (h .bits) (bytes (c .before .before))) (is (c .before))
 
 module _ (c : tie.Else2) where
   abbrev known : tie.After-struct-known
   known = c .before .before .before
 
-  stored : storeRight (bitsAt (words known)) (bytes known) ≡ true
+  stored : storeFits (bitsAt (words known)) (bytes known) ≡ true
   stored = sym (stores (c .before)) ∙ not-false _ (c .if2 .left)
 
   look : lookupOf (words known) (bytes known) ≡ placed (index (words known) (bytes known))
@@ -52,7 +56,7 @@ module _ (c : tie.Else2) where
 found-at : (c : tie.After-find-store) → c .find-store .result ≡ index (words (known (c .before .before))) (bytes (known (c .before .before)))
 found-at c =
     let k = known (c .before .before) in
-    c .find-store .ensures ∙ (λ i. find (words k) (c .before .store-number .ensures i) (is (c .before .before .before .before) i .count) (natAbs (word (words k) 3)))
+    c .find-store .ensures ∙ (λ i. find (words k) ((c .before .pack .ensures ∙ ap fromBits (take-length (bytes k))) i) (is (c .before .before .before .before) i .count) (natAbs (word (words k) 3)))
 
 module _ (c : tie.Else3) where
   abbrev two : tie.Else2
@@ -75,8 +79,8 @@ returns c =
     let k = c .before .before in
     c .none .ensures ∙ sym (ap (spanOf (words k)) (look-malformed (words k) (bytes k) (sym (tested k) ∙ not-true _ (c .before .if1 .taken))))
 
-right-store-requires : tie.Need-right-store-requires
-right-store-requires c κs = search needs
+is-store-requires : tie.Need-is-store-requires
+is-store-requires c κs = search needs
 
 none-requires-2 : tie.Need-none-requires-2
 none-requires-2 c κs = search needs
@@ -87,11 +91,11 @@ returns-2 c =
     let k = r .before .before in
     c .none2 .ensures ∙ sym (ap (spanOf (words k)) (look-wrong (words k) (bytes k) (right (r .before)) (sym (stores r) ∙ not-true _ (c .before .if2 .taken))))
 
-store-number-requires : tie.Need-store-number-requires
-store-number-requires c κs =
+pack-requires : tie.Need-pack-requires
+pack-requires c κs =
     let k = known c in
-    let e = is (c .before .before) in
-    (subst (λ (h : Shape). h .bits ≤ 64) (sym e) (formed (words k) (right (c .before .before)) .head .room .few), subst (λ (h : Shape). storeRight (h .bits) (bytes k) ≡ true) (sym e) (stored c))
+    let f = fits-word (bitsAt (words k)) (bytes k) (stored c) in
+    (omega arith, (omega arith, (omega (arith, f .0, formed (words k) (right (c .before .before)) .head .room .few), f .1)))
 
 find-store-requires : tie.Need-find-store-requires
 find-store-requires c κs = let e = c .before .before .before in (right e, ap (λ (h : Shape). h .count) (is e))
@@ -130,10 +134,10 @@ locate-spec =
     judge-requires
     none-requires
     returns
-    right-store-requires
+    is-store-requires
     none-requires-2
     returns-2
-    store-number-requires
+    pack-requires
     find-store-requires
     none-requires-3
     returns-3

@@ -17,7 +17,8 @@ use Rattle.algebra.proofs.Signed.{cast-ok}
 use Rattle.channel.specs.declared.Shape.{Shape}
 use Rattle.channel.specs.Layout.{word, recordSize, dimAt}
 use Rattle.channel.specs.WellFormed.{isDim, counted, headerOk, shapeAt, noShape}
-use Rattle.channel.proofs.Words.{Casts, read, casts-up, up-abs, dim-range, square-small}
+use Rattle.store.proofs.Words.{Casts, read, casts-up, up-abs}
+use Rattle.channel.proofs.Words.{dim-range, square-small}
 use borrow.Author.Needs.{needs}
 use Rattle.channel.proofs.well_formed.header.Statement.{statement}
 use Rattle.channel.proofs.well_formed.header.Tie as tie

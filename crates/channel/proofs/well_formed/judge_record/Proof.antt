@@ -3,7 +3,8 @@ use mathlib.Core.Path.{_≡_, sym, ap, _∙_}
 use mathlib.Core.Bool.{Bool, true, _&&_, _||_}
 use Prim.Native.Nat.{ℕ, _*_}
 use borrow.Author.Tests.{not-true, not-false}
-use Rattle.channel.specs.Layout.{before, storeAt}
+use Rattle.store.specs.Store.{before}
+use Rattle.channel.specs.Layout.{storeAt}
 use Rattle.channel.specs.WellFormed.{rises, storeOk, entriesOk}
 use Rattle.channel.proofs.Judging.{good, bad, is-bad, is-good}
 use borrow.Author.Needs.{needs}

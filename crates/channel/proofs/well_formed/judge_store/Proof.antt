@@ -1,7 +1,8 @@
 -- `well_formed::judge_store` meets its contract.
 use mathlib.Core.Path.{_∙_}
 use Prim.Native.Nat.{_+_}
-use Rattle.channel.specs.Layout.{storeFrom, word}
+use Rattle.store.specs.Store.{storeFrom}
+use Rattle.channel.specs.Layout.{word}
 use Rattle.channel.specs.WellFormed.{judged, wordsOk}
 use Rattle.algebra.proofs.Signed.{reads}
 use borrow.Author.Needs.{needs}

@@ -8,21 +8,21 @@ use mir.Facts.{toZ-ofZ}
 use borrow.Author.Tests.{not-true, not-false}
 use Rattle.algebra.specs.Words.{upTo}
 use Rattle.algebra.proofs.Tests.{and-split}
-use Rattle.channel.specs.Layout.{storeFrom}
+use Rattle.store.specs.Store.{maxWord, storeFrom}
 use Rattle.channel.specs.WellFormed.{wordsOk}
-use Rattle.channel.proofs.Words.{read}
+use Rattle.store.proofs.Words.{read}
 use Rattle.channel.proofs.Judging.{is-bad, is-good}
 use borrow.Author.Needs.{needs}
 use Rattle.channel.proofs.well_formed.judge_words.Statement.{statement}
 use Rattle.channel.proofs.well_formed.judge_words.Tie as tie
 
 -- both words are in range
-both : (c : tie.After-up-to2) → (c .before .up-to .result && c .up-to2 .result) ≡ (upTo 4294967295 (c .before .before .args .low) && upTo 4294967295 (c .before .before .args .high))
+both : (c : tie.After-up-to2) → (c .before .up-to .result && c .up-to2 .result) ≡ (upTo maxWord (c .before .before .args .low) && upTo maxWord (c .before .before .args .high))
 both c =
     let s = c .before .before in
-    λ i. (c .before .up-to .ensures ∙ ap (upTo 4294967295) (toZ-ofZ (s .fits .low))) i && (c .up-to2 .ensures ∙ ap (upTo 4294967295) (toZ-ofZ (s .fits .high))) i
+    λ i. (c .before .up-to .ensures ∙ ap (upTo maxWord) (toZ-ofZ (s .fits .low))) i && (c .up-to2 .ensures ∙ ap (upTo maxWord) (toZ-ofZ (s .fits .high))) i
 
-ranges : (c : tie.Else1) → (upTo 4294967295 (c .before .before .before .args .low) ≡ true) × (upTo 4294967295 (c .before .before .before .args .high) ≡ true)
+ranges : (c : tie.Else1) → (upTo maxWord (c .before .before .before .args .low) ≡ true) × (upTo maxWord (c .before .before .before .args .high) ≡ true)
 ranges c = and-split _ _ (sym (both (c .before)) ∙ not-false _ (c .if1 .left))
 
 -- the store, and the whole test
@@ -57,7 +57,7 @@ returns c =
 join-requires : tie.Need-join-requires
 join-requires c κs =
     let s = c .before .before .before in
-    (read (s .fits .low) (λ (z : ℤ). upTo 4294967295 z ≡ true) (ranges c .0), read (s .fits .high) (λ (z : ℤ). upTo 4294967295 z ≡ true) (ranges c .1))
+    (read (s .fits .low) (λ (z : ℤ). upTo maxWord z ≡ true) (ranges c .0), read (s .fits .high) (λ (z : ℤ). upTo maxWord z ≡ true) (ranges c .1))
 
 fits-bits-requires : tie.Need-fits-bits-requires
 fits-bits-requires c κs = search needs

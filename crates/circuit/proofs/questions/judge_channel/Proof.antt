@@ -9,7 +9,8 @@ use Rattle.gate.proofs.Listed.{gates-length}
 use Rattle.circuit.specs.declared.footprint.Footprint.{Footprint}
 use Rattle.circuit.specs.Footprint.{footprintOf}
 use Rattle.verdict.specs.Verdict.{accepted}
-use Rattle.circuit.specs.Questions.{storeFits, wordsVerdict, numbersVerdict}
+use Rattle.store.specs.Store.{storeFits}
+use Rattle.circuit.specs.Questions.{wordsVerdict, numbersVerdict}
 use Rattle.circuit.proofs.Numbers.{words-low, after-yes, after-no}
 use Rattle.circuit.proofs.questions.judge_channel.Statement.{statement}
 use Rattle.circuit.proofs.questions.judge_channel.Tie as tie

@@ -5,7 +5,7 @@ use lib.IntN.{ℤ, pos}
 use lib.Signed.{ltZ}
 use mir.Syntax.{w64}
 use borrow.Author.Needs.{needs}
-use Rattle.channel.proofs.Words.{Casts, casts, read, unread}
+use Rattle.store.proofs.Words.{Casts, casts, read, unread}
 use Rattle.listing.proofs.Writing.{next-fits, turned-fits, turned-casts, size-fits, size-is}
 use Rattle.listing.proofs.page.magnitude.Statement.{statement}
 use Rattle.listing.proofs.page.magnitude.Tie as tie

@@ -1,31 +1,13 @@
-// A branch's store: packed from bytes, and written with an outcome.
+// A branch's store, written with an outcome.
 ghost use mathlib.Core.Path.{_≡_};
 ghost use mathlib.Core.Bool.{true};
 ghost use Prim.Native.Nat.{_+_, _<_, _≤_, _^_, _-_};
-ghost use lib.ListN.{length, take, drop};
+ghost use lib.ListN.{length};
 ghost use lib.Seq.{sets};
-ghost use Rattle.algebra.specs.Words.{fromBits, upTo};
-ghost use Rattle.branches.specs.Store.{Bits, StoreAt, withBit, outcomeWord, outcomeWords};
-
-fn wide(x: u8) -> u64
-    ensures { λ r. ⌜ r ≡ x ⌝ }
-{
-    x as u64
-}
-
-// The number of the bits from `from` to before `to`, the lowest first.
-pub fn pack(store: &[u8], from: usize, to: usize) -> u64
-    requires { ⌜ (from ≤ to) × ((to ≤ length (now store)) × ((to ≤ from + 32) × Bits (now store))) ⌝ }
-    ensures { λ r. ⌜ r ≡ fromBits (drop from (take to (now (store .entry)))) ⌝ }
-{
-    let mut x: u64 = 0;
-    let mut i = to;
-    while from < i {
-        i -= 1;
-        x = x * 2 + wide(store[i]);
-    }
-    x
-}
+ghost use Rattle.algebra.specs.Words.{upTo};
+ghost use Rattle.store.specs.Store.{maxWord};
+ghost use Rattle.store.specs.Inner.Held.{StoreAt};
+ghost use Rattle.branches.specs.Store.{withBit, outcomeWord, outcomeWords};
 
 // x with bit k made v.
 fn with_bit(x: u64, k: u32, v: u64) -> u64
@@ -38,7 +20,7 @@ fn with_bit(x: u64, k: u32, v: u64) -> u64
 
 // The word of the bits from `first` on, with bit `bit` made v where it is one of its 32.
 fn outcome_word(w: i64, first: u32, bit: u32, v: u64) -> i64
-    requires { ⌜ (upTo (2 ^ 32 - 1) w ≡ true) × (v ≤ 1) ⌝ }
+    requires { ⌜ (upTo maxWord w ≡ true) × (v ≤ 1) ⌝ }
     ensures { λ r. ⌜ r ≡ outcomeWord first bit v w ⌝ }
 {
     if bit < first {

@@ -1,7 +1,8 @@
+-- `comes_before` meets its contract.
 use borrow.Author.Needs.{needs}
-use Rattle.channel.proofs.Stores.{later-bit, no-bit}
-use Rattle.channel.proofs.layout.comes_before.Statement.{statement}
-use Rattle.channel.proofs.layout.comes_before.Tie as tie
+use Rattle.store.proofs.Order.{later-bit, no-bit}
+use Rattle.store.proofs.comes_before.Statement.{statement}
+use Rattle.store.proofs.comes_before.Tie as tie
 
 cast-result : tie.Need-cast-result
 cast-result c = search needs

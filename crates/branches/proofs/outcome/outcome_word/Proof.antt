@@ -9,14 +9,15 @@ use mir.Syntax.{w64}
 use mir.Val.{Fits, toZ, ofZ}
 use mir.Facts.{toZ-pos}
 use Rattle.algebra.proofs.Signed.{back, word-is, cast-ok}
+use Rattle.store.specs.Store.{maxWord}
 use Rattle.branches.specs.Store.{withBit}
 use Rattle.branches.proofs.Stores.{outcome-below, outcome-above, outcome-in, with-bit-below}
-use Rattle.branches.proofs.store.outcome_word.Statement.{statement}
-use Rattle.branches.proofs.store.outcome_word.Tie as tie
+use Rattle.branches.proofs.outcome.outcome_word.Statement.{statement}
+use Rattle.branches.proofs.outcome.outcome_word.Tie as tie
 
 -- the word is a number below 2^32
-number : (s : tie.Start) → (s .args .w ≡ pos (natAbs (s .args .w))) × (natAbs (s .args .w) ≤ 2 ^ 32 - 1)
-number s = word-is (2 ^ 32 - 1) (s .args .w) (s .pre .0)
+number : (s : tie.Start) → (s .args .w ≡ pos (natAbs (s .args .w))) × (natAbs (s .args .w) ≤ maxWord)
+number s = word-is maxWord (s .args .w) (s .pre .0)
 
 same : (s : tie.Start) → toZ w64 (ofZ w64 (s .args .w)) ≡ s .args .w
 same s = back (s .args .w) (omega (arith, number s .1))
@@ -28,7 +29,7 @@ returns-2 : tie.Need-returns-2
 returns-2 c = let s = c .before .before in same s ∙ sym (outcome-above (s .args .first) (s .args .bit) (s .args .v) (s .args .w) (c .before .if1 .left) (c .if2 .taken))
 
 cast-with-bit : tie.Need-cast-with-bit
-cast-with-bit c = let s = c .before .before in subst (λ (z : ℤ). T (nonNeg z) × Fits w64 (natAbs z)) (sym (same s)) (cast-ok (2 ^ 32 - 1) (s .args .w) (s .pre .0) (omega arith))
+cast-with-bit c = let s = c .before .before in subst (λ (z : ℤ). T (nonNeg z) × Fits w64 (natAbs z)) (sym (same s)) (cast-ok maxWord (s .args .w) (s .pre .0) (omega arith))
 
 with-bit-requires : tie.Need-with-bit-requires
 with-bit-requires c κs = let s = c .before .before in (omega (arith, ap natAbs (same s), number s .1), (omega (arith, c .if2 .left), s .pre .1))

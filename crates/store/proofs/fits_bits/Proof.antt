@@ -1,8 +1,8 @@
--- `layout::fits_bits` meets its contract.
-use Rattle.channel.proofs.Words.{no-high, whole}
+-- `fits_bits` meets its contract.
+use Rattle.store.proofs.Words.{no-high, whole}
 use borrow.Author.Needs.{needs}
-use Rattle.channel.proofs.layout.fits_bits.Statement.{statement}
-use Rattle.channel.proofs.layout.fits_bits.Tie as tie
+use Rattle.store.proofs.fits_bits.Statement.{statement}
+use Rattle.store.proofs.fits_bits.Tie as tie
 
 shr-result : tie.Need-shr-result
 shr-result c = search needs

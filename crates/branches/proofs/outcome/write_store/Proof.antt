@@ -8,8 +8,8 @@ use lib.IntN.{pos}
 use Rattle.algebra.proofs.Signed.{reads}
 use Rattle.branches.specs.Store.{outcomeWord}
 use borrow.Author.Needs.{needs}
-use Rattle.branches.proofs.store.write_store.Statement.{statement}
-use Rattle.branches.proofs.store.write_store.Tie as tie
+use Rattle.branches.proofs.outcome.write_store.Statement.{statement}
+use Rattle.branches.proofs.outcome.write_store.Tie as tie
 
 mul-low : tie.Need-mul-low
 mul-low c = search needs

@@ -6,8 +6,8 @@ use native.Mathlib.Omega.{arith}
 use lib.Pow.{pow-mono, pow-pos}
 use Rattle.algebra.proofs.Bits.{bit-le, bit-weight}
 use borrow.Author.Needs.{needs}
-use Rattle.branches.proofs.store.with_bit.Statement.{statement}
-use Rattle.branches.proofs.store.with_bit.Tie as tie
+use Rattle.branches.proofs.outcome.with_bit.Statement.{statement}
+use Rattle.branches.proofs.outcome.with_bit.Tie as tie
 
 shl-p : tie.Need-shl-p
 shl-p c = search needs

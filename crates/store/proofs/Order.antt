@@ -1,4 +1,4 @@
--- Stores: their order by the lowest bit that differs, as a total order; stores in two words.
+-- Stores: their order by the lowest bit that differs, as a strict total order.
 use mathlib.Core.Path.{_≡_, refl, sym, ap, _∙_}
 use mathlib.Core.Bool.{Bool, true, false, not, cond, _&&_, true≢false}
 use mathlib.Core.List.{List, [], _∷_}
@@ -10,7 +10,7 @@ use lib.Bits.{bitXor, bitAnd, xor-mod, xor-shr}
 use lib.Count.{trailingZeros, under}
 use borrow.Author.Tests.{lt-ltb, le-ltb, ltb-true, ltb-false, eq-eqb, ne-eqb, eqb-true, eqb-false}
 use Rattle.algebra.proofs.Signed.{digit-suc, and-one}
-use Rattle.channel.specs.Layout.{bits, precedes, before}
+use Rattle.store.specs.Store.{bits, precedes, before}
 
 -- the lowest bit that differs decides
 pub scan : (n x y : ℕ) → (ltb (trailingZeros n (bitXor x y)) n && eqb (y / 2 ^ trailingZeros n (bitXor x y) % 2) 1) ≡ precedes (bits n x) (bits n y)
