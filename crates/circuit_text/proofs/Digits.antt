@@ -13,7 +13,8 @@ use borrow.Author.Tests.{leb-true}
 use Rattle.algebra.specs.Lists.{every}
 use Rattle.algebra.proofs.Tests.{and-split}
 use Rattle.circuit_text.specs.declared.text.Number.{Number}
-use Rattle.circuit_text.specs.Text.{isDigit, digit, value, isNumber, noNumber, numberOf}
+use Rattle.circuit_text.specs.Text.{isDigit, digit, value, isNumber}
+use Rattle.circuit_text.specs.Inner.Reading.{noNumber, numberOf}
 
 pub digit-range : (b : ℕ) → isDigit b ≡ true → (48 ≤ b) × (b ≤ 57)
 digit-range b e = let t = and-split (leb 48 b) (leb b 57) e in (leb-true 48 b (t .0), leb-true b 57 (t .1))

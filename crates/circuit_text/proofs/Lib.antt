@@ -1,4 +1,5 @@
 pub mod Digits
 pub mod Pieces
 pub mod Shapes
+pub mod Judging
 pub mod Claims

@@ -1,18 +1,18 @@
 -- Laws of a text's pieces: where a piece ends, and what is read once some of them are.
 use mathlib.Core.Path.{_≡_, refl, sym, ap, _∙_}
 use mathlib.Core.Bool.{Bool, true, false, cond, _&&_}
-use mathlib.Core.List.{List, [], _∷_}
+use mathlib.Core.List.{List, [], _∷_, map}
 use Prim.Native.Nat.{ℕ, suc, _+_, _-_, _<_, _≤_}
 use native.Mathlib.Numerals.{add-one}
 use native.Mathlib.Omega.{arith}
 use lib.Dec.{eqb, leb, leb·suc-suc}
-use lib.ListN.{length, getD, take, drop, set, drop-of-length-le, length-drop, length-set}
-use lib.Seq.{drop-cons, drop-drop, sets, set-out}
+use lib.ListN.{length, getD, take, drop, set, drop-of-length-le, length-drop, length-map, length-set}
+use lib.Seq.{drop-cons, drop-drop, sets}
 use borrow.Author.Tests.{eq-eqb, ne-eqb, le-leb, lt-leb}
 use Rattle.algebra.specs.Lists.{every}
-use Rattle.algebra.proofs.Tests.{leb-same, and-no}
-use Rattle.circuit_text.specs.declared.text.Read.{Read}
-use Rattle.circuit_text.specs.Text.{isBlank, bodyLength, onto, pieces, run, value, isNumber, leading, piecesOk, readOf, body, textOf, filled}
+use Rattle.algebra.proofs.Tests.{and-split, leb-same}
+use Rattle.circuit_text.specs.Text.{isBlank, bodyLength, onto, pieces, value, isNumber}
+use Rattle.circuit_text.specs.Inner.Reading.{run}
 
 -- ---- the text without its last newline
 module _ (t : List ℕ) where
@@ -65,6 +65,9 @@ run-inside (b ∷ bs) = by (isBlank b) (run-inside bs)
     by true h = omega arith
     by false h = omega arith
 
+pub run-ends : (t : List ℕ) (at e : ℕ) → at ≤ length t → e ≡ at + run (drop at t) → (at ≤ e) × (e ≤ length t)
+run-ends t at e h q = let r = run-inside (drop at t) in (omega arith, omega (arith, length-drop at t))
+
 -- ---- the pieces from `at` on; none past the text's end
 abbrev pub from : List ℕ → ℕ → List (List ℕ)
 from t at = cond (leb at (length t)) (pieces (drop at t)) []
@@ -105,86 +108,72 @@ from-more t at e h q =
     later = let k : at + suc (run (drop at t)) ≡ e + 1 = omega arith in drop-drop (suc (run (drop at t))) at t ∙ ap (λ (k : ℕ). drop k t) k
 
 -- ---- what is read
--- `count` numbers of the text t lie in the room l, and the pieces from `at` on are left
-pub record Taken (t l₀ l : List ℕ) (at count : ℕ) : Type 0 where
+-- `count` pieces of the text t are read, all of them numbers, and those from `at` on are left
+pub record Along (t : List ℕ) (at count : ℕ) : Type 0 where
   pub numbers : every isNumber (pieces t) ≡ every isNumber (from t at)
   pub size : length (pieces t) ≡ count + length (from t at)
-  pub room : sets l₀ 0 (leading (pieces t)) ≡ sets l count (leading (from t at))
-  pub same : length l ≡ length l₀
-  pub few : count ≤ length l₀
+  pub rest : drop count (map value (pieces t)) ≡ map value (from t at)
+  pub few : count ≤ at
 
-pub taken-none : (t l : List ℕ) → Taken t l l 0 0
-taken-none t l =
+pub along-none : (t : List ℕ) → Along t 0 0
+along-none t =
     let e = sym (from-start t) in
-    record {
-      numbers = ap (every isNumber) e;
-      size = omega (arith, ap length e);
-      room = ap (λ (ps : List (List ℕ)). sets l 0 (leading ps)) e;
-      same = refl;
-      few = omega arith;
-    }
+    record { numbers = ap (every isNumber) e; size = omega (arith, ap length e); rest = ap (map value) e; few = omega arith }
 
-sets-out : (l : List ℕ) (i : ℕ) (vs : List ℕ) → length l ≤ i → sets l i vs ≡ l
-sets-out l i [] h = refl
-sets-out l i (v ∷ vs) h = sets-out (set l i v) (suc i) vs (omega (arith, length-set l i v)) ∙ set-out l i v h
-
-refuse : (t : List ℕ) (n : ℕ) → piecesOk n (pieces t) ≡ false → Read.Refused ≡ readOf n (pieces t)
-refuse t n e = ap (λ (c : Bool). cond c (Read.Count (length (pieces t))) Read.Refused) (sym e)
-
-module _ (t l₀ l : List ℕ) {at count : ℕ} (g : Taken t l₀ l at count) where
+module _ (t : List ℕ) {at count : ℕ} (g : Along t at count) where
   -- the text has ended
   module _ (h : length t < at) where
-    pub taken-all : Read.Count count ≡ readOf (length l₀) (pieces t)
-    taken-all =
-        let e = from-end t at h in
-        let n : length (pieces t) ≡ count = g .size ∙ ap (λ (ps : List (List ℕ)). count + length ps) e ∙ omega arith in
-        ap Read.Count (sym n)
-        ∙ ap (λ (c : Bool). cond c (Read.Count (length (pieces t))) Read.Refused)
-        (sym (λ i. (g .numbers ∙ ap (every isNumber) e) i && le-leb (length (pieces t)) (length l₀) (omega (arith, g .few)) i))
+    pub along-all : every isNumber (pieces t) ≡ true
+    along-all = g .numbers ∙ ap (every isNumber) (from-end t at h)
 
-    pub all-room : l ≡ sets l₀ 0 (leading (pieces t))
-    unfolding leading
-    all-room = sym (g .room ∙ ap (λ (ps : List (List ℕ)). sets l count (leading ps)) (from-end t at h))
+    pub along-count : length (pieces t) ≡ count
+    along-count = omega (arith, g .size, ap length (from-end t at h))
 
-  -- the next piece is p
-  module _ (p : List ℕ) (ps : List (List ℕ)) (e : from t at ≡ p ∷ ps) where
-    pub bad-piece : isNumber p ≡ false → Read.Refused ≡ readOf (length l₀) (pieces t)
-    bad-piece f = refuse t (length l₀) (ap (λ (c : Bool). c && leb (length (pieces t)) (length l₀)) (g .numbers ∙ ap (every isNumber) e ∙ ap (λ (c : Bool). c && every isNumber ps) f))
+  -- the next piece is p, and the pieces from `next` on follow
+  module _ (p : List ℕ) (next : ℕ) (e : from t at ≡ p ∷ from t next) where
+    pub along-bad : isNumber p ≡ false → every isNumber (pieces t) ≡ false
+    along-bad f = g .numbers ∙ ap (every isNumber) e ∙ ap (λ (c : Bool). c && every isNumber (from t next)) f
 
-    pub bad-room : isNumber p ≡ false → l ≡ sets l₀ 0 (leading (pieces t))
-    unfolding leading
-    bad-room f = sym (g .room ∙ ap (λ (ps : List (List ℕ)). sets l count (leading ps)) e ∙ ap (λ (c : Bool). sets l count (cond c (value p ∷ leading ps) [])) f)
+    pub along-inside : count < length (pieces t)
+    along-inside = omega (arith, g .size, ap length e)
 
-    pub no-room : length l ≤ count → Read.Refused ≡ readOf (length l₀) (pieces t)
-    no-room h = refuse t (length l₀) (and-no (every isNumber (pieces t)) _ (lt-leb (length (pieces t)) (length l₀) (omega (arith, g .same, g .size, ap length e))))
+    inside : count < length (map value (pieces t))
+    inside = omega (arith, along-inside, length-map (pieces t) value)
 
-    pub no-more : length l ≤ count → l ≡ sets l₀ 0 (leading (pieces t))
-    no-more h = sym (g .room ∙ sets-out l count (leading (from t at)) h)
+    split : getD (map value (pieces t)) count 0 ∷ drop (suc count) (map value (pieces t)) ≡ value p ∷ map value (from t next)
+    split = sym (drop-cons (map value (pieces t)) count 0 inside) ∙ g .rest ∙ ap (map value) e
 
-    pub taken-more : (next : ℕ) → ps ≡ from t next → isNumber p ≡ true → count < length l → Taken t l₀ (set l count (value p)) next (count + 1)
-    unfolding leading
-    taken-more next q f h =
-        let r = e ∙ ap (λ (ps : List (List ℕ)). p ∷ ps) q in
-        record {
-          numbers = g .numbers ∙ ap (every isNumber) r ∙ ap (λ (c : Bool). c && every isNumber (from t next)) f;
-          size = omega (arith, g .size, ap length r);
-          room =
-              g .room ∙ ap (λ (ps : List (List ℕ)). sets l count (leading ps)) r ∙ ap (λ (c : Bool). sets l count (cond c (value p ∷ leading (from t next)) [])) f
-              ∙ ap (λ (k : ℕ). sets (set l count (value p)) k (leading (from t next))) (sym (add-one count));
-          same = length-set l count (value p) ∙ g .same;
-          few = omega (arith, g .same);
-        }
+    pub along-value : getD (map value (pieces t)) count 0 ≡ value p
+    along-value = ap (λ (l : List ℕ). getD l 0 0) split
 
--- ---- texts that are too long, and others
-module _ (t l : List ℕ) where
-  abbrev inLimit : ℕ → Bool → Read
-  inLimit n c = cond c (readOf n (pieces (body t))) Read.Refused
+    pub along-sound : every isNumber (pieces t) ≡ true → isNumber p ≡ true
+    along-sound f = and-split (isNumber p) (every isNumber (from t next)) (sym (g .numbers ∙ ap (every isNumber) e) ∙ f) .0
 
-  abbrev roomIn : Bool → List ℕ
-  roomIn c = cond c (sets l 0 (leading (pieces (body t)))) l
+    pub along-more : at < next → isNumber p ≡ true → Along t next (count + 1)
+    along-more h f = record {
+      numbers = g .numbers ∙ ap (every isNumber) e ∙ ap (λ (c : Bool). c && every isNumber (from t next)) f;
+      size = omega (arith, g .size, ap length e);
+      rest = ap (λ (k : ℕ). drop k (map value (pieces t))) (add-one count) ∙ ap (drop 1) split;
+      few = omega (arith, g .few);
+    }
 
-  pub too-long : 2048 < length t → (Read.Refused ≡ textOf (length l) t) × (l ≡ filled t l)
-  too-long h = let e = sym (lt-leb (length t) 2048 h) in (ap (inLimit (length l)) e, ap roomIn e)
+-- ---- the numbers in their room
+-- those read lie in the room l
+pub record Taken (t l₀ l : List ℕ) (at count : ℕ) : Type 0 where
+  pub along : Along t at count
+  pub room : sets l₀ 0 (map value (pieces t)) ≡ sets l count (map value (from t at))
+  pub same : length l ≡ length l₀
 
-  pub in-limit : length t ≤ 2048 → (readOf (length l) (pieces (body t)) ≡ textOf (length l) t) × (sets l 0 (leading (pieces (body t))) ≡ filled t l)
-  in-limit h = let e = sym (le-leb (length t) 2048 h) in (ap (inLimit (length l)) e, ap roomIn e)
+pub taken-none : (t l : List ℕ) → Taken t l l 0 0
+taken-none t l = record { along = along-none t; room = ap (λ (ps : List (List ℕ)). sets l 0 (map value ps)) (sym (from-start t)); same = refl }
+
+module _ (t l₀ l : List ℕ) {at count : ℕ} (g : Taken t l₀ l at count) where
+  pub taken-all : length t < at → l ≡ sets l₀ 0 (map value (pieces t))
+  taken-all h = sym (g .room ∙ ap (λ (ps : List (List ℕ)). sets l count (map value ps)) (from-end t at h))
+
+  pub taken-more : (p : List ℕ) (next : ℕ) → from t at ≡ p ∷ from t next → at < next → isNumber p ≡ true → Taken t l₀ (set l count (value p)) next (count + 1)
+  taken-more p next e h f = record {
+    along = along-more t (g .along) p next e h f;
+    room = g .room ∙ ap (λ (ps : List (List ℕ)). sets l count (map value ps)) e ∙ ap (λ (k : ℕ). sets (set l count (value p)) k (map value (from t next))) (sym (add-one count));
+    same = length-set l count (value p) ∙ g .same;
+  }

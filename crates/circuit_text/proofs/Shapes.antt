@@ -1,21 +1,23 @@
--- Which numbers and which texts are an input.
+-- Which numbers and which texts are an input, and what is seen of one from the left.
 use mathlib.Core.Path.{_≡_, refl, sym, ap, _∙_}
-use mathlib.Core.Bool.{Bool, true, false, cond, _&&_}
+use mathlib.Core.Bool.{Bool, true, false, cond, _&&_, _||_, true≢false}
 use mathlib.Core.List.{List, [], _∷_, map}
 use Prim.Native.Nat.{ℕ, suc, _+_, _*_, _-_, _<_, _≤_}
+use native.Mathlib.Decide.{decLt}
 use native.Mathlib.Numerals.{add-one}
 use native.Mathlib.Omega.{arith}
-use lib.Dec.{eqb, leb}
+use lib.Dec.{eqb, leb, ltb}
 use lib.ListN.{length, getD, take, drop, set, length-set, length-map}
-use lib.Seq.{sets, sets-eq, take-at, drop-cons}
-use borrow.Author.Tests.{leb-true, leb-false, eqb-true, eq-eqb, le-leb}
+use lib.Seq.{sets, sets-eq, length-sets, take-at, drop-cons}
+use borrow.Author.Tests.{leb-true, eqb-true, eqb-false, eq-eqb, ne-eqb, le-leb, lt-leb, lt-ltb, le-ltb}
 use Rattle.algebra.specs.Lists.{every}
-use Rattle.algebra.proofs.Tests.{and-split}
+use Rattle.algebra.proofs.Tests.{and-split, and-no, or-right}
 use Rattle.circuit_text.specs.declared.input.Input.{Input}
 use Rattle.circuit_text.specs.declared.input.Circuit.{Circuit}
-use Rattle.circuit_text.specs.declared.text.Read.{Read}
-use Rattle.circuit_text.specs.Text.{body, pieces, value, isNumber, leading, textOf, filled}
-use Rattle.circuit_text.specs.Input.{bitsIn, gatesIn, storeIn, circuitIn, bytes, isInput, shapeOf, numbersOf, isInputText, inputOf, stored}
+use Rattle.circuit_text.specs.declared.input.Seen.{Seen}
+use Rattle.circuit_text.specs.Text.{maxBytes, bodyLength, body, pieces, value, isNumber}
+use Rattle.circuit_text.specs.Input.{maxBits, maxGates, maxNumbers, bitsIn, gatesIn, storeIn, circuitIn, bytes, isInput, numbersOf, isInputText, inputOf, filled, stored}
+use Rattle.circuit_text.specs.Inner.Reading.{noneSeen, seenWith, seenOk, seenInput, inputIn}
 
 -- what holds of the numbers of an input
 pub record Right (ns : List ℕ) : Type 0 where
@@ -49,11 +51,118 @@ module _ (ns : List ℕ) where
       by true e = absurd (f (right e))
       by false e = e
 
-  pub refused : (Right ns → ⊥) → Input.Refused ≡ shapeOf ns
-  refused f = ap (λ (c : Bool). cond c (Input.Given (circuitIn ns)) Input.Refused) (sym (not-input f))
+-- ---- what is seen from the left
+-- how many numbers of a store of m bits are among the first n numbers
+abbrev seenBits : ℕ → ℕ → ℕ
+seenBits n m = n - 2 - (n - 2 - m)
 
-  pub given : Right ns → Input.Given (circuitIn ns) ≡ shapeOf ns
-  given r = ap (λ (c : Bool). cond c (Input.Given (circuitIn ns)) Input.Refused) (sym (is-input r))
+-- s is what the first numbers of ns say
+pub record Seeing (ns : List ℕ) (s : Seen) : Type 0 where
+  pub qubits : 0 < s .count → s .qubits ≡ getD ns 0 0
+  pub bits : 1 < s .count → s .bits ≡ bitsIn ns
+  pub gates : 2 + s .bits < s .count → s .gates ≡ getD ns (2 + s .bits) 0
+  pub store : s .bytes ≡ bytes ns (s .count - 2 - (s .count - 2 - s .bits))
+
+pub seeing-none : (ns : List ℕ) → Seeing ns noneSeen
+seeing-none ns = record { qubits = λ h. absurd (omega arith); bits = λ h. absurd (omega arith); gates = λ h. absurd (omega arith); store = refl }
+
+and-yes : (a b : Bool) → b ≡ true → (a && b) ≡ a
+and-yes true b e = e
+and-yes false b e = refl
+
+module _ (ns : List ℕ) (s : Seen) (g : Seeing ns s) where
+  abbrev i : ℕ
+  i = s .count
+
+  abbrev v : ℕ
+  v = getD ns i 0
+
+  abbrev next : Seen
+  next = seenWith s v
+
+  -- the bit count stands once two numbers are seen
+  bits-kept : (i ≡ 1 → ⊥) → next .bits ≡ s .bits
+  bits-kept h = ap (λ (c : Bool). cond c v (s .bits)) (ne-eqb i 1 h)
+
+  qubits-more : 0 < i + 1 → next .qubits ≡ getD ns 0 0
+  qubits-more h = go (eqb i 0) refl
+    where
+      go : (c : Bool) → eqb i 0 ≡ c → cond c v (s .qubits) ≡ getD ns 0 0
+      go true e = ap (λ (k : ℕ). getD ns k 0) (eqb-true i 0 e)
+      go false e = let d = eqb-false i 0 e in g .qubits (omega arith)
+
+  bits-more : 1 < i + 1 → next .bits ≡ bitsIn ns
+  bits-more h = go (eqb i 1) refl
+    where
+      go : (c : Bool) → eqb i 1 ≡ c → cond c v (s .bits) ≡ bitsIn ns
+      go true e = ap (λ (k : ℕ). getD ns k 0) (eqb-true i 1 e)
+      go false e = let d = eqb-false i 1 e in g .bits (omega arith)
+
+  gates-more : 2 + next .bits < i + 1 → next .gates ≡ getD ns (2 + next .bits) 0
+  gates-more h = go (eqb i (2 + s .bits)) refl ∙ ap (λ (m : ℕ). getD ns (2 + m) 0) (sym same)
+    where
+      same : next .bits ≡ s .bits
+      same = bits-kept (λ e. omega arith)
+
+      go : (c : Bool) → eqb i (2 + s .bits) ≡ c → cond c v (s .gates) ≡ getD ns (2 + s .bits) 0
+      go true e = ap (λ (k : ℕ). getD ns k 0) (eqb-true i (2 + s .bits) e)
+      go false e = let d = eqb-false i (2 + s .bits) e in g .gates (omega (arith, same))
+
+  store-more : next .bytes ≡ bytes ns (seenBits (i + 1) (next .bits))
+  store-more = go (decLt i 2) (decLt i (2 + s .bits))
+    where
+      -- no number of the store
+      past : (ltb i 2 || (leb (2 + s .bits) i || leb v 255)) ≡ true → seenBits i (s .bits) ≡ seenBits (i + 1) (next .bits) → next .bytes ≡ bytes ns (seenBits (i + 1) (next .bits))
+      past e f = and-yes (s .bytes) _ e ∙ g .store ∙ ap (bytes ns) f
+
+      go : Dec (i < 2) → Dec (i < 2 + s .bits) → next .bytes ≡ bytes ns (seenBits (i + 1) (next .bits))
+      go (yes h) d = past (ap (λ (c : Bool). c || (leb (2 + s .bits) i || leb v 255)) (lt-ltb i 2 h)) (omega arith)
+      go (no h) (no l) =
+          let same = bits-kept (λ e. omega arith) in
+          past (or-right (ltb i 2) _ (ap (λ (c : Bool). c || leb v 255) (le-leb (2 + s .bits) i (omega arith)))) (omega (arith, same))
+      go (no h) (yes l) =
+          let same = bits-kept (λ e. omega arith) in
+          let here : seenBits i (s .bits) ≡ i - 2 = omega arith in
+          let there : suc (i - 2) ≡ seenBits (i + 1) (next .bits) = omega (arith, same) in
+          let place : i ≡ 2 + (i - 2) = omega arith in
+          (λ k. (g .store ∙ ap (bytes ns) here) k && (le-ltb i 2 (omega arith) k || (lt-leb (2 + s .bits) i l k || leb (getD ns (place k) 0) 255)))
+          ∙ ap (bytes ns) there
+
+  pub seeing-more : Seeing ns (seenWith s (getD ns (s .count) 0))
+  seeing-more = record { qubits = qubits-more; bits = bits-more; gates = gates-more; store = store-more }
+
+  -- all numbers are seen
+  module _ (n : s .count ≡ length ns) where
+    -- the gate count is among them
+    module _ (h : 2 + s .bits < s .count) where
+      same-bits : s .bits ≡ bitsIn ns
+      same-bits = g .bits (omega arith)
+
+      same-gates : s .gates ≡ gatesIn ns
+      same-gates = g .gates h ∙ ap (λ (m : ℕ). getD ns (2 + m) 0) same-bits
+
+      same-store : s .bytes ≡ bytes ns (bitsIn ns)
+      same-store = let e : seenBits i (s .bits) ≡ s .bits = omega arith in g .store ∙ ap (bytes ns) (e ∙ same-bits)
+
+      same-test : seenOk s ≡ isInput ns
+      unfolding isInput
+      same-test =
+          λ k. (leb (same-bits k) maxBits && leb (same-gates k) maxGates) && (eqb (n k) (3 + same-bits k + 5 * same-gates k) && same-store k)
+
+      same-circuit : _≡_ {A = Circuit} (record { qubits = s .qubits; bits = s .bits; gates = s .gates }) (circuitIn ns)
+      same-circuit = λ k. record { qubits = g .qubits (omega arith) k; bits = same-bits k; gates = same-gates k }
+
+    pub seen-input : seenInput s ≡ cond (isInput ns) (Input.Given (circuitIn ns)) Input.Refused
+    seen-input = go (decLt (2 + s .bits) i)
+      where
+        go : Dec (2 + s .bits < i) → seenInput s ≡ cond (isInput ns) (Input.Given (circuitIn ns)) Input.Refused
+        go (yes h) = λ k. cond (same-test h k) (Input.Given (same-circuit h k)) Input.Refused
+        go (no h) =
+            let short : seenOk s ≡ false =
+            and-no (leb (s .bits) maxBits && leb (s .gates) maxGates) _ (ap (λ (c : Bool). c && s .bytes) (ne-eqb i (3 + s .bits + 5 * s .gates) (λ e. omega arith))) in
+            let none : isInput ns ≡ false = not-input ns (λ r. omega (arith, r .size, g .bits (omega (arith, r .size)))) in
+            ap (λ (c : Bool). cond c (Input.Given (record { qubits = s .qubits; bits = s .bits; gates = s .gates })) Input.Refused) short
+            ∙ ap (λ (c : Bool). cond c (Input.Given (circuitIn ns)) Input.Refused) (sym none)
 
 -- ---- what an answer says of the test that picks it
 pub given-true : (b : Bool) (x c : Circuit) → cond b (Input.Given x) Input.Refused ≡ Input.Given c → b ≡ true
@@ -68,75 +177,53 @@ pub refused-false : (b : Bool) (x : Circuit) → cond b (Input.Given x) Input.Re
 refused-false true x e = let z : _≡_ {A = ℕ} 0 1 = cc in absurd (omega arith)
 refused-false false x e = refl
 
--- ---- the numbers of a text
-leading-all : (ps : List (List ℕ)) → every isNumber ps ≡ true → leading ps ≡ map value ps
-unfolding leading
-leading-all [] e = refl
-leading-all (p ∷ ps) e =
-    let t = and-split (isNumber p) (every isNumber ps) e in
-    ap (λ (c : Bool). cond c (value p ∷ leading ps) []) (t .0) ∙ ap (λ (ns : List ℕ). value p ∷ ns) (leading-all ps (t .1))
-
--- a text of k numbers, which lie in the room l
-pub record Whole (t l : List ℕ) (k : ℕ) : Type 0 where
-  pub numbers : (leb (length t) 2048 && every isNumber (pieces (body t))) ≡ true
-  pub inside : k ≤ length l
-  pub part : take k (filled t l) ≡ numbersOf t
-
-module _ (t l : List ℕ) where
-  abbrev ps : List (List ℕ)
-  ps = pieces (body t)
-
-  pub whole : (k : ℕ) → textOf (length l) t ≡ Read.Count k → Whole t l k
-  whole k e =
-      let r = by (leb (length t) 2048) (every isNumber ps) (leb (length ps) (length l)) e in
-      let room = leb-true (length ps) (length l) (r .1 .1 .0) in
-      let n = length-map ps value in
-      record {
-        numbers = λ i. r .0 i && r .1 .0 i;
-        inside = omega (arith, r .1 .1 .1);
-        part =
-            ap (λ (c : Bool). take k (cond c (sets l 0 (leading ps)) l)) (r .0) ∙ ap (λ (ns : List ℕ). take k (sets l 0 ns)) (leading-all ps (r .1 .0))
-            ∙ ap (take k) (sets-eq (numbersOf t) l 0 (omega arith))
-            ∙ take-at (numbersOf t) _ k (omega (arith, r .1 .1 .1));
-      }
-    where
-      by : (a b c : Bool) → cond a (cond (b && c) (Read.Count (length ps)) Read.Refused) Read.Refused ≡ Read.Count k → (a ≡ true) × ((b ≡ true) × ((c ≡ true) × (k ≡ length ps)))
-      by true true true e = (refl, (refl, (refl, cc)))
-      by true true false e = let z : _≡_ {A = ℕ} 0 1 = cc in absurd (omega arith)
-      by true false c e = let z : _≡_ {A = ℕ} 0 1 = cc in absurd (omega arith)
-      by false b c e = let z : _≡_ {A = ℕ} 0 1 = cc in absurd (omega arith)
-
-  -- no input has more numbers than there is room for
-  pub no-text : 387 ≤ length l → textOf (length l) t ≡ Read.Refused → isInputText t ≡ false
-  unfolding isInputText
-  no-text h e = by (leb (length t) 2048) (every isNumber ps) (leb (length ps) (length l)) refl e
-    where
-      many : leb (length ps) (length l) ≡ false → isInput (numbersOf t) ≡ false
-      many f = not-input (numbersOf t) (λ r. omega (arith, leb-false (length ps) (length l) f, length-map ps value, r .size, r .bits, r .gates))
-
-      by : (a b c : Bool) → leb (length ps) (length l) ≡ c → cond a (cond (b && c) (Read.Count (length ps)) Read.Refused) Read.Refused ≡ Read.Refused → ((a && b) && isInput (numbersOf t)) ≡ false
-      by true true true q e = let z : _≡_ {A = ℕ} 0 1 = cc in absurd (omega arith)
-      by true true false q e = many q
-      by true false c q e = refl
-      by false b c q e = refl
-
--- ---- the answer
+-- ---- the answer to a text
 module _ (t : List ℕ) where
-  pub input-text : {l : List ℕ} {k : ℕ} (b : Bool) → Whole t l k → isInput (numbersOf t) ≡ b → isInputText t ≡ b
-  unfolding isInputText
-  input-text b w e = λ i. w .numbers i && e i
-
   pub refused-text : isInputText t ≡ false → Input.Refused ≡ inputOf t
   refused-text e = ap (λ (c : Bool). cond c (Input.Given (circuitIn (numbersOf t))) Input.Refused) (sym e)
-
-  pub refused-store : (s : List ℕ) → isInputText t ≡ false → s ≡ stored t s
-  refused-store s e = ap (λ (c : Bool). cond c (sets s 0 (storeIn (numbersOf t))) s) (sym e)
 
   pub given-text : isInputText t ≡ true → Input.Given (circuitIn (numbersOf t)) ≡ inputOf t
   given-text e = ap (λ (c : Bool). cond c (Input.Given (circuitIn (numbersOf t))) Input.Refused) (sym e)
 
-  pub given-store : (s : List ℕ) → isInputText t ≡ true → sets s 0 (storeIn (numbersOf t)) ≡ stored t s
-  given-store s e = ap (λ (c : Bool). cond c (sets s 0 (storeIn (numbersOf t))) s) (sym e)
+  pub kept : (l : List ℕ) → isInputText t ≡ false → (l ≡ filled t l) × (l ≡ stored t l)
+  kept l e = (ap (λ (c : Bool). cond c (sets l 0 (numbersOf t)) l) (sym e), ap (λ (c : Bool). cond c (sets l 0 (storeIn (numbersOf t))) l) (sym e))
+
+  pub given-numbers : (l : List ℕ) → isInputText t ≡ true → sets l 0 (numbersOf t) ≡ filled t l
+  given-numbers l e = ap (λ (c : Bool). cond c (sets l 0 (numbersOf t)) l) (sym e)
+
+  pub given-store : (l : List ℕ) → isInputText t ≡ true → sets l 0 (storeIn (numbersOf t)) ≡ stored t l
+  given-store l e = ap (λ (c : Bool). cond c (sets l 0 (storeIn (numbersOf t))) l) (sym e)
+
+-- ---- what is known of a text that is one, and of others
+pub too-long : (t : List ℕ) → maxBytes < length t → isInputText t ≡ false
+unfolding isInputText
+too-long t h = ap (λ (c : Bool). (c && every isNumber (pieces (body t))) && isInput (numbersOf t)) (lt-leb (length t) maxBytes h)
+
+-- e bytes of the text t are its body, in whose pieces r was read
+pub judged : (t : List ℕ) {e : ℕ} {r : Input} → length t ≤ maxBytes → e ≡ bodyLength t → r ≡ inputIn (pieces (take e t)) → r ≡ inputOf t
+unfolding isInputText
+judged t h f g =
+    g ∙ ap (λ (e : ℕ). inputIn (pieces (take e t))) f
+    ∙ ap (λ (c : Bool). cond ((c && every isNumber (pieces (body t))) && isInput (numbersOf t)) (Input.Given (circuitIn (numbersOf t))) Input.Refused) (sym (le-leb (length t) maxBytes h))
+
+module _ (t : List ℕ) (yes : isInputText t ≡ true) where
+  tested : ((leb (length t) maxBytes && every isNumber (pieces (body t))) ≡ true) × (isInput (numbersOf t) ≡ true)
+  unfolding isInputText
+  tested = and-split (leb (length t) maxBytes && every isNumber (pieces (body t))) (isInput (numbersOf t)) yes
+
+  pub sound : Right (numbersOf t)
+  sound = right (numbersOf t) (tested .1)
+
+  pub all-numbers : every isNumber (pieces (body t)) ≡ true
+  all-numbers = and-split (leb (length t) maxBytes) _ (tested .0) .1
+
+  pub few-numbers : length (pieces (body t)) ≤ maxNumbers
+  few-numbers = let r = sound in omega (arith, length-map (pieces (body t)) value, r .size, r .bits, r .gates)
+
+-- the first k words of the room l after reading are the numbers
+pub first-words : (ns l : List ℕ) {k : ℕ} {m : List ℕ} → k ≡ length ns → length ns ≤ length l → m ≡ sets l 0 ns → (k ≤ length m) × (take k m ≡ ns)
+first-words ns l {k} e h f =
+    (omega (arith, ap length f, length-sets l 0 ns), ap (take k) (f ∙ sets-eq ns l 0 (omega arith)) ∙ take-at ns _ k (sym e))
 
 -- ---- the store's bytes, one by one
 -- i of m bytes are copied into l

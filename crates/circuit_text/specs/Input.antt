@@ -43,9 +43,6 @@ bytes ns m = allBelow m (λ (i : ℕ). leb (getD ns (2 + i) 0) 255)
 unfoldable pub isInput : List ℕ → Bool
 isInput ns = (leb (bitsIn ns) maxBits && leb (gatesIn ns) maxGates) && (eqb (length ns) (3 + bitsIn ns + 5 * gatesIn ns) && bytes ns (bitsIn ns))
 
-abbrev pub shapeOf : List ℕ → Input
-shapeOf ns = cond (isInput ns) (Input.Given (circuitIn ns)) Input.Refused
-
 -- ---- of a text
 abbrev pub numbersOf : List ℕ → List ℕ
 numbersOf t = map value (pieces (body t))
@@ -56,6 +53,9 @@ isInputText t = (leb (length t) maxBytes && every isNumber (pieces (body t))) &&
 abbrev pub inputOf : List ℕ → Input
 inputOf t = cond (isInputText t) (Input.Given (circuitIn (numbersOf t))) Input.Refused
 
--- the room for the store after reading
+-- the room for the numbers and for the store after reading: as it was, where the text is no input
+abbrev pub filled : List ℕ → List ℕ → List ℕ
+filled t l = cond (isInputText t) (sets l 0 (numbersOf t)) l
+
 abbrev pub stored : List ℕ → List ℕ → List ℕ
 stored t l = cond (isInputText t) (sets l 0 (storeIn (numbersOf t))) l

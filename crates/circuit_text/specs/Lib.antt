@@ -1,3 +1,4 @@
 pub mod Text
 pub mod Input
+pub mod Inner
 pub mod Claims

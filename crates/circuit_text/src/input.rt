@@ -1,18 +1,25 @@
 // The program's input: a circuit, in the numbers of a text.
-use super::text::Read;
+use super::text::body_length;
+use super::text::next_blank;
+use super::text::number_in;
 use super::text::read_numbers;
 ghost use mathlib.Core.Path.{_≡_};
-ghost use mathlib.Core.Bool.{true};
+ghost use mathlib.Core.Bool.{true, cond};
 ghost use Prim.Native.Nat.{_+_, _≤_};
 ghost use lib.ListN.{length, take, drop};
 ghost use lib.Seq.{sets};
-ghost use Rattle.circuit_text.specs.Text.{filled};
-ghost use Rattle.circuit_text.specs.Input.{maxBits, maxNumbers, bytes, shapeOf, inputOf, stored};
+ghost use Rattle.circuit_text.specs.Text.{maxBytes, pieces};
+ghost use Rattle.circuit_text.specs.Input.{maxBits, maxNumbers, bytes, inputOf, filled, stored};
+ghost use Rattle.circuit_text.specs.Inner.Reading.{noneSeen, seenWith, seenInput, inputIn};
 
-// The most numbers that an input has, and the most bits.
+// The most bytes that a text has, numbers that an input has, bits and gates.
+const MAX_BYTES: usize = 2048;
+
 pub const MAX_NUMBERS: usize = 387;
 
 pub const MAX_BITS: usize = 64;
+
+const MAX_GATES: usize = 64;
 
 // How many qubits, bits and gates a circuit has. In the numbers of its text the store begins at 2, and the gates' words at 3 + bits.
 pub struct Circuit {
@@ -26,52 +33,88 @@ pub enum Input {
     Given(Circuit),
 }
 
-// Whether the m numbers from the third on are bytes.
-fn are_bytes(numbers: &[u32], m: usize) -> bool
-    requires { ⌜ 2 + m ≤ length (now numbers) ⌝ }
-    ensures { λ r. ⌜ r ≡ bytes (now (numbers .entry)) m ⌝ }
-{
-    let mut i = 0;
-    while i < m {
-        if 255 < numbers[2 + i] {
-            return false;
-        }
-        i += 1;
-    }
-    true
+// What the first numbers of an input say, and whether those of its store are bytes.
+struct Seen {
+    count: usize,
+    qubits: u32,
+    bits: u32,
+    gates: u32,
+    bytes: bool,
 }
 
-// The circuit in a list of numbers.
-fn shape(numbers: &[u32]) -> Input
-    ensures { λ r. ⌜ r ≡ shapeOf (now (numbers .entry)) ⌝ }
+fn pick(test: bool, yes: u32, no: u32) -> u32
+    ensures { λ r. ⌜ r ≡ cond test yes no ⌝ }
 {
-    let n = numbers.len();
-    if n < 3 {
-        return Input::Refused;
+    if test {
+        return yes;
     }
-    let bits = numbers[1];
-    let m = bits as usize;
-    if 64 < m {
-        return Input::Refused;
+    no
+}
+
+impl Seen {
+    fn none() -> Seen
+        ensures { λ r. ⌜ r ≡ noneSeen ⌝ }
+    {
+        Seen {
+            count: 0,
+            qubits: 0,
+            bits: 0,
+            gates: 0,
+            bytes: true,
+        }
     }
-    if n < 3 + m {
-        return Input::Refused;
+
+    // With one more number.
+    fn with(self, v: u32) -> Seen
+        requires { ⌜ self .count ≤ maxBytes ⌝ }
+        ensures { λ r. ⌜ r ≡ seenWith self v ⌝ }
+    {
+        let i = self.count;
+        let end = 2 + self.bits as usize;
+        Seen {
+            count: i + 1,
+            qubits: pick(i == 0, v, self.qubits),
+            bits: pick(i == 1, v, self.bits),
+            gates: pick(i == end, v, self.gates),
+            bytes: self.bytes & ((i < 2) | ((end <= i) | (v <= 255))),
+        }
     }
-    let g = numbers[2 + m] as usize;
-    if 64 < g {
-        return Input::Refused;
+
+    // The circuit that all numbers say.
+    fn input(self) -> Input
+        ensures { λ r. ⌜ r ≡ seenInput self ⌝ }
+    {
+        let m = self.bits as usize;
+        let g = self.gates as usize;
+        let sized = (m <= MAX_BITS) & (g <= MAX_GATES);
+        if !(sized & ((self.count == 3 + m + 5 * g) & self.bytes)) {
+            return Input::Refused;
+        }
+        Input::Given(Circuit {
+            qubits: self.qubits,
+            bits: self.bits,
+            gates: g,
+        })
     }
-    if n != 3 + m + 5 * g {
-        return Input::Refused;
+}
+
+// The circuit in a text with no newline at its end. Nothing is written before the whole text is read.
+fn judge(text: &[u8]) -> Input
+    requires { ⌜ length (now text) ≤ maxBytes ⌝ }
+    ensures { λ r. ⌜ r ≡ inputIn (pieces (now (text .entry))) ⌝ }
+{
+    let mut at = 0;
+    let mut seen = Seen::none();
+    while at <= text.len() {
+        let e = next_blank(text, at);
+        let number = number_in(&text[at..e]);
+        if !number.ok {
+            return Input::Refused;
+        }
+        seen = seen.with(number.value);
+        at = e + 1;
     }
-    if !are_bytes(numbers, m) {
-        return Input::Refused;
-    }
-    Input::Given(Circuit {
-        qubits: numbers[0],
-        bits: bits,
-        gates: g,
-    })
+    seen.input()
 }
 
 // Copies the m bytes of the store.
@@ -93,17 +136,19 @@ fn read_circuit(text: &[u8], numbers: &mut [u32], store: &mut [u8]) -> Input
     ensures numbers { λ _. ⌜ now (numbers .exit) ≡ filled (now (text .entry)) (now (numbers .entry)) ⌝ }
     ensures store { λ _. ⌜ now (store .exit) ≡ stored (now (text .entry)) (now (store .entry)) ⌝ }
 {
-    let Read::Count(count) = read_numbers(text, numbers) else {
+    if MAX_BYTES < text.len() {
+        return Input::Refused;
+    }
+    let e = body_length(text);
+    let Input::Given(circuit) = judge(&text[..e]) else {
         return Input::Refused;
     };
-    let Input::Given(circuit) = shape(&numbers[..count]) else {
-        return Input::Refused;
-    };
+    let count = read_numbers(&text[..e], numbers);
     copy_store(&numbers[..count], circuit.bits as usize, store);
     Input::Given(circuit)
 }
 
-// Reads the circuit in a text; its numbers go to `numbers`, and the bytes of its store to `store`.
+// Reads the circuit in a text; its numbers go to `numbers`, and the bytes of its store to `store`. Where the text is refused, both are as they were.
 pub fn read_input(
     text: &[u8],
     numbers: &mut [u32; MAX_NUMBERS],

@@ -1,20 +1,18 @@
 // A text of decimal numbers, read into lent room.
 ghost use mathlib.Core.Path.{_≡_};
+ghost use mathlib.Core.Bool.{true};
+ghost use mathlib.Core.List.{map};
 ghost use Prim.Native.Nat.{_+_, _≤_};
 ghost use lib.ListN.{length, drop};
 ghost use lib.Seq.{sets};
-ghost use Rattle.circuit_text.specs.Text.{isBlank, isDigit, bodyLength, run, noNumber, numberOf, leading, pieces, readOf, textOf, filled};
+ghost use Rattle.algebra.specs.Lists.{every};
+ghost use Rattle.circuit_text.specs.Text.{maxBytes, isBlank, isDigit, bodyLength, pieces, value, isNumber};
+ghost use Rattle.circuit_text.specs.Inner.Reading.{run, noNumber, numberOf};
 
 // The number in a piece of text; `ok` is false, and the value 0, where there is none.
 pub struct Number {
     pub ok: bool,
     pub value: u32,
-}
-
-// How many numbers a text has.
-pub enum Read {
-    Refused,
-    Count(usize),
 }
 
 fn none() -> Number
@@ -38,7 +36,7 @@ fn is_blank(b: u8) -> bool
     (b == b' ') | (b == b'\n')
 }
 
-fn number_in(piece: &[u8]) -> Number
+pub fn number_in(piece: &[u8]) -> Number
     ensures { λ r. ⌜ r ≡ numberOf (now (piece .entry)) ⌝ }
 {
     if !((1 <= piece.len()) & (piece.len() <= 10)) {
@@ -64,7 +62,7 @@ fn number_in(piece: &[u8]) -> Number
 }
 
 // Where the first blank from `at` on stands, or the text's end.
-fn next_blank(text: &[u8], at: usize) -> usize
+pub fn next_blank(text: &[u8], at: usize) -> usize
     requires { ⌜ at ≤ length (now text) ⌝ }
     ensures { λ r. ⌜ r ≡ at + run (drop at (now (text .entry))) ⌝ }
 {
@@ -78,32 +76,8 @@ fn next_blank(text: &[u8], at: usize) -> usize
     i
 }
 
-// The numbers of a text with no newline at its end.
-fn read_pieces(text: &[u8], numbers: &mut [u32]) -> Read
-    requires { ⌜ length (now text) ≤ 2048 ⌝ }
-    ensures count { λ r. ⌜ r ≡ readOf (length (now (numbers .entry))) (pieces (now (text .entry))) ⌝ }
-    ensures room { λ _. ⌜ now (numbers .exit) ≡ sets (now (numbers .entry)) 0 (leading (pieces (now (text .entry)))) ⌝ }
-{
-    let mut at = 0;
-    let mut count = 0;
-    while at <= text.len() {
-        let e = next_blank(text, at);
-        let number = number_in(&text[at..e]);
-        if !number.ok {
-            return Read::Refused;
-        }
-        if numbers.len() <= count {
-            return Read::Refused;
-        }
-        numbers[count] = number.value;
-        count += 1;
-        at = e + 1;
-    }
-    Read::Count(count)
-}
-
 // The length of a text without the newline at its end.
-fn body_length(text: &[u8]) -> usize
+pub fn body_length(text: &[u8]) -> usize
     ensures { λ r. ⌜ r ≡ bodyLength (now (text .entry)) ⌝ }
 {
     let n = text.len();
@@ -116,14 +90,20 @@ fn body_length(text: &[u8]) -> usize
     n
 }
 
-// Reads the numbers of a text of at most 2,048 bytes, as many as there is room for.
-pub fn read_numbers(text: &[u8], numbers: &mut [u32]) -> Read
-    ensures count { λ r. ⌜ r ≡ textOf (length (now (numbers .entry))) (now (text .entry)) ⌝ }
-    ensures room { λ _. ⌜ now (numbers .exit) ≡ filled (now (text .entry)) (now (numbers .entry)) ⌝ }
+// Reads the numbers of a text with no newline at its end into room for all of them, and says how many there are.
+pub fn read_numbers(text: &[u8], numbers: &mut [u32]) -> usize
+    requires { ⌜ (length (now text) ≤ maxBytes) × ((every isNumber (pieces (now text)) ≡ true) × (length (pieces (now text)) ≤ length (now numbers))) ⌝ }
+    ensures count { λ r. ⌜ r ≡ length (pieces (now (text .entry))) ⌝ }
+    ensures room { λ _. ⌜ now (numbers .exit) ≡ sets (now (numbers .entry)) 0 (map value (pieces (now (text .entry)))) ⌝ }
 {
-    if 2048 < text.len() {
-        return Read::Refused;
+    let mut at = 0;
+    let mut count = 0;
+    while at <= text.len() {
+        let e = next_blank(text, at);
+        let number = number_in(&text[at..e]);
+        numbers[count] = number.value;
+        count += 1;
+        at = e + 1;
     }
-    let e = body_length(text);
-    read_pieces(&text[..e], numbers)
+    count
 }

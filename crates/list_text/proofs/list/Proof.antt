@@ -12,8 +12,8 @@ use Rattle.circuit_text.specs.declared.input.Circuit.{Circuit}
 use Rattle.circuit_text.specs.declared.input.Input.{Input}
 use Rattle.listing.specs.Page.{page, write}
 use Rattle.circuit_text.specs.Input.{numbersOf, circuitIn, storeIn, wordsIn, isInputText, inputOf}
-use Rattle.circuit_text.proofs.Shapes.{given-true, given-is, refused-false}
-use Rattle.list_text.proofs.Inputs.{stored-long, filled-long, sound, store-is, words-are}
+use Rattle.circuit_text.proofs.Shapes.{given-true, given-is, refused-false, sound}
+use Rattle.list_text.proofs.Inputs.{stored-long, filled-long, store-is, words-are}
 use Rattle.list_text.proofs.Answers.{no-answer, no-result, no-work, an-answer, a-result, a-work}
 use Rattle.list_text.proofs.list.Statement.{statement}
 use Rattle.list_text.proofs.list.Tie as tie

@@ -1,135 +1,161 @@
 -- `input::read_circuit` meets its contract.
 use Prim.Native.Nat.{ℕ, _+_, _≤_}
-use mathlib.Core.Path.{_≡_, sym, ap, _∙_, subst₂}
-use mathlib.Core.Bool.{true, false}
-use mathlib.Core.List.{List}
+use mathlib.Core.Path.{_≡_, sym, ap, _∙_, subst, subst₂}
+use mathlib.Core.Bool.{true}
+use mathlib.Core.List.{List, map}
 use native.Mathlib.Omega.{arith}
-use lib.ListN.{length, take, drop}
+use lib.ListN.{length, take, drop, length-map}
 use lib.Seq.{sets, length-take-le}
-use borrow.Author.Needs.{needs}
+use Rattle.algebra.specs.Lists.{every}
 use Rattle.circuit_text.specs.declared.input.Circuit.{Circuit}
 use Rattle.circuit_text.specs.declared.input.Input.{Input}
-use Rattle.circuit_text.specs.Input.{bytes, isInput, circuitIn, shapeOf, numbersOf}
-use Rattle.circuit_text.proofs.Shapes.{Whole, whole, no-text, right, given-true, given-is, refused-false, input-text, refused-text, refused-store, given-text, given-store}
+use Rattle.circuit_text.specs.Text.{body, pieces, value, isNumber}
+use Rattle.circuit_text.specs.Input.{bytes, circuitIn, numbersOf, isInputText, inputOf}
+use Rattle.circuit_text.proofs.Pieces.{body-inside}
+use Rattle.circuit_text.proofs.Shapes.{given-true, given-is, refused-false, refused-text, given-text, kept, given-numbers, given-store, too-long, judged, sound, all-numbers, few-numbers, first-words}
+use borrow.Author.Needs.{needs}
 use Rattle.circuit_text.proofs.input.read_circuit.Statement.{statement}
 use Rattle.circuit_text.proofs.input.read_circuit.Tie as tie
 
+module _ (c : tie.After-body-length) where
+  abbrev text : List ℕ
+  text = c .before .before .before .before .before .args .text .now
+
+  -- the room for the numbers, and for the store
+  abbrev room : List ℕ
+  room = c .before .before .before .before .before .args .numbers .now
+
+  abbrev bits : List ℕ
+  bits = c .before .before .before .before .before .args .store .now
+
+  inside : c .body-length .result ≤ length text
+  inside = omega (arith, c .body-length .ensures, body-inside text)
+
+  part-long : length (take (c .body-length .result) text) ≡ c .body-length .result
+  part-long = length-take-le (c .body-length .result) text inside
+
+judge-is : (c : tie.After-judge) → c .judge .result ≡ inputOf (text (c .before .before))
+judge-is c = let k = c .before .before in judged (text k) (k .before .if1 .left) (k .body-length .ensures) (c .judge .ensures)
+
 module _ (c : tie.After-known-told) where
-  abbrev count : ℕ
-  count = c .before .count .given .0 .0
-
-  -- the room after reading
-  abbrev read : List ℕ
-  read = c .before .before .before .before .before .read-numbers .last .1 .0
-
-  read-whole : Whole (c .before .before .before .before .before .before .before .before .before .before .args .text .now) (c .before .before .before .before .before .before .before .before .before .before .args .numbers .now) count
-  read-whole = whole (c .before .before .before .before .before .before .before .before .before .before .args .text .now) (c .before .before .before .before .before .before .before .before .before .before .args .numbers .now) count (sym (c .before .before .before .before .before .read-numbers .ensures .0) ∙ c .before .count .given .1)
-
-  part-is : take count read ≡ numbersOf (c .before .before .before .before .before .before .before .before .before .before .args .text .now)
-  part-is = ap (take count) (c .before .before .before .before .before .read-numbers .ensures .1) ∙ read-whole .part
-
-shape-is : (c : tie.After-shape) → c .shape .result ≡ shapeOf (numbersOf (c .before .before .before .before .before .before .before .before .before .before .before .before .args .text .now))
-shape-is c = c .shape .ensures ∙ ap shapeOf (part-is (c .before .before))
-
-module _ (c : tie.After-known-told2) where
-  abbrev numbers : List ℕ
-  numbers = numbersOf (c .before .before .before .before .before .before .before .before .before .before .before .before .before .before .before .args .text .now)
+  abbrev begun : tie.After-body-length
+  begun = c .before .before .before .before .before
 
   abbrev circuit : Circuit
   circuit = c .before .circuit .given .0 .0
 
-  shaped : shapeOf numbers ≡ Input.Given circuit
-  shaped = sym (shape-is (c .before .before .before)) ∙ c .before .circuit .given .1
+  abbrev ns : List ℕ
+  ns = numbersOf (text begun)
 
-  accepted : isInput numbers ≡ true
-  accepted = given-true (isInput numbers) (circuitIn numbers) circuit shaped
+  told : inputOf (text begun) ≡ Input.Given circuit
+  told = sym (judge-is (c .before .before .before)) ∙ c .before .circuit .given .1
 
-  circuit-is : circuit ≡ circuitIn numbers
-  circuit-is = given-is (isInput numbers) (circuitIn numbers) circuit shaped
+  yes : isInputText (text begun) ≡ true
+  yes = given-true (isInputText (text begun)) (circuitIn ns) circuit told
 
-read-numbers-requires : tie.Need-read-numbers-requires
-read-numbers-requires c κs = search needs
+  circuit-is : circuit ≡ circuitIn ns
+  circuit-is = given-is (isInputText (text begun)) (circuitIn ns) circuit told
 
-enum-known-count : tie.Need-enum-known-count
-enum-known-count c = search needs
+  body-is : take (begun .body-length .result) (text begun) ≡ body (text begun)
+  body-is = ap (λ (e : ℕ). take e (text begun)) (begun .body-length .ensures)
 
-enum-told : tie.Need-enum-told
-enum-told c = search needs
+module _ (c : tie.After-read-numbers) where
+  abbrev known : tie.After-known-told
+  known = c .before .before .before
 
-same-length : tie.Need-same-length
-same-length c = search needs
+  abbrev read : List ℕ
+  read = c .read-numbers .last .1 .0
+
+  read-is : read ≡ sets (room (begun known)) 0 (ns known)
+  read-is = c .read-numbers .ensures .1 ∙ ap (λ (t : List ℕ). sets (room (begun known)) 0 (map value (pieces t))) (body-is known)
+
+  words : (c .read-numbers .result ≤ length read) × (take (c .read-numbers .result) read ≡ ns known)
+  words =
+      let t = text (begun known) in
+      let n = length-map (pieces (body t)) value in
+      let few = few-numbers t (yes known) in
+      let long = begun known .before .before .before .before .before .pre .0 in
+      first-words (ns known) (room (begun known)) (c .read-numbers .ensures .0 ∙ ap (λ (t : List ℕ). length (pieces t)) (body-is known) ∙ sym n) (omega arith) read-is
 
 returns : tie.Need-returns
 returns c =
-    let r = c .before .before .before .before in
-    let s = c .before .before .before .before .before .before .before .before .before in
-    let t = s .args .text .now in
-    let no = no-text t (s .args .numbers .now) (s .pre .0) (sym (r .read-numbers .ensures .0) ∙ c .enum-told .given .1) in
-    (refused-text t no, (r .read-numbers .ensures .1, refused-store t (s .args .store .now) no))
+    let a = c .before .before .before .before .args in
+    let no = too-long (a .text .now) (c .if1 .taken) in
+    (refused-text (a .text .now) no, (kept (a .text .now) (a .numbers .now) no .0, kept (a .text .now) (a .store .now) no .1))
 
-slice-reshare-prefix-shape : tie.Need-slice-reshare-prefix-shape
-slice-reshare-prefix-shape c = let w = read-whole c in omega arith
+body-length-requires : tie.Need-body-length-requires
+body-length-requires c κs = search needs
 
-slice-aggregate-shape : tie.Need-slice-aggregate-shape
-slice-aggregate-shape c = sym (length-take-le (count (c .before)) (read (c .before)) (let w = read-whole (c .before) in omega arith))
+slice-aggregate-judge : tie.Need-slice-aggregate-judge
+slice-aggregate-judge c = sym (part-long (c .before))
 
-shape-requires : tie.Need-shape-requires
-shape-requires c κs = search needs
+judge-requires : tie.Need-judge-requires
+judge-requires c κs = let k = c .before in omega (arith, part-long k, inside k, k .before .if1 .left)
 
 enum-known-circuit : tie.Need-enum-known-circuit
 enum-known-circuit c = search needs
 
-enum-told-2 : tie.Need-enum-told-2
-enum-told-2 c = search needs
-
-same-length-2 : tie.Need-same-length-2
-same-length-2 c = search needs
+enum-told : tie.Need-enum-told
+enum-told c = search needs
 
 returns-2 : tie.Need-returns-2
 returns-2 c =
-    let h = c .before .before in
-    let k = h .before .before in
-    let s = k .before .before .before .before .before .before .before .before .before .before in
-    let t = s .args .text .now in
-    let no = input-text t false (read-whole k) (refused-false (isInput (numbersOf t)) (circuitIn (numbersOf t)) (sym (shape-is h) ∙ c .enum-told2 .given .1)) in
-    (refused-text t no, (k .before .before .before .before .before .read-numbers .ensures .1, refused-store t (s .args .store .now) no))
+    let j = c .before .before in
+    let k = j .before .before in
+    let t = text k in
+    let no = refused-false (isInputText t) (circuitIn (numbersOf t)) (sym (judge-is j) ∙ c .enum-told .given .1) in
+    (refused-text t no, (kept t (room k) no .0, kept t (bits k) no .1))
+
+slice-aggregate-read-numbers : tie.Need-slice-aggregate-read-numbers
+slice-aggregate-read-numbers c = sym (part-long (begun (c .before)))
+
+read-numbers-requires : tie.Need-read-numbers-requires
+read-numbers-requires c κs =
+    let k = c .before .before in
+    let b = begun k in
+    let t = text b in
+    let e = sym (body-is k) in
+    let q = few-numbers t (yes k) in
+    let long = b .before .before .before .before .before .pre .0 in (
+      omega (arith, part-long b, inside b, b .before .if1 .left),
+      (ap (λ (t : List ℕ). every isNumber (pieces t)) (body-is k) ∙ all-numbers t (yes k), subst (λ (t : List ℕ). length (pieces t) ≤ length (room b)) e (omega arith)),
+    )
 
 slice-reshare-prefix-copy-store : tie.Need-slice-reshare-prefix-copy-store
-slice-reshare-prefix-copy-store c = let w = read-whole (c .before .before .before .before .before) in omega arith
+slice-reshare-prefix-copy-store c = words (c .before .before) .0
 
 slice-aggregate-copy-store : tie.Need-slice-aggregate-copy-store
-slice-aggregate-copy-store c = let k = c .before .before .before .before .before .before in sym (length-take-le (count k) (read k) (let w = read-whole k in omega arith))
+slice-aggregate-copy-store c = let r = c .before .before .before in sym (length-take-le (r .read-numbers .result) (read r) (words r .0))
 
 cast-copy-store : tie.Need-cast-copy-store
 cast-copy-store c = search needs
 
 copy-store-requires : tie.Need-copy-store-requires
 copy-store-requires c κs =
-    let g = c .before .before .before in
-    let k = g .before .before .before .before .before in
-    let s = k .before .before .before .before .before .before .before .before .before .before in
-    let st = s .args .store .now in
-    let r = right (numbers g) (accepted g) in
-    subst₂ (λ (h : Circuit) (ns : List ℕ). ((2 + h .bits ≤ length ns) × (h .bits ≤ length st)) × (bytes ns (h .bits) ≡ true)) (sym (circuit-is g)) (sym (part-is k))
-    ((omega (arith, r .size), omega (arith, r .bits, s .pre .1)), r .store)
+    let r = c .before .before .before .before .before in
+    let k = known r in
+    let b = begun k in
+    let q = sound (text b) (yes k) in
+    let long = b .before .before .before .before .before .pre .1 in
+    subst₂ (λ (h : Circuit) (ns : List ℕ). ((2 + h .bits ≤ length ns) × (h .bits ≤ length (bits b))) × (bytes ns (h .bits) ≡ true)) (sym (circuit-is k)) (sym (words r .1))
+    ((omega (arith, q .size), omega (arith, q .bits)), q .store)
 
-same-length-3 : tie.Need-same-length-3
-same-length-3 c = search needs
+same-length : tie.Need-same-length
+same-length c = search needs
 
-same-length-4 : tie.Need-same-length-4
-same-length-4 c = search needs
+same-length-2 : tie.Need-same-length-2
+same-length-2 c = search needs
 
 returns-3 : tie.Need-returns-3
 returns-3 c =
-    let g = c .before .before .before .before .before .before in
-    let k = g .before .before .before .before .before in
-    let s = k .before .before .before .before .before .before .before .before .before .before in
-    let t = s .args .text .now in
-    let yes = input-text t true (read-whole k) (accepted g) in (
-      ap Input.Given (circuit-is g) ∙ given-text t yes,
+    let s = c .before .before in
+    let r = s .before .before .before .before .before .before in
+    let k = known r in
+    let t = text (begun k) in (
+      ap Input.Given (circuit-is k) ∙ given-text t (yes k),
       (
-        k .before .before .before .before .before .read-numbers .ensures .1,
-        c .before .before .copy-store .ensures ∙ (λ i. sets (s .args .store .now) 0 (take (circuit-is g i .bits) (drop 2 (part-is k i)))) ∙ given-store t (s .args .store .now) yes,
+        read-is r ∙ given-numbers t (room (begun k)) (yes k),
+        s .copy-store .ensures ∙ (λ i. sets (bits (begun k)) 0 (take (circuit-is k i .bits) (drop 2 (words r .1 i)))) ∙ given-store t (bits (begun k)) (yes k),
       ),
     )
 
@@ -137,22 +163,19 @@ pub read-circuit-spec : {M : Type 1} → statement M
 read-circuit-spec =
     tie.close
     (tie.spec
-    read-numbers-requires
-    enum-known-count
-    enum-told
-    same-length
     returns
-    slice-reshare-prefix-shape
-    slice-aggregate-shape
-    shape-requires
+    body-length-requires
+    slice-aggregate-judge
+    judge-requires
     enum-known-circuit
-    enum-told-2
-    same-length-2
+    enum-told
     returns-2
+    slice-aggregate-read-numbers
+    read-numbers-requires
     slice-reshare-prefix-copy-store
     slice-aggregate-copy-store
     cast-copy-store
     copy-store-requires
-    same-length-3
-    same-length-4
+    same-length
+    same-length-2
     returns-3)

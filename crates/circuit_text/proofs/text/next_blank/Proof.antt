@@ -4,7 +4,7 @@ use mathlib.Core.Path.{_≡_, refl, sym, _∙_}
 use native.Mathlib.Omega.{arith}
 use lib.ListN.{length, drop}
 use borrow.Author.Needs.{needs}
-use Rattle.circuit_text.specs.Text.{run}
+use Rattle.circuit_text.specs.Inner.Reading.{run}
 use Rattle.circuit_text.proofs.Pieces.{run-end, run-here, run-more}
 use Rattle.circuit_text.proofs.text.next_blank.Statement.{statement}
 use Rattle.circuit_text.proofs.text.next_blank.Tie as tie
