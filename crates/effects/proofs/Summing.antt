@@ -12,11 +12,12 @@ use Rattle.exact.specs.Exact.{Exact, exact, inRange, wellFormed}
 use Rattle.exact.proofs.Exact.{add-lowest}
 use Rattle.scalar.specs.declared.Scalar.{Scalar}
 use Rattle.scalar.specs.declared.Answer.{Answer}
-use Rattle.scalar.specs.declared.Verdict.the-variants.{TooLarge, Malformed}
+use Rattle.verdict.specs.Verdict.{accepted as isAccepted}
+use Rattle.verdict.specs.declared.Verdict.the-variants.{TooLarge, Malformed}
 use Rattle.scalar.specs.Calls.{value, scalarOf, accepted, refusedWith, fitting, addAnswer}
 use Rattle.channel.specs.Layout.{side}
 use Rattle.effects.specs.Effects.{termPlace, partialsFit}
-use Rattle.effects.specs.Readable.{isAccepted, Dim}
+use Rattle.effects.specs.Readable.{Dim}
 
 -- ---- the places that are summed
 square : (d : ℕ) → d ≤ 16 → d * d ≤ 256

@@ -1,19 +1,12 @@
 -- What the effects' inner calls know of the records that they read.
 use mathlib.Core.Path.{_≡_}
-use mathlib.Core.Bool.{Bool, true, false}
+use mathlib.Core.Bool.{true}
 use mathlib.Core.List.{List}
 use Prim.Native.Nat.{ℕ, _+_, _*_, _<_, _≤_}
 use lib.ListN.{length}
 use lib.IntN.{ℤ, pos, natAbs}
-use Rattle.scalar.specs.declared.Verdict.{Verdict}
-use Rattle.scalar.specs.declared.Verdict.the-variants.{Accepted, TooLarge, Malformed}
 use Rattle.cells.specs.Cells.{wellFormedAt}
 use Rattle.channel.specs.Layout.{headerSize, recordSize, recordAt, entryPlace, side, word}
-
-abbrev pub isAccepted : Verdict → Bool
-isAccepted Accepted = true
-isAccepted TooLarge = false
-isAccepted Malformed = false
 
 -- a dimension
 pub record Dim (d : ℕ) : Type 0 where

@@ -8,9 +8,9 @@ use channel::layout::record_size;
 use channel::well_formed::judge;
 use scalar::Answer;
 use scalar::Scalar;
-use scalar::Verdict;
 use scalar::ZERO;
 use scalar::refused;
+use verdict::Verdict;
 ghost use mathlib.Core.Path.{_≡_};
 ghost use mathlib.Core.Bool.{true, cond};
 ghost use Prim.Native.Nat.{_+_, _*_, _<_, _≤_};
@@ -18,11 +18,11 @@ ghost use mathlib.Core.List.{[], _∷_};
 ghost use lib.ListN.{length};
 ghost use lib.Seq.{sets};
 ghost use Rattle.scalar.specs.Calls.{accepted, refusedWith};
-ghost use Rattle.scalar.specs.declared.Verdict.the-variants.{TooLarge};
+ghost use Rattle.verdict.specs.declared.Verdict.the-variants.{TooLarge};
 ghost use Rattle.cells.specs.Cells.{fill};
 ghost use Rattle.channel.specs.Layout.{headerSize, blockSize, recordSize, word};
 ghost use Rattle.effects.specs.Effects.{outcomeNumber, termPlace, term, effectAt, partialsFit, recordFits, sumsFit, relink, effectHeader, effectRecord, withRecords, outcomeOf, resultOf};
-ghost use Rattle.effects.specs.Readable.{isAccepted, Dim, Readable, Records, Linked};
+ghost use Rattle.effects.specs.Readable.{Dim, Readable, Records, Linked};
 
 // Document 01's numbers: Written is 0, ShortBuffer 8, TooLarge 9, Malformed 10.
 pub enum Outcome {
@@ -42,16 +42,6 @@ impl Outcome {
             Outcome::TooLarge => 9,
             Outcome::Malformed => 10,
         }
-    }
-}
-
-fn is_accepted(v: Verdict) -> bool
-    ensures { λ r. ⌜ r ≡ isAccepted v ⌝ }
-{
-    match v {
-        Verdict::Accepted => true,
-        Verdict::TooLarge => false,
-        Verdict::Malformed => false,
     }
 }
 
@@ -78,7 +68,7 @@ fn sum_entry(s: &[i64], at: usize, d: usize, i: usize) -> Answer
         let x = read_entry(s, at, k);
         let a = acc.add(x);
         let v = a.verdict;
-        if !is_accepted(v) {
+        if !v.is_accepted() {
             return refused(Verdict::TooLarge);
         }
         acc = a.value;
@@ -100,7 +90,7 @@ fn record_fits(s: &[i64], at: usize, d: usize) -> bool
     while i < n {
         let a = sum_entry(s, at, d, i);
         let v = a.verdict;
-        if !is_accepted(v) {
+        if !v.is_accepted() {
             return false;
         }
         i += 1;

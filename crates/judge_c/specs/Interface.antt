@@ -10,9 +10,9 @@ use Rattle.exact.specs.Exact.{Exact, maxExponent}
 use Rattle.exact.specs.Inner.{numberOf}
 use Rattle.scalar.specs.declared.Scalar.{Scalar}
 use Rattle.scalar.specs.declared.Answer.{Answer}
-use Rattle.scalar.specs.declared.Verdict.{Verdict}
-use Rattle.scalar.specs.declared.Verdict.the-variants.{Accepted, TooLarge, Malformed}
-use Rattle.scalar.specs.Calls.{value, verdictNumber}
+use Rattle.verdict.specs.declared.Verdict.{Verdict}
+use Rattle.verdict.specs.Verdict.{verdictNumber, accepted}
+use Rattle.scalar.specs.Calls.{value}
 use Rattle.cells.specs.Cells.{cellWords}
 use Rattle.circuit.specs.declared.limits.Limits.{Limits}
 use Rattle.channel.specs.declared.compare.Found.{Found}
@@ -51,11 +51,13 @@ abbrev pub twoScalars : Scalar → Scalar → List ℤ
 twoScalars x y = cellWords (value x) ++ cellWords (value y)
 
 -- ---- the phase test
+abbrev pub foundNumber : Phase → ℕ
+foundNumber Equivalent = 103
+foundNumber Different = 104
+
+-- the refusal's number, or one above all refusals
 abbrev pub phaseNumber : Verdict → Phase → ℕ
-phaseNumber Accepted Equivalent = 103
-phaseNumber Accepted Different = 104
-phaseNumber TooLarge p = verdictNumber TooLarge
-phaseNumber Malformed p = verdictNumber Malformed
+phaseNumber v p = cond (accepted v) (foundNumber p) (verdictNumber v)
 
 -- ---- scalars
 -- a word that is no exponent stands for the least number that is none

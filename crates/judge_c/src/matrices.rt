@@ -2,23 +2,28 @@
 use matrix::Phase;
 use matrix::PhaseAnswer;
 use matrix::global_phase::equivalent_up_to_global_phase;
-use scalar::Verdict;
 ghost use mathlib.Core.Path.{_≡_};
 ghost use Rattle.matrix.specs.Phase.{phaseAnswer};
-ghost use Rattle.judge_c.specs.Interface.{phaseNumber};
+ghost use Rattle.judge_c.specs.Interface.{foundNumber, phaseNumber};
+
+fn found_number(p: Phase) -> u32
+    ensures { λ r. ⌜ r ≡ foundNumber p ⌝ }
+{
+    match p {
+        Phase::Equivalent => 103,
+        Phase::Different => 104,
+    }
+}
 
 fn phase_number(a: PhaseAnswer) -> u32
     ensures { λ r. ⌜ r ≡ phaseNumber (a .verdict) (a .phase) ⌝ }
 {
     let v = a.verdict;
     let p = a.phase;
-    match v {
-        Verdict::Accepted => match p {
-            Phase::Equivalent => 103,
-            Phase::Different => 104,
-        },
-        Verdict::TooLarge => v.number(),
-        Verdict::Malformed => v.number(),
+    if v.is_accepted() {
+        found_number(p)
+    } else {
+        v.number()
     }
 }
 

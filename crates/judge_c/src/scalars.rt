@@ -4,7 +4,8 @@ use scalar::MAX_EXPONENT;
 use scalar::Scalar;
 ghost use mathlib.Core.Path.{_≡_};
 ghost use Rattle.exact.specs.Exact.{exact, imaginary, invSqrtTwo};
-ghost use Rattle.scalar.specs.Calls.{value, scalarOf, verdictNumber, accepted, integerAnswer, omegaAnswer, negAnswer, conjAnswer, halfAnswer, addAnswer, mulAnswer};
+ghost use Rattle.verdict.specs.Verdict.{verdictNumber};
+ghost use Rattle.scalar.specs.Calls.{value, scalarOf, accepted, integerAnswer, omegaAnswer, negAnswer, conjAnswer, halfAnswer, addAnswer, mulAnswer};
 ghost use Rattle.cells.specs.Cells.{cellWords};
 ghost use Rattle.judge_c.specs.Interface.{exponentOf, operand, answerWords};
 

@@ -20,7 +20,7 @@ use Rattle.algebra.proofs.Domain.{ℤ√2i-domain, zero-fraction, cancel-fracti
 use Rattle.exact.specs.Exact.{Exact, exact, Number, numbers, root2, conj, lowest, equal, isZero}
 use Rattle.exact.proofs.Equal.{equal-true, equal-of}
 use Rattle.exact.proofs.Exact.{exacts, exactHalving, conj-by, conj-conj, is-lowest, mul-lowest}
-use Rattle.scalar.specs.declared.Verdict.the-variants.{TooLarge, Malformed}
+use Rattle.verdict.specs.declared.Verdict.the-variants.{TooLarge, Malformed}
 use Rattle.exact.proofs.IsZero.{zero-is}
 use Rattle.matrix.specs.declared.Phase.the-variants.{Equivalent, Different}
 use Rattle.matrix.specs.declared.PhaseAnswer.{PhaseAnswer}

@@ -11,7 +11,7 @@ use lib.IntN.{ℤ}
 use borrow.Author.Tests.{eqb-true}
 use Rattle.algebra.specs.Lists.{allBelow, some, All}
 use Rattle.algebra.proofs.Tests.{and-split}
-use Rattle.scalar.specs.declared.Verdict.the-variants.{TooLarge, Malformed}
+use Rattle.verdict.specs.declared.Verdict.the-variants.{TooLarge, Malformed}
 use Rattle.cells.specs.Cells.{wellFormedAt}
 use Rattle.matrix.specs.declared.PhaseAnswer.{PhaseAnswer}
 use Rattle.matrix.specs.Phase.{isDim, entryOf, wellFormedMatrix, narrowMatrix, inPhase, answered, refusedPhase, phaseAnswer}

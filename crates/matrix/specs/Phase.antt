@@ -9,8 +9,8 @@ use lib.ListN.{length}
 use lib.IntN.{ℤ}
 use Rattle.algebra.specs.Lists.{allBelow, some}
 use Rattle.exact.specs.Exact.{Exact, exact, conj, narrow, equal, isZero}
-use Rattle.scalar.specs.declared.Verdict.{Verdict}
-use Rattle.scalar.specs.declared.Verdict.the-variants.{Accepted, TooLarge, Malformed}
+use Rattle.verdict.specs.declared.Verdict.{Verdict}
+use Rattle.verdict.specs.declared.Verdict.the-variants.{Accepted, TooLarge, Malformed}
 use Rattle.cells.specs.Cells.{cellSize, cellAt, wellFormedAt}
 use Rattle.matrix.specs.declared.Phase.the-variants.{Equivalent, Different}
 use Rattle.matrix.specs.declared.PhaseAnswer.{PhaseAnswer}

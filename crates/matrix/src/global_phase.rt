@@ -6,7 +6,7 @@ use cells::read_cell;
 use cells::well_formed_at;
 use cells::zero_at;
 use scalar::Scalar;
-use scalar::Verdict;
+use verdict::Verdict;
 ghost use mathlib.Core.Path.{_≡_};
 ghost use mathlib.Core.Bool.{true};
 ghost use Prim.Native.Nat.{ℕ, _*_, _<_, _≤_};

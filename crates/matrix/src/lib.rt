@@ -1,5 +1,5 @@
 // Matrices as words.
-use scalar::Verdict;
+use verdict::Verdict;
 
 pub mod global_phase;
 pub mod identity;

@@ -3,7 +3,7 @@ use mathlib.Core.Path.{_≡_, ap}
 use mathlib.Core.Bool.{Bool, true, false, cond, _&&_}
 use Rattle.exact.specs.Exact.{Exact, exact, inRange, wellFormed, narrow}
 use Rattle.scalar.specs.declared.Answer.{Answer}
-use Rattle.scalar.specs.declared.Verdict.the-variants.{TooLarge, Malformed}
+use Rattle.verdict.specs.declared.Verdict.the-variants.{TooLarge, Malformed}
 use Rattle.scalar.specs.Calls.{accepted, refusedWith, fitting, asked, askedBoth, mulAnswer}
 
 module _ (x : Exact) (a : Answer) where

@@ -7,8 +7,8 @@ use Rattle.exact.specs.Exact.{Exact, exact, conj, half, omega, inRange, wellFor
 use Rattle.exact.specs.Inner.{numberOf, listOf}
 use Rattle.scalar.specs.declared.Scalar.{Scalar}
 use Rattle.scalar.specs.declared.Answer.{Answer}
-use Rattle.scalar.specs.declared.Verdict.{Verdict}
-use Rattle.scalar.specs.declared.Verdict.the-variants.{Accepted, TooLarge, Malformed}
+use Rattle.verdict.specs.declared.Verdict.{Verdict}
+use Rattle.verdict.specs.declared.Verdict.the-variants.{Accepted, TooLarge, Malformed}
 
 -- the struct's number, and a number's struct
 abbrev pub value : Scalar → Exact
@@ -16,12 +16,6 @@ value s = frac (numberOf (s .n)) (s .e)
 
 abbrev pub scalarOf : Exact → Scalar
 scalarOf x = record { n = listOf (x .num); e = x .exp }
-
--- document 01's number of a verdict
-abbrev pub verdictNumber : Verdict → ℕ
-verdictNumber Accepted = 0
-verdictNumber TooLarge = 9
-verdictNumber Malformed = 10
 
 abbrev pub acceptedAs : Scalar → Answer
 acceptedAs s = record { value = s; verdict = Accepted }

@@ -5,11 +5,12 @@ use mathlib.Core.List.{List, [], _∷_}
 use Prim.Native.Nat.{ℕ, _+_, _-_, _^_}
 use lib.Dec.{eqb}
 use lib.IntN.{pos}
+use Rattle.verdict.specs.Verdict.{verdictNumber}
 use Rattle.algebra.specs.Dyadic.{frac}
 use Rattle.algebra.specs.Lists.{every}
 use Rattle.exact.specs.Exact.{number, Exact, exact, equal, imaginary, invSqrtTwo, omega}
 use Rattle.scalar.specs.declared.Answer.{Answer}
-use Rattle.scalar.specs.Calls.{value, verdictNumber, integerAnswer, omegaAnswer, negAnswer, conjAnswer, halfAnswer, addAnswer, mulAnswer}
+use Rattle.scalar.specs.Calls.{value, integerAnswer, omegaAnswer, negAnswer, conjAnswer, halfAnswer, addAnswer, mulAnswer}
 
 -- an answer, document 01's number for its verdict, and the number that it hands back
 pub record Row : Type 0 where

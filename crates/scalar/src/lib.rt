@@ -3,7 +3,7 @@ ghost use mathlib.Core.Path.{_≡_};
 ghost use mathlib.Core.Bool.{true};
 ghost use Prim.Native.Nat.{_≤_};
 ghost use Rattle.exact.specs.Exact.{exact, imaginary, invSqrtTwo, wellFormed};
-ghost use Rattle.scalar.specs.Calls.{value, verdictNumber, acceptedAs, accepted, refusedWith, fitting, fittingScalar, integerAnswer, omegaAnswer, negAnswer, conjAnswer, halfAnswer, addAnswer, mulAnswer};
+ghost use Rattle.scalar.specs.Calls.{value, acceptedAs, accepted, refusedWith, fitting, fittingScalar, integerAnswer, omegaAnswer, negAnswer, conjAnswer, halfAnswer, addAnswer, mulAnswer};
 
 pub mod numerators;
 pub mod products;
@@ -16,6 +16,7 @@ use numerators::aligned_sum;
 use numerators::reduce;
 use ranges::are_narrow;
 use ranges::are_well_formed;
+use verdict::Verdict;
 
 // The numerators lie from −2^60 to 2^60.
 pub const MAX_NUMERATOR: i64 = 1152921504606846976;
@@ -41,25 +42,6 @@ pub const ONE: Scalar = Scalar {
     n: [1, 0, 0, 0],
     e: 0,
 };
-
-// Document 01's numbers: 0 is no refusal, TooLarge is 9, Malformed is 10.
-pub enum Verdict {
-    Accepted,
-    TooLarge,
-    Malformed,
-}
-
-impl Verdict {
-    pub fn number(self) -> u32
-        ensures { λ r. ⌜ r ≡ verdictNumber self ⌝ }
-    {
-        match self {
-            Verdict::Accepted => 0,
-            Verdict::TooLarge => 9,
-            Verdict::Malformed => 10,
-        }
-    }
-}
 
 pub struct Answer {
     pub value: Scalar,

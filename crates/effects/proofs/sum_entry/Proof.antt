@@ -7,7 +7,7 @@ use lib.ListN.{length}
 use borrow.Author.Tests.{not-true, not-false}
 use Rattle.algebra.proofs.Tests.{and-split}
 use Rattle.exact.specs.Exact.{Exact, wellFormed}
-use Rattle.scalar.specs.declared.Verdict.the-variants.{TooLarge}
+use Rattle.verdict.specs.declared.Verdict.the-variants.{TooLarge}
 use Rattle.scalar.specs.Calls.{scalarOf, acceptedAs, accepted, refusedWith}
 use Rattle.cells.specs.Cells.{exponentAt, wellFormedAt}
 use Rattle.channel.specs.Layout.{entryPlace, entryAt, recordSize, side}

@@ -2,7 +2,7 @@
 use mathlib.Core.Path.{ap, sym, _∙_}
 use mathlib.Core.Bool.{Bool, cond}
 use borrow.Author.Needs.{needs}
-use Rattle.scalar.specs.declared.Verdict.the-variants.{Accepted, TooLarge}
+use Rattle.verdict.specs.declared.Verdict.the-variants.{Accepted, TooLarge}
 use Rattle.scalar.specs.Calls.{refusedWith}
 use Rattle.scalar.proofs.checked.Statement.{statement}
 use Rattle.scalar.proofs.checked.Tie as tie

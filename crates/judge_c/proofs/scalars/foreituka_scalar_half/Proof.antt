@@ -1,6 +1,7 @@
 -- `foreituka_scalar_half` meets its contract.
 use mathlib.Core.Path.{ap, _∙_}
-use Rattle.scalar.specs.Calls.{value, verdictNumber, halfAnswer}
+use Rattle.verdict.specs.Verdict.{verdictNumber}
+use Rattle.scalar.specs.Calls.{value, halfAnswer}
 use Rattle.judge_c.specs.Interface.{answerWords}
 use borrow.Author.Needs.{needs}
 use Rattle.judge_c.proofs.scalars.foreituka_scalar_half.Statement.{statement}

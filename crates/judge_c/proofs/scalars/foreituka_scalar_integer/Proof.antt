@@ -1,7 +1,8 @@
 -- `foreituka_scalar_integer` meets its contract.
 use mathlib.Core.Path.{ap, _∙_}
 use mir.Facts.{toZ-ofZ}
-use Rattle.scalar.specs.Calls.{verdictNumber, integerAnswer}
+use Rattle.verdict.specs.Verdict.{verdictNumber}
+use Rattle.scalar.specs.Calls.{integerAnswer}
 use Rattle.judge_c.specs.Interface.{answerWords}
 use borrow.Author.Needs.{needs}
 use Rattle.judge_c.proofs.scalars.foreituka_scalar_integer.Statement.{statement}

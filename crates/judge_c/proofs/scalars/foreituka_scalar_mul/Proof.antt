@@ -1,6 +1,7 @@
 -- `foreituka_scalar_mul` meets its contract.
 use mathlib.Core.Path.{ap, ap₂, _∙_}
-use Rattle.scalar.specs.Calls.{value, verdictNumber, mulAnswer}
+use Rattle.verdict.specs.Verdict.{verdictNumber}
+use Rattle.scalar.specs.Calls.{value, mulAnswer}
 use Rattle.judge_c.specs.Interface.{answerWords}
 use borrow.Author.Needs.{needs}
 use Rattle.judge_c.proofs.scalars.foreituka_scalar_mul.Statement.{statement}

@@ -1,6 +1,6 @@
 -- `foreituka_scalar_omega` meets its contract.
 use mathlib.Core.Path.{ap, _∙_}
-use Rattle.scalar.specs.Calls.{verdictNumber}
+use Rattle.verdict.specs.Verdict.{verdictNumber}
 use Rattle.judge_c.specs.Interface.{answerWords}
 use borrow.Author.Needs.{needs}
 use Rattle.judge_c.proofs.scalars.foreituka_scalar_omega.Statement.{statement}
