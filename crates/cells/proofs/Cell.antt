@@ -14,10 +14,10 @@ use Rattle.algebra.specs.Words.{upTo, blocks}
 use Rattle.algebra.proofs.Tests.{and-no}
 use Rattle.algebra.proofs.Blocks.{Same, blocks-at, length-joined, blocks-joined, joined-at, joined-same}
 use Rattle.exact.specs.Exact.{Exact, number, maxExponent, isLowest, within, maxNumerator, wellFormed}
-use Rattle.cells.specs.Cells.{cellWords, cellAt, exponentAt, wellFormedAt, fill, cells}
+use Rattle.cells.specs.Cells.{cellWords, cellAt, exponentAt, wellFormedAt, fill, cells, cellSize}
 
 -- ---- the same five words
-module _ {l m : List ℤ} {at : ℕ} (h : Same l m at 5) where
+module _ {l m : List ℤ} {at : ℕ} (h : Same l m at cellSize) where
   pub cell-same : cellAt l at ≡ cellAt m at
   cell-same =
       λ i. frac
@@ -28,7 +28,7 @@ module _ {l m : List ℤ} {at : ℕ} (h : Same l m at 5) where
   exponent-same = ap (upTo maxExponent) (h .word (at + 4) (omega arith) (omega arith))
 
 -- ---- five words that are those of a number
-module _ (l : List ℤ) (at : ℕ) (x : Exact) (h : (k : ℕ) → k < 5 → getD l (at + k) (pos 0) ≡ getD (cellWords x) k (pos 0)) where
+module _ (l : List ℤ) (at : ℕ) (x : Exact) (h : (k : ℕ) → k < cellSize → getD l (at + k) (pos 0) ≡ getD (cellWords x) k (pos 0)) where
   pub cell-is : cellAt l at ≡ x
   cell-is =
       let z = ap (λ (w : ℕ). getD l w (pos 0)) (sym (add-zero at)) ∙ h 0 (omega arith) in
@@ -49,31 +49,31 @@ module _ (f : ℕ → Exact) where
   abbrev words : ℕ → List ℤ
   words i = cellWords (f i)
 
-  five : (i : ℕ) → length (words i) ≡ 5
+  five : (i : ℕ) → length (words i) ≡ cellSize
   five i = refl
 
-  pub length-cells : (n : ℕ) → length (cells n f) ≡ n * 5
-  length-cells = length-joined 5 words five
+  pub length-cells : (n : ℕ) → length (cells n f) ≡ n * cellSize
+  length-cells = length-joined cellSize words five
 
   -- word k of number i
-  pub cells-at : (n i k : ℕ) → i < n → k < 5 → getD (cells n f) (i * 5 + k) (pos 0) ≡ getD (cellWords (f i)) k (pos 0)
-  cells-at = joined-at 5 words five
+  pub cells-at : (n i k : ℕ) → i < n → k < cellSize → getD (cells n f) (i * cellSize + k) (pos 0) ≡ getD (cellWords (f i)) k (pos 0)
+  cells-at = joined-at cellSize words five
 
   module _ (l : List ℤ) (at : ℕ) where
     -- as one run
     pub fill-block : (n : ℕ) → fill l at n f ≡ sets l at (cells n f)
-    fill-block = blocks-joined 5 words five l at
+    fill-block = blocks-joined cellSize words five l at
 
     -- number i is read back
-    module _ (n i : ℕ) (h : i < n) (room : at + n * 5 ≤ length l) where
-      filled : (k : ℕ) → k < 5 → getD (fill l at n f) (at + i * 5 + k) (pos 0) ≡ getD (cellWords (f i)) k (pos 0)
-      filled k p = blocks-at 5 l at words (λ i. le-refl 5) n i k h p room
+    module _ (n i : ℕ) (h : i < n) (room : at + n * cellSize ≤ length l) where
+      filled : (k : ℕ) → k < cellSize → getD (fill l at n f) (at + i * cellSize + k) (pos 0) ≡ getD (cellWords (f i)) k (pos 0)
+      filled k p = blocks-at cellSize l at words (λ i. le-refl cellSize) n i k h p room
 
-      pub cell-filled : cellAt (fill l at n f) (at + i * 5) ≡ f i
-      cell-filled = cell-is (fill l at n f) (at + i * 5) (f i) filled
+      pub cell-filled : cellAt (fill l at n f) (at + i * cellSize) ≡ f i
+      cell-filled = cell-is (fill l at n f) (at + i * cellSize) (f i) filled
 
-      pub exponent-filled : exponentAt (fill l at n f) (at + i * 5) ≡ leb (f i .exp) maxExponent
-      exponent-filled = exponent-is (fill l at n f) (at + i * 5) (f i) filled
+      pub exponent-filled : exponentAt (fill l at n f) (at + i * cellSize) ≡ leb (f i .exp) maxExponent
+      exponent-filled = exponent-is (fill l at n f) (at + i * cellSize) (f i) filled
 
 pub cells-same : (n : ℕ) (f h : ℕ → Exact) → ((i : ℕ) → i < n → f i ≡ h i) → cells n f ≡ cells n h
 cells-same n f h e = joined-same n (λ (i : ℕ). cellWords (f i)) (λ (i : ℕ). cellWords (h i)) (λ i p. ap cellWords (e i p))
@@ -81,12 +81,12 @@ cells-same n f h e = joined-same n (λ (i : ℕ). cellWords (f i)) (λ (i : ℕ)
 -- number i of block b, where the block is m numbers
 module _ (s : ℕ) (l : List ℤ) (at : ℕ) (f : ℕ → List ℤ) (sized : (i : ℕ) → length (f i) ≤ s) (n b m i : ℕ) (h : ℕ → Exact)
     (is : f b ≡ cells m h) (hb : b < n) (hi : i < m) (room : at + n * s ≤ length l) where
-  pub block-word : (k : ℕ) → k < 5 → getD (blocks s l at n f) (at + b * s + i * 5 + k) (pos 0) ≡ getD (cellWords (h i)) k (pos 0)
+  pub block-word : (k : ℕ) → k < cellSize → getD (blocks s l at n f) (at + b * s + i * cellSize + k) (pos 0) ≡ getD (cellWords (h i)) k (pos 0)
   block-word k p =
-      ap (λ (w : ℕ). getD (blocks s l at n f) w (pos 0)) (add-assoc (at + b * s) (i * 5) k)
-      ∙ blocks-at s l at f sized n b (i * 5 + k) hb (omega (arith, ap length is, length-cells h m)) room
-      ∙ ap (λ (c : List ℤ). getD c (i * 5 + k) (pos 0)) is
+      ap (λ (w : ℕ). getD (blocks s l at n f) w (pos 0)) (add-assoc (at + b * s) (i * cellSize) k)
+      ∙ blocks-at s l at f sized n b (i * cellSize + k) hb (omega (arith, ap length is, length-cells h m)) room
+      ∙ ap (λ (c : List ℤ). getD c (i * cellSize + k) (pos 0)) is
       ∙ cells-at h m i k hi p
 
-  pub block-cell : cellAt (blocks s l at n f) (at + b * s + i * 5) ≡ h i
-  block-cell = cell-is (blocks s l at n f) (at + b * s + i * 5) (h i) block-word
+  pub block-cell : cellAt (blocks s l at n f) (at + b * s + i * cellSize) ≡ h i
+  block-cell = cell-is (blocks s l at n f) (at + b * s + i * cellSize) (h i) block-word

@@ -5,8 +5,8 @@ ghost use Prim.Native.Nat.{_+_, _≤_};
 ghost use lib.ListN.{length};
 ghost use lib.Seq.{sets};
 ghost use Rattle.scalar.specs.Calls.{value, scalarOf};
-ghost use Rattle.cells.specs.Cells.{cellAt, cellWords, exponentAt, wellFormedAt, zeroAt};
-use scalar::MAX_EXPONENT;
+ghost use Rattle.cells.specs.Cells.{cellAt, cellWords, exponentAt, wellFormedAt, zeroAt, cellSize};
+use exact::MAX_EXPONENT;
 use scalar::Scalar;
 
 // The words of a cell.
@@ -14,7 +14,7 @@ pub const CELL: usize = 5;
 
 // The scalar in the five words from `at` on.
 pub fn read_cell(s: &[i64], at: usize) -> Scalar
-    requires { ⌜ (at + 5 ≤ length (now s)) × (exponentAt (now s) at ≡ true) ⌝ }
+    requires { ⌜ (at + cellSize ≤ length (now s)) × (exponentAt (now s) at ≡ true) ⌝ }
     ensures { λ r. ⌜ r ≡ scalarOf (cellAt (now (s .entry)) at) ⌝ }
 {
     let a = s[at];
@@ -31,7 +31,7 @@ pub fn read_cell(s: &[i64], at: usize) -> Scalar
 
 // Write a scalar into the five words from `at` on.
 pub fn write_cell(s: &mut [i64], at: usize, v: Scalar)
-    requires { ⌜ at + 5 ≤ length (now s) ⌝ }
+    requires { ⌜ at + cellSize ≤ length (now s) ⌝ }
     ensures { λ _. ⌜ now (s .exit) ≡ sets (now (s .entry)) at (cellWords (value v)) ⌝ }
 {
     let a = v.n[0];
@@ -48,7 +48,7 @@ pub fn write_cell(s: &mut [i64], at: usize, v: Scalar)
 
 // Whether the scalar at `at` is zero.
 pub fn zero_at(s: &[i64], at: usize) -> bool
-    requires { ⌜ at + 5 ≤ length (now s) ⌝ }
+    requires { ⌜ at + cellSize ≤ length (now s) ⌝ }
     ensures { λ r. ⌜ r ≡ zeroAt (now (s .entry)) at ⌝ }
 {
     let a = s[at];
@@ -60,7 +60,7 @@ pub fn zero_at(s: &[i64], at: usize) -> bool
 
 // Whether the five words from `at` on are a scalar in range and in lowest form.
 pub fn well_formed_at(s: &[i64], at: usize) -> bool
-    requires { ⌜ at + 5 ≤ length (now s) ⌝ }
+    requires { ⌜ at + cellSize ≤ length (now s) ⌝ }
     ensures { λ r. ⌜ r ≡ wellFormedAt (now (s .entry)) at ⌝ }
 {
     let a = s[at];

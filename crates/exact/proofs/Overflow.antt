@@ -12,25 +12,25 @@ use Rattle.algebra.specs.Dyadic.{frac, evenℤ, halfℤ}
 use Rattle.algebra.proofs.Signed.{limit, parity-add, scaled-even, abs-left}
 use Rattle.algebra.proofs.Quadratic.{ℤ√2i}
 use Rattle.algebra.proofs.Dyadic.{low-odd}
-use Rattle.exact.specs.Exact.{Number, numbers, numberHalves, Exact, exact, lowest, within, inRange, wellFormed}
+use Rattle.exact.specs.Exact.{Number, numbers, numberHalves, Exact, exact, lowest, within, inRange, wellFormed, maxNumerator, maxExponent, narrowNumerator}
 use Rattle.exact.specs.Claims.{ProductsFit}
 use Rattle.exact.specs.Inner.{Within, scaled, roomNumerator}
 use Rattle.exact.proofs.Exact.{exactHalving, mul-lowest, lowest-odd}
 use Rattle.exact.proofs.Align.{aligned, scaled-none, widen, mul-within}
 use Rattle.exact.proofs.Sizes.{and4, within-of, of-within, well-bound, well-within, well-lowest, narrow-bound, narrow-exponent}
 
--- z times 2^d is at most 2^61 where z is at most 2^61 / 2^d
+-- z times 2^d has room where z is at most the room / 2^d
 pub can-scale : (z : Number) (d : ℕ) → within (roomNumerator / 2 ^ d) z ≡ within roomNumerator (scaled z d)
 can-scale z d = and4 (limit (z .re .re) roomNumerator d) (limit (z .re .im) roomNumerator d) (limit (z .im .re) roomNumerator d) (limit (z .im .im) roomNumerator d)
 
 -- too large a term makes too large a sum
-sum-large : (u v : Number) → Within (2 ^ 60) v → within roomNumerator u ≡ false → within (2 ^ 60) (numbers ._⊕_ u v) ≡ false
-sum-large u v w e = go (within (2 ^ 60) (numbers ._⊕_ u v)) refl
+sum-large : (u v : Number) → Within maxNumerator v → within roomNumerator u ≡ false → within maxNumerator (numbers ._⊕_ u v) ≡ false
+sum-large u v w e = go (within maxNumerator (numbers ._⊕_ u v)) refl
   where
-    one : (a b : ℤ) → natAbs (a +ℤ b) ≤ 2 ^ 60 → natAbs b ≤ 2 ^ 60 → natAbs a ≤ roomNumerator
+    one : (a b : ℤ) → natAbs (a +ℤ b) ≤ maxNumerator → natAbs b ≤ maxNumerator → natAbs a ≤ roomNumerator
     one a b h k = omega (arith, abs-left a b)
 
-    bound : Within (2 ^ 60) (numbers ._⊕_ u v) → Within roomNumerator u
+    bound : Within maxNumerator (numbers ._⊕_ u v) → Within roomNumerator u
     bound s = record {
       w0 = one (u .re .re) (v .re .re) (s .w0) (w .w0);
       w1 = one (u .re .im) (v .re .im) (s .w1) (w .w1);
@@ -38,9 +38,9 @@ sum-large u v w e = go (within (2 ^ 60) (numbers ._⊕_ u v)) refl
       w3 = one (u .im .im) (v .im .im) (s .w3) (w .w3);
     }
 
-    go : (b : Bool) → within (2 ^ 60) (numbers ._⊕_ u v) ≡ b → within (2 ^ 60) (numbers ._⊕_ u v) ≡ false
+    go : (b : Bool) → within maxNumerator (numbers ._⊕_ u v) ≡ b → within maxNumerator (numbers ._⊕_ u v) ≡ false
     go false p = p
-    go true p = absurd (subst T (sym (of-within roomNumerator u (bound (within-of (2 ^ 60) (numbers ._⊕_ u v) p))) ∙ e) tt)
+    go true p = absurd (subst T (sym (of-within roomNumerator u (bound (within-of maxNumerator (numbers ._⊕_ u v) p))) ∙ e) tt)
 
 -- an even multiple does not change a number's parity
 even-sum : (x y : ℤ) (d : ℕ) → 0 < d → evenℤ (x *ℤ pos (2 ^ d) +ℤ y) ≡ evenℤ y
@@ -67,7 +67,7 @@ module _ (x y : Exact) (g : wellFormed x ≡ true) (h : wellFormed y ≡ true) (
   overflow e = go (decLt (x .exp) (y .exp))
     where
       go : Dec (x .exp < y .exp) → inRange (exact ._⊕_ x y) ≡ false
-      go (yes p) = ap inRange (stands p) ∙ ap (λ (b : Bool). b && leb (y .exp) 60) (sum-large (scaled (x .num) (y .exp - x .exp)) (y .num) (well-bound y h) e)
+      go (yes p) = ap inRange (stands p) ∙ ap (λ (b : Bool). b && leb (y .exp) maxExponent) (sum-large (scaled (x .num) (y .exp - x .exp)) (y .num) (well-bound y h) e)
       go (no p) =
           let d : y .exp - x .exp ≡ 0 = omega arith in
           absurd (subst T (sym (ap (within roomNumerator) (scaled-none (x .num) (y .exp - x .exp) d) ∙ of-within roomNumerator (x .num) (well-within x g)) ∙ e) tt)
@@ -99,6 +99,6 @@ pub products-fit : ProductsFit
 products-fit x y g h =
     let z = numbers ._⊗_ (x .num) (y .num) in
     let e = x .exp + y .exp in
-    let s = lowest-size (2 ^ 60) z e (widen (6 * (2 ^ 28 * 2 ^ 28)) (2 ^ 60) z (lit≤ tt) (mul-within (2 ^ 28) (2 ^ 28) (x .num) (y .num) (narrow-bound x g) (narrow-bound y h))) in
-    let l : lowest z e .exp ≤ 60 = omega (arith, s .1, narrow-exponent x g, narrow-exponent y h) in
-    λ i. (of-within (2 ^ 60) (lowest z e .num) (s .0) i && le-leb (lowest z e .exp) 60 l i) && mul-lowest x y i
+    let s = lowest-size maxNumerator z e (widen (6 * (narrowNumerator * narrowNumerator)) maxNumerator z (lit≤ tt) (mul-within narrowNumerator narrowNumerator (x .num) (y .num) (narrow-bound x g) (narrow-bound y h))) in
+    let l : lowest z e .exp ≤ maxExponent = omega (arith, s .1, narrow-exponent x g, narrow-exponent y h) in
+    λ i. (of-within maxNumerator (lowest z e .num) (s .0) i && le-leb (lowest z e .exp) maxExponent l i) && mul-lowest x y i

@@ -15,7 +15,7 @@ use borrow.Author.Tests.{le-leb, lt-leb, leb-true}
 use Rattle.algebra.specs.Dyadic.{evenℤ}
 use Rattle.algebra.proofs.Tests.{and-split}
 use Rattle.algebra.proofs.Signed.{reads, neg-fits, neg-back, under-by, over, within as within-by, and-one, or-even, bit-parity}
-use Rattle.exact.specs.Exact.{Exact, Number, number, within, numberHalves, inRange, isLowest, wellFormed, narrow, narrowNumerator, narrowExponent}
+use Rattle.exact.specs.Exact.{Exact, Number, number, within, numberHalves, inRange, isLowest, wellFormed, narrow, maxNumerator, maxExponent, narrowNumerator, narrowExponent}
 use Rattle.exact.specs.Inner.{numberOf, Within, roomNumerator}
 use Rattle.exact.proofs.Align.{widen}
 
@@ -88,14 +88,14 @@ module _ (x : Exact) (h : wellFormed x ≡ true) where
   in-range : inRange x ≡ true
   in-range = and-split (inRange x) (isLowest x) h .0
 
-  pub well-bound : Within (2 ^ 60) (x .num)
-  well-bound = within-of (2 ^ 60) (x .num) (and-split (within (2 ^ 60) (x .num)) (leb (x .exp) 60) in-range .0)
+  pub well-bound : Within maxNumerator (x .num)
+  well-bound = within-of maxNumerator (x .num) (and-split (within maxNumerator (x .num)) (leb (x .exp) maxExponent) in-range .0)
 
   pub well-within : Within roomNumerator (x .num)
-  well-within = widen (2 ^ 60) roomNumerator (x .num) (lit≤ tt) well-bound
+  well-within = widen maxNumerator roomNumerator (x .num) (lit≤ tt) well-bound
 
-  pub well-exponent : x .exp ≤ 60
-  well-exponent = leb-true _ _ (and-split (within (2 ^ 60) (x .num)) (leb (x .exp) 60) in-range .1)
+  pub well-exponent : x .exp ≤ maxExponent
+  well-exponent = leb-true _ _ (and-split (within maxNumerator (x .num)) (leb (x .exp) maxExponent) in-range .1)
 
   pub well-lowest : isLowest x ≡ true
   well-lowest = and-split (inRange x) (isLowest x) h .1

@@ -69,11 +69,11 @@ maxNumerator = 2 ^ 60
 abbrev pub maxExponent : ℕ
 maxExponent = 60
 
-abbrev pub narrowNumerator : ℕ
-narrowNumerator = 2 ^ 28
-
 abbrev pub narrowExponent : ℕ
 narrowExponent = 28
+
+abbrev pub narrowNumerator : ℕ
+narrowNumerator = 2 ^ narrowExponent
 
 -- each numerator lies from −m to m
 abbrev pub within : ℕ → Number → Bool

@@ -3,7 +3,7 @@ use mathlib.Core.List.{List, [], _∷_}
 use Prim.Native.Nat.{ℕ, _*_, _-_, _^_, _≤_}
 use lib.ListN.{getD}
 use lib.IntN.{ℤ, pos, natAbs, _*ℤ_}
-use Rattle.exact.specs.Exact.{Exact, Number, number}
+use Rattle.exact.specs.Exact.{Exact, Number, number, maxNumerator, narrowExponent}
 
 -- four numbers of a list, and as a list
 abbrev pub numberOf : List ℤ → Number
@@ -19,13 +19,13 @@ pub record Within (m : ℕ) (z : Number) : Type 0 where
   pub w2 : natAbs (z .im .re) ≤ m
   pub w3 : natAbs (z .im .im) ≤ m
 
--- two numerators of at most this size have their sum in a word
+-- a term of a sum: two of at most this size have their sum in a word, and with a larger one no sum is in range
 abbrev pub roomNumerator : ℕ
-roomNumerator = 2 ^ 61
+roomNumerator = 2 * maxNumerator
 
--- a product of narrow numbers is over at most 2^56
+-- a product of narrow numbers is over at most this power of two
 abbrev pub roomExponent : ℕ
-roomExponent = 56
+roomExponent = 2 * narrowExponent
 
 -- each numerator times 2^d
 abbrev pub scaled : Number → ℕ → Number
@@ -36,7 +36,7 @@ pub record Coords (m k : ℕ) (x : Exact) : Type 0 where
   pub exponent : x .exp ≤ k
   pub size : Within (m * 2 ^ x .exp) (x .num)
 
--- a sum to which a term over 2^k can be added: over the larger power of the two its numerators lie from −2^61 to 2^61
+-- a sum to which a term over 2^k can be added: over the larger power of the two its numerators leave room
 pub record Room (k : ℕ) (x : Exact) : Type 0 where
   pub exponent : x .exp ≤ roomExponent
   pub size : Within roomNumerator (scaled (x .num) (k - x .exp))

@@ -6,7 +6,7 @@ ghost use lib.Count.{trailingZeros};
 ghost use mir.Syntax.{w64};
 ghost use mir.Val.{ofZ};
 ghost use Rattle.algebra.specs.Quadratic.{conjugate};
-ghost use Rattle.exact.specs.Exact.{root2, numbers, narrowNumerator};
+ghost use Rattle.exact.specs.Exact.{root2, numbers, maxExponent, narrowNumerator};
 ghost use Rattle.exact.specs.Inner.{numberOf, listOf, Within, scaled, roomNumerator};
 
 // How many low bits are zero in all four: 64 where no bit below the top one is set.
@@ -96,7 +96,7 @@ pub fn neg4(x: [i64; 4]) -> [i64; 4]
 
 // The numerators times 2^d.
 pub fn scaled4(x: [i64; 4], d: u32) -> [i64; 4]
-    requires { ⌜ (d ≤ 60) × Within roomNumerator (scaled (numberOf x) d) ⌝ }
+    requires { ⌜ (d ≤ maxExponent) × Within roomNumerator (scaled (numberOf x) d) ⌝ }
     ensures { λ r. ⌜ r ≡ listOf (scaled (numberOf x) d) ⌝ }
 {
     let p = 1i64 << d;

@@ -1,9 +1,10 @@
 // The questions that are asked of four numerators: ranges, and whether all are even or zero.
+use super::ROOM_NUMERATOR;
 ghost use mathlib.Core.Path.{_≡_};
 ghost use Prim.Native.Nat.{_≤_};
 ghost use lib.Dec.{leb};
 ghost use lib.IntN.{pos, natAbs};
-ghost use Rattle.exact.specs.Exact.{numberHalves, within, isZero};
+ghost use Rattle.exact.specs.Exact.{numberHalves, maxExponent, within, isZero};
 ghost use Rattle.exact.specs.Inner.{numberOf, scaled, roomNumerator};
 
 // Whether x lies from −m to m.
@@ -28,12 +29,12 @@ pub fn are_within(x: [i64; 4], m: i64) -> bool
     at_most(x[0], m) & at_most(x[1], m) & at_most(x[2], m) & at_most(x[3], m)
 }
 
-// Whether each of the four times 2^d lies from −2^61 to 2^61.
+// Whether each of the four times 2^d has room.
 pub fn can_scale(x: [i64; 4], d: u32) -> bool
-    requires { ⌜ d ≤ 60 ⌝ }
+    requires { ⌜ d ≤ maxExponent ⌝ }
     ensures { λ r. ⌜ r ≡ within roomNumerator (scaled (numberOf x) d) ⌝ }
 {
-    let m = 2305843009213693952i64 >> d;
+    let m = ROOM_NUMERATOR >> d;
     are_within(x, m)
 }
 

@@ -1,6 +1,6 @@
 // The scalar calls: a scalar is five words, n0 to n3 and e.
+use exact::MAX_EXPONENT;
 use scalar::Answer;
-use scalar::MAX_EXPONENT;
 use scalar::Scalar;
 ghost use mathlib.Core.Path.{_≡_};
 ghost use Rattle.exact.specs.Exact.{exact, imaginary, invSqrtTwo};

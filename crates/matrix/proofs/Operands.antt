@@ -14,7 +14,7 @@ use Rattle.exact.proofs.Exact.{conj-form}
 use Rattle.scalar.specs.declared.Answer.{Answer}
 use Rattle.scalar.specs.Calls.{value, scalarOf, mulAnswer, conjAnswer}
 use Rattle.scalar.proofs.Questions.{asked-yes, mul-yes}
-use Rattle.cells.specs.Cells.{exponentAt, wellFormedAt}
+use Rattle.cells.specs.Cells.{exponentAt, wellFormedAt, cellSize}
 use Rattle.matrix.specs.Phase.{_·_, entryOf}
 use Rattle.matrix.specs.Operands.{Operand, Operands}
 
@@ -37,7 +37,7 @@ pub conj-value : {x : Exact} → Operand x → conjAnswer x .value ≡ scalarOf 
 conj-value {x} p = ap (λ (a : Answer). a .value) (asked-yes x _ (p .form))
 
 -- ---- entries that passed the questions
-pub operands : (l : List ℤ) (n : ℕ) → n * 5 ≤ length l → allBelow n (λ (i : ℕ). wellFormedAt l (i * 5)) ≡ true → allBelow n (λ (i : ℕ). narrow (entryOf l i)) ≡ true → Operands l n
+pub operands : (l : List ℤ) (n : ℕ) → n * cellSize ≤ length l → allBelow n (λ (i : ℕ). wellFormedAt l (i * cellSize)) ≡ true → allBelow n (λ (i : ℕ). narrow (entryOf l i)) ≡ true → Operands l n
 operands l n h f g =
     record {
       room = h;
@@ -45,8 +45,8 @@ operands l n h f g =
       operand = λ i p. record { form = both i p .1; small = all-at n (λ (i : ℕ). narrow (entryOf l i)) g i p };
     }
   where
-    both : (i : ℕ) → i < n → (exponentAt l (i * 5) ≡ true) × (wellFormed (entryOf l i) ≡ true)
-    both i p = and-split (exponentAt l (i * 5)) (wellFormed (entryOf l i)) (all-at n (λ (i : ℕ). wellFormedAt l (i * 5)) f i p)
+    both : (i : ℕ) → i < n → (exponentAt l (i * cellSize) ≡ true) × (wellFormed (entryOf l i) ≡ true)
+    both i p = and-split (exponentAt l (i * cellSize)) (wellFormed (entryOf l i)) (all-at n (λ (i : ℕ). wellFormedAt l (i * cellSize)) f i p)
 
 -- ---- tests
 pub or-false : (b : Bool) → b ≡ (b || false)

@@ -12,7 +12,7 @@ use borrow.Author.Tests.{eqb-true}
 use Rattle.algebra.specs.Lists.{allBelow, some, All}
 use Rattle.algebra.proofs.Tests.{and-split}
 use Rattle.verdict.specs.declared.Verdict.the-variants.{TooLarge, Malformed}
-use Rattle.cells.specs.Cells.{wellFormedAt}
+use Rattle.cells.specs.Cells.{wellFormedAt, cellSize}
 use Rattle.matrix.specs.declared.PhaseAnswer.{PhaseAnswer}
 use Rattle.matrix.specs.Phase.{isDim, entryOf, wellFormedMatrix, narrowMatrix, inPhase, answered, refusedPhase, phaseAnswer}
 use Rattle.matrix.specs.Operands.{Operands}
@@ -39,15 +39,15 @@ square-small d e = mul-le-mul (dim-small d e) (dim-small d e)
 -- ---- a well-formed matrix
 pub record Formed (d : ℕ) (l : List ℤ) : Type 0 where
   pub dim : isDim d ≡ true
-  pub long : length l ≡ d * d * 5
-  pub entries : allBelow (d * d) (λ (i : ℕ). wellFormedAt l (i * 5)) ≡ true
+  pub long : length l ≡ d * d * cellSize
+  pub entries : allBelow (d * d) (λ (i : ℕ). wellFormedAt l (i * cellSize)) ≡ true
 
 module _ {d : ℕ} {l : List ℤ} where
   pub formed : wellFormedMatrix d l ≡ true → Formed d l
   formed e =
-      let p = and-split (isDim d) (eqb (length l) (d * d * 5) && allBelow (d * d) (λ (i : ℕ). wellFormedAt l (i * 5))) e in
-      let q = and-split (eqb (length l) (d * d * 5)) (allBelow (d * d) (λ (i : ℕ). wellFormedAt l (i * 5))) (p .1) in
-      record { dim = p .0; long = eqb-true (length l) (d * d * 5) (q .0); entries = q .1 }
+      let p = and-split (isDim d) (eqb (length l) (d * d * cellSize) && allBelow (d * d) (λ (i : ℕ). wellFormedAt l (i * cellSize))) e in
+      let q = and-split (eqb (length l) (d * d * cellSize)) (allBelow (d * d) (λ (i : ℕ). wellFormedAt l (i * cellSize))) (p .1) in
+      record { dim = p .0; long = eqb-true (length l) (d * d * cellSize) (q .0); entries = q .1 }
 
   pub formed-operands : Formed d l → narrowMatrix d l ≡ true → Operands l (d * d)
   formed-operands f e = operands l (d * d) (omega (arith, f .long)) (f .entries) e

@@ -11,11 +11,12 @@ use Rattle.algebra.proofs.Ring.{semi}
 use Rattle.algebra.proofs.Quadratic.{ℤ√2i}
 use Rattle.algebra.proofs.Dyadic.{low-zero}
 use Rattle.algebra.proofs.Blocks.{Same}
-use Rattle.exact.specs.Exact.{Exact, exact, Number, numbers, lowest, isLowest, isZero}
+use Rattle.exact.specs.Exact.{Exact, exact, Number, numbers, lowest, isLowest, isZero, narrowExponent}
 use Rattle.exact.specs.Inner.{Coords}
 use Rattle.exact.proofs.Exact.{exacts, exactHalving, plus-zero}
 use Rattle.exact.proofs.IsZero.{zero-is}
 use Rattle.cells.proofs.Cell.{cell-same, exponent-same}
+use Rattle.cells.specs.Cells.{cellSize}
 use Rattle.matrix.specs.Factors.{Factor}
 
 -- ---- a zero factor
@@ -50,10 +51,10 @@ pub column-lt : (i d : ℕ) → i < d * d → i % d < d
 column-lt i d h = mod-lt i (dim-pos i d h)
 
 -- ---- what is read from the same words
-pub factor-same : {l m : List ℤ} {at : ℕ} → Same l m at 5 → Factor m at → Factor l at
+pub factor-same : {l m : List ℤ} {at : ℕ} → Same l m at cellSize → Factor m at → Factor l at
 factor-same h t =
     record {
       room = omega (arith, h .long, t .room);
       exponent = exponent-same h ∙ t .exponent;
-      coords = subst (Coords 1 28) (sym (cell-same h)) (t .coords);
+      coords = subst (Coords 1 narrowExponent) (sym (cell-same h)) (t .coords);
     }

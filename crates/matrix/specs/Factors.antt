@@ -6,19 +6,19 @@ use Prim.Native.Nat.{ℕ, _+_, _*_, _<_, _≤_}
 use lib.ListN.{length}
 use lib.IntN.{ℤ}
 use Rattle.algebra.specs.Words.{Apart}
-use Rattle.exact.specs.Exact.{Exact, exact, isLowest}
+use Rattle.exact.specs.Exact.{Exact, exact, isLowest, narrowExponent}
 use Rattle.exact.specs.Inner.{Coords}
-use Rattle.cells.specs.Cells.{cellAt, exponentAt}
+use Rattle.cells.specs.Cells.{cellAt, exponentAt, cellSize}
 
 -- a factor: its coordinates lie from −1 to 1, over at most 2^28
 pub record Factor (l : List ℤ) (at : ℕ) : Type 0 where
-  pub room : at + 5 ≤ length l
+  pub room : at + cellSize ≤ length l
   pub exponent : exponentAt l at ≡ true
-  pub coords : Coords 1 28 (cellAt l at)
+  pub coords : Coords 1 narrowExponent (cellAt l at)
 
 -- x times number c from `from` on
 abbrev pub scaledRow : List ℤ → Exact → ℕ → ℕ → Exact
-scaledRow l x from c = exact ._⊗_ x (cellAt l (from + c * 5))
+scaledRow l x from c = exact ._⊗_ x (cellAt l (from + c * cellSize))
 
 -- x times number c from p on plus y times number c from q on
 abbrev pub combinedRow : List ℤ → Exact → ℕ → Exact → ℕ → ℕ → Exact
@@ -26,9 +26,9 @@ combinedRow l x p y q c = exact ._⊕_ (scaledRow l x p c) (scaledRow l y q c)
 
 -- d factors in lowest form from `from` on, a number x to multiply them by, and apart from them a place for d numbers from `to` on
 pub record Scaling (l : List ℤ) (x : Exact) (from to d : ℕ) : Type 0 where
-  pub scale : Coords 1 28 x
-  pub from-room : from + d * 5 ≤ length l
-  pub factor : (c : ℕ) → c < d → Factor l (from + c * 5)
-  pub lowest : (c : ℕ) → c < d → isLowest (cellAt l (from + c * 5)) ≡ true
-  pub to-room : to + d * 5 ≤ length l
-  pub apart : Apart from (d * 5) to (d * 5)
+  pub scale : Coords 1 narrowExponent x
+  pub from-room : from + d * cellSize ≤ length l
+  pub factor : (c : ℕ) → c < d → Factor l (from + c * cellSize)
+  pub lowest : (c : ℕ) → c < d → isLowest (cellAt l (from + c * cellSize)) ≡ true
+  pub to-room : to + d * cellSize ≤ length l
+  pub apart : Apart from (d * cellSize) to (d * cellSize)

@@ -2,6 +2,7 @@
 use super::Phase;
 use super::PhaseAnswer;
 use super::words::is_zero;
+use cells::CELL;
 use cells::read_cell;
 use cells::well_formed_at;
 use cells::zero_at;
@@ -14,7 +15,7 @@ ghost use lib.ListN.{length};
 ghost use Rattle.algebra.specs.Lists.{allBelow};
 ghost use Rattle.exact.specs.Exact.{conj, narrow};
 ghost use Rattle.scalar.specs.Calls.{value, scalarOf};
-ghost use Rattle.cells.specs.Cells.{wellFormedAt};
+ghost use Rattle.cells.specs.Cells.{wellFormedAt, cellSize};
 ghost use Rattle.matrix.specs.Phase.{_·_, isDim, entryOf, wellFormedMatrix, equalRatios, pivot, inPhaseAt, inPhase, answered, refusedPhase, phaseAnswer};
 ghost use Rattle.matrix.specs.Operands.{Operand, Operands};
 
@@ -26,12 +27,12 @@ fn is_dim(d: usize) -> bool
 }
 
 fn all_well_formed(s: &[i64], n: usize) -> bool
-    requires { ⌜ n * 5 ≤ length (now s) ⌝ }
-    ensures { λ r. ⌜ r ≡ allBelow n (λ (i : ℕ). wellFormedAt (now (s .entry)) (i * 5)) ⌝ }
+    requires { ⌜ n * cellSize ≤ length (now s) ⌝ }
+    ensures { λ r. ⌜ r ≡ allBelow n (λ (i : ℕ). wellFormedAt (now (s .entry)) (i * cellSize)) ⌝ }
 {
     let mut i = 0;
     while i < n {
-        if !well_formed_at(s, i * 5) {
+        if !well_formed_at(s, i * CELL) {
             return false;
         }
         i += 1;
@@ -46,19 +47,19 @@ fn is_matrix(d: usize, s: &[i64]) -> bool
     if !is_dim(d) {
         return false;
     }
-    if s.len() != d * d * 5 {
+    if s.len() != d * d * CELL {
         return false;
     }
     all_well_formed(s, d * d)
 }
 
 fn all_narrow(s: &[i64], n: usize) -> bool
-    requires { ⌜ (n * 5 ≤ length (now s)) × (allBelow n (λ (i : ℕ). wellFormedAt (now s) (i * 5)) ≡ true) ⌝ }
+    requires { ⌜ (n * cellSize ≤ length (now s)) × (allBelow n (λ (i : ℕ). wellFormedAt (now s) (i * cellSize)) ≡ true) ⌝ }
     ensures { λ r. ⌜ r ≡ allBelow n (λ (i : ℕ). narrow (entryOf (now (s .entry)) i)) ⌝ }
 {
     let mut i = 0;
     while i < n {
-        let v = read_cell(s, i * 5);
+        let v = read_cell(s, i * CELL);
         if !v.is_narrow() {
             return false;
         }
@@ -93,8 +94,8 @@ fn ratios_same(left: &[i64], right: &[i64], n: usize, a: Scalar, b: Scalar) -> b
 {
     let mut j = 0;
     while j < n {
-        let x = read_cell(left, j * 5);
-        let y = read_cell(right, j * 5);
+        let x = read_cell(left, j * CELL);
+        let y = read_cell(right, j * CELL);
         let p = times(x, b);
         let q = times(y, a);
         if !p.equals(q) {
@@ -109,8 +110,8 @@ fn in_phase_at(left: &[i64], right: &[i64], n: usize, i: usize) -> bool
     requires { ⌜ (i < n) × (Operands (now left) n × Operands (now right) n) ⌝ }
     ensures { λ r. ⌜ r ≡ inPhaseAt n (entryOf (now (left .entry))) (entryOf (now (right .entry))) i ⌝ }
 {
-    let a = read_cell(left, i * 5);
-    let b = read_cell(right, i * 5);
+    let a = read_cell(left, i * CELL);
+    let b = read_cell(right, i * CELL);
     let p = squared_modulus(a);
     let q = squared_modulus(b);
     if !p.equals(q) {
@@ -121,12 +122,12 @@ fn in_phase_at(left: &[i64], right: &[i64], n: usize, i: usize) -> bool
 
 // The first of n entries that is not zero, or n.
 fn first_nonzero(s: &[i64], n: usize) -> usize
-    requires { ⌜ n * 5 ≤ length (now s) ⌝ }
+    requires { ⌜ n * cellSize ≤ length (now s) ⌝ }
     ensures { λ r. ⌜ r ≡ pivot n (entryOf (now (s .entry))) ⌝ }
 {
     let mut i = 0;
     while i < n {
-        if !zero_at(s, i * 5) {
+        if !zero_at(s, i * CELL) {
             return i;
         }
         i += 1;

@@ -1,4 +1,5 @@
 // The identity, written.
+use cells::CELL;
 use cells::write_cell;
 use scalar::ONE;
 use scalar::Scalar;
@@ -9,6 +10,7 @@ ghost use lib.ListN.{length};
 ghost use Rattle.algebra.specs.Sum.{δ};
 ghost use Rattle.exact.specs.Exact.{exact};
 ghost use Rattle.scalar.specs.Calls.{scalarOf};
+ghost use Rattle.cells.specs.Cells.{cellSize};
 ghost use Rattle.matrix.specs.Matrix.{identified};
 
 // Entry (r, c) of the identity.
@@ -20,7 +22,7 @@ fn unit_entry(r: usize, c: usize) -> Scalar
 
 // Write the identity of d rows and columns to `at` on.
 pub fn identity_into(buf: &mut [i64], at: usize, d: usize)
-    requires { ⌜ at + d * d * 5 ≤ length (now buf) ⌝ }
+    requires { ⌜ at + d * d * cellSize ≤ length (now buf) ⌝ }
     ensures { λ _. ⌜ now (buf .exit) ≡ identified (now (buf .entry)) at d ⌝ }
 {
     let n = d * d;
@@ -29,7 +31,7 @@ pub fn identity_into(buf: &mut [i64], at: usize, d: usize)
         let r = i / d;
         let c = i % d;
         let v = unit_entry(r, c);
-        let to = at + i * 5;
+        let to = at + i * CELL;
         write_cell(buf, to, v);
         i += 1;
     }

@@ -1,6 +1,7 @@
 // Rows of numbers in words: one multiplied, or two multiplied and added.
 use super::words::clear;
 use super::words::copy;
+use cells::CELL;
 use cells::read_cell;
 use cells::write_cell;
 use cells::zero_at;
@@ -9,7 +10,7 @@ use scalar::ZERO;
 use scalar::products::sum_of_products;
 use scalar::products::times;
 ghost use mathlib.Core.Path.{_≡_};
-ghost use Rattle.exact.specs.Exact.{exact};
+ghost use Rattle.exact.specs.Exact.{exact, narrowExponent};
 ghost use Rattle.exact.specs.Inner.{Coords};
 ghost use Rattle.scalar.specs.Calls.{value};
 ghost use Rattle.cells.specs.Cells.{cellAt, fill};
@@ -17,7 +18,7 @@ ghost use Rattle.matrix.specs.Factors.{Factor, Scaling, scaledRow, combi
 
 // x times the number at q; a zero is passed over.
 fn scaled_entry(buf: &[i64], x: Scalar, q: usize) -> Scalar
-    requires { ⌜ Coords 1 28 (value x) × Factor (now buf) q ⌝ }
+    requires { ⌜ Coords 1 narrowExponent (value x) × Factor (now buf) q ⌝ }
     ensures { λ v. ⌜ value v ≡ exact ._⊗_ (value x) (cellAt (now (buf .entry)) q) ⌝ }
 {
     if zero_at(buf, q) {
@@ -29,7 +30,7 @@ fn scaled_entry(buf: &[i64], x: Scalar, q: usize) -> Scalar
 
 // x times the number at p plus y times the number at q; zeros are passed over.
 fn combined_entry(buf: &[i64], x: Scalar, p: usize, y: Scalar, q: usize) -> Scalar
-    requires { ⌜ (Coords 1 28 (value x) × Factor (now buf) p) × (Coords 1 28 (value y) × Factor (now buf) q) ⌝ }
+    requires { ⌜ (Coords 1 narrowExponent (value x) × Factor (now buf) p) × (Coords 1 narrowExponent (value y) × Factor (now buf) q) ⌝ }
     ensures { λ v. ⌜ value v ≡ exact ._⊕_ (exact ._⊗_ (value x) (cellAt (now (buf .entry)) p)) (exact ._⊗_ (value y) (cellAt (now (buf .entry)) q)) ⌝ }
 {
     if zero_at(buf, p) {
@@ -50,9 +51,9 @@ fn multiply_row(buf: &mut [i64], x: Scalar, from: usize, to: usize, d: usize)
 {
     let mut c = 0;
     while c < d {
-        let q = from + c * 5;
+        let q = from + c * CELL;
         let v = scaled_entry(buf, x, q);
-        let at = to + c * 5;
+        let at = to + c * CELL;
         write_cell(buf, at, v);
         c += 1;
     }
@@ -64,11 +65,11 @@ fn scale_row(buf: &mut [i64], x: Scalar, from: usize, to: usize, d: usize)
     ensures { λ _. ⌜ now (buf .exit) ≡ fill (now (buf .entry)) to d (scaledRow (now (buf .entry)) (value x) from) ⌝ }
 {
     if x.is_zero() {
-        clear(buf, to, d * 5);
+        clear(buf, to, d * CELL);
         return;
     }
     if x.is_one() {
-        copy(buf, from, to, d * 5);
+        copy(buf, from, to, d * CELL);
         return;
     }
     multiply_row(buf, x, from, to, d);
@@ -81,10 +82,10 @@ fn add_rows(buf: &mut [i64], x: Scalar, p: usize, y: Scalar, q: usize, to: usize
 {
     let mut c = 0;
     while c < d {
-        let a = p + c * 5;
-        let b = q + c * 5;
+        let a = p + c * CELL;
+        let b = q + c * CELL;
         let v = combined_entry(buf, x, a, y, b);
-        let at = to + c * 5;
+        let at = to + c * CELL;
         write_cell(buf, at, v);
         c += 1;
     }

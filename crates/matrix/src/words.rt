@@ -1,10 +1,12 @@
 // Words cleared, copied, and tested for zero.
+use cells::CELL;
 use cells::zero_at;
 ghost use mathlib.Core.Path.{_≡_};
 ghost use Prim.Native.Nat.{ℕ, _+_, _*_, _≤_};
 ghost use lib.ListN.{length, getD};
 ghost use lib.IntN.{pos};
 ghost use Rattle.algebra.specs.Words.{fillWords, Apart};
+ghost use Rattle.cells.specs.Cells.{cellSize};
 ghost use Rattle.matrix.specs.Matrix.{zeros};
 
 // Set n words from `at` on to zero.
@@ -34,12 +36,12 @@ pub fn copy(s: &mut [i64], from: usize, to: usize, n: usize)
 
 // Whether n entries from `at` on are zero.
 pub fn is_zero(s: &[i64], at: usize, n: usize) -> bool
-    requires { ⌜ at + n * 5 ≤ length (now s) ⌝ }
+    requires { ⌜ at + n * cellSize ≤ length (now s) ⌝ }
     ensures { λ r. ⌜ r ≡ zeros (now (s .entry)) at n ⌝ }
 {
     let mut i = 0;
     while i < n {
-        if !zero_at(s, at + i * 5) {
+        if !zero_at(s, at + i * CELL) {
             return false;
         }
         i += 1;

@@ -18,18 +18,6 @@ use ranges::are_narrow;
 use ranges::are_well_formed;
 use verdict::Verdict;
 
-// The numerators lie from −2^60 to 2^60.
-pub const MAX_NUMERATOR: i64 = 1152921504606846976;
-
-// The exponents lie from 0 to 60.
-pub const MAX_EXPONENT: u32 = 60;
-
-// A narrow scalar's numerators lie from −2^28 to 2^28.
-pub const NARROW_NUMERATOR: i64 = 268435456;
-
-// A narrow scalar's exponent lies from 0 to 28.
-pub const NARROW_EXPONENT: u32 = 28;
-
 // (n[0] + n[1]·√2 + n[2]·i + n[3]·i·√2) / 2^e
 pub struct Scalar {
     pub n: [i64; 4],

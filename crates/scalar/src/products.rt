@@ -6,13 +6,13 @@ use exact::numerators::conj_product;
 use exact::numerators::product;
 ghost use mathlib.Core.Path.{_≡_};
 ghost use Prim.Native.Nat.{_+_};
-ghost use Rattle.exact.specs.Exact.{exact, conj};
+ghost use Rattle.exact.specs.Exact.{exact, conj, narrowExponent};
 ghost use Rattle.exact.specs.Inner.{Coords, Room};
 ghost use Rattle.scalar.specs.Calls.{value, scalarOf};
 
 // acc + x·y
 pub fn fma(acc: Scalar, x: Scalar, y: Scalar) -> Scalar
-    requires { ⌜ Room (x .e + y .e) (value acc) × (Coords 1 28 (value x) × Coords 1 28 (value y)) ⌝ }
+    requires { ⌜ Room (x .e + y .e) (value acc) × (Coords 1 narrowExponent (value x) × Coords 1 narrowExponent (value y)) ⌝ }
     ensures { λ r. ⌜ r ≡ scalarOf (exact ._⊕_ (value acc) (exact ._⊗_ (value x) (value y))) ⌝ }
 {
     let u = x.n;
@@ -30,7 +30,7 @@ pub fn fma(acc: Scalar, x: Scalar, y: Scalar) -> Scalar
 
 // x·y, in lowest form.
 pub fn times(x: Scalar, y: Scalar) -> Scalar
-    requires { ⌜ Coords 1 28 (value x) × Coords 1 28 (value y) ⌝ }
+    requires { ⌜ Coords 1 narrowExponent (value x) × Coords 1 narrowExponent (value y) ⌝ }
     ensures { λ r. ⌜ r ≡ scalarOf (exact ._⊗_ (value x) (value y)) ⌝ }
 {
     let u = x.n;
@@ -42,7 +42,7 @@ pub fn times(x: Scalar, y: Scalar) -> Scalar
 
 // x times the conjugate of y, in lowest form.
 pub fn times_conj(x: Scalar, y: Scalar) -> Scalar
-    requires { ⌜ Coords 1 28 (value x) × Coords 1 28 (value y) ⌝ }
+    requires { ⌜ Coords 1 narrowExponent (value x) × Coords 1 narrowExponent (value y) ⌝ }
     ensures { λ r. ⌜ r ≡ scalarOf (exact ._⊗_ (value x) (conj (value y))) ⌝ }
 {
     let u = x.n;
@@ -54,7 +54,7 @@ pub fn times_conj(x: Scalar, y: Scalar) -> Scalar
 
 // x·p + y·q, put into lowest form once.
 pub fn sum_of_products(x: Scalar, p: Scalar, y: Scalar, q: Scalar) -> Scalar
-    requires { ⌜ (Coords 1 28 (value x) × Coords 1 28 (value p)) × (Coords 1 28 (value y) × Coords 1 28 (value q)) ⌝ }
+    requires { ⌜ (Coords 1 narrowExponent (value x) × Coords 1 narrowExponent (value p)) × (Coords 1 narrowExponent (value y) × Coords 1 narrowExponent (value q)) ⌝ }
     ensures { λ r. ⌜ r ≡ scalarOf (exact ._⊕_ (exact ._⊗_ (value x) (value p)) (exact ._⊗_ (value y) (value q))) ⌝ }
 {
     let a = x.n;

@@ -1,10 +1,10 @@
 // Ranges, lowest forms and equality: the questions that are asked of scalars.
-use super::MAX_EXPONENT;
-use super::MAX_NUMERATOR;
-use super::NARROW_EXPONENT;
-use super::NARROW_NUMERATOR;
 use super::ONE;
 use super::Scalar;
+use exact::MAX_EXPONENT;
+use exact::MAX_NUMERATOR;
+use exact::NARROW_EXPONENT;
+use exact::NARROW_NUMERATOR;
 use exact::ranges::all_even;
 use exact::ranges::all_zero;
 use exact::ranges::are_within;

@@ -14,7 +14,7 @@ use Rattle.exact.proofs.Overflow.{can-scale}
 use Rattle.exact.proofs.ranges.can_scale.Statement.{statement}
 use Rattle.exact.proofs.ranges.can_scale.Tie as tie
 
--- `2^61 >> d`
+-- `ROOM_NUMERATOR >> d`
 shifted : (d : ℕ) → toZ w64 (roomNumerator / 2 ^ d) ≡ pos (roomNumerator / 2 ^ d)
 shifted d = toZ-pos w64 (lt-of-le-of-lt (div-le-self roomNumerator (2 ^ d)) (lit< tt))
 

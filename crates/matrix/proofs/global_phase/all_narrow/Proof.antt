@@ -10,7 +10,7 @@ use Rattle.algebra.proofs.Tests.{and-split, all-at, all-step, all-no}
 use Rattle.exact.specs.Exact.{wellFormed, narrow}
 use Rattle.scalar.specs.declared.Scalar.{Scalar}
 use Rattle.scalar.specs.Calls.{value}
-use Rattle.cells.specs.Cells.{exponentAt}
+use Rattle.cells.specs.Cells.{exponentAt, cellSize}
 use Rattle.matrix.specs.Phase.{entryOf}
 use Rattle.matrix.proofs.global_phase.all_narrow.Statement.{statement}
 use Rattle.matrix.proofs.global_phase.all_narrow.Tie as tie
@@ -34,7 +34,7 @@ read-cell-requires : tie.Need-read-cell-requires Inv-loop μ-loop
 read-cell-requires c κs =
     let s = c .before .before in
     let i = c .before .loop .i in
-    (omega arith, and-split (exponentAt (s .args .s .now) (i * 5)) (wellFormed (entryOf (s .args .s .now) i)) (all-at (s .args .n) _ (s .pre .1) i (c .loop-test .taken)) .0)
+    (omega arith, and-split (exponentAt (s .args .s .now) (i * cellSize)) (wellFormed (entryOf (s .args .s .now) i)) (all-at (s .args .n) _ (s .pre .1) i (c .loop-test .taken)) .0)
 
 is-narrow-requires : tie.Need-is-narrow-requires Inv-loop μ-loop
 is-narrow-requires c κs = search needs

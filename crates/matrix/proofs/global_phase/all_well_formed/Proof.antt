@@ -6,12 +6,12 @@ use native.Mathlib.Omega.{arith}
 use borrow.Author.Tests.{not-true, not-false}
 use Rattle.algebra.specs.Lists.{allBelow}
 use Rattle.algebra.proofs.Tests.{all-step, all-no}
-use Rattle.cells.specs.Cells.{wellFormedAt}
+use Rattle.cells.specs.Cells.{wellFormedAt, cellSize}
 use Rattle.matrix.proofs.global_phase.all_well_formed.Statement.{statement}
 use Rattle.matrix.proofs.global_phase.all_well_formed.Tie as tie
 
 abbrev Inv-loop : tie.InvT-loop
-Inv-loop s n i₀ i = (i ≤ n) × (allBelow i (λ (k : ℕ). wellFormedAt s (k * 5)) ≡ true)
+Inv-loop s n i₀ i = (i ≤ n) × (allBelow i (λ (k : ℕ). wellFormedAt s (k * cellSize)) ≡ true)
 
 abbrev μ-loop : tie.MeasureT-loop
 μ-loop s n i₀ i = n - i
@@ -47,7 +47,7 @@ returns-2 : tie.Need-returns-2 Inv-loop μ-loop
 returns-2 c =
     let l = c .before in
     let e : l .loop .i ≡ l .before .args .n = omega arith in
-    sym (ap (λ (n : ℕ). allBelow n (λ (k : ℕ). wellFormedAt (l .before .args .s .now) (k * 5))) (sym e) ∙ l .loop .inv .1)
+    sym (ap (λ (n : ℕ). allBelow n (λ (k : ℕ). wellFormedAt (l .before .args .s .now) (k * cellSize))) (sym e) ∙ l .loop .inv .1)
 
 pub all-well-formed-spec : {M : Type 1} → statement M
 all-well-formed-spec =

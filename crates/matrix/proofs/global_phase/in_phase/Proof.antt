@@ -4,7 +4,7 @@ use Prim.Native.Nat.{ℕ, _*_, _≤_, _<_}
 use native.Mathlib.Nat.{zero-add}
 use native.Mathlib.Omega.{arith}
 use Rattle.algebra.specs.Lists.{allBelow}
-use Rattle.cells.specs.Cells.{zeroAt}
+use Rattle.cells.specs.Cells.{zeroAt, cellSize}
 use Rattle.matrix.specs.Phase.{entryOf, inPhaseAt}
 use Rattle.matrix.proofs.GlobalPhase.{phase-pivot, phase-none}
 use Rattle.matrix.proofs.global_phase.in_phase.Statement.{statement}
@@ -31,7 +31,7 @@ returns-2 : tie.Need-returns-2
 returns-2 c =
     let i = c .before .before in
     let s = i .before .args in
-    c .is-zero .ensures ∙ (λ t. allBelow (s .n) (λ (k : ℕ). zeroAt (s .right .now) (zero-add (k * 5) t)))
+    c .is-zero .ensures ∙ (λ t. allBelow (s .n) (λ (k : ℕ). zeroAt (s .right .now) (zero-add (k * cellSize) t)))
     ∙ sym (phase-none (s .n) (entryOf (s .left .now)) (entryOf (s .right .now)) (subst (λ (k : ℕ). s .n ≤ k) (i .first-nonzero .ensures) (c .before .if1 .left)))
 
 pub in-phase-spec : {M : Type 1} → statement M

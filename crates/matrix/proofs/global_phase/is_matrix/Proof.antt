@@ -7,7 +7,7 @@ use lib.Dec.{eqb}
 use lib.ListN.{length}
 use borrow.Author.Tests.{not-true, not-false, eq-eqb, ne-eqb}
 use Rattle.algebra.specs.Lists.{allBelow}
-use Rattle.cells.specs.Cells.{wellFormedAt}
+use Rattle.cells.specs.Cells.{wellFormedAt, cellSize}
 use Rattle.matrix.specs.Phase.{isDim}
 use Rattle.matrix.proofs.Questions.{square-small}
 use borrow.Author.Needs.{needs}
@@ -21,7 +21,7 @@ is-dim-requires : tie.Need-is-dim-requires
 is-dim-requires c κs = search needs
 
 returns : tie.Need-returns
-returns c = let s = c .before .before .args in sym (ap (λ (b : Bool). b && (eqb (length (s .s .now)) (s .d * s .d * 5) && allBelow (s .d * s .d) (λ (i : ℕ). wellFormedAt (s .s .now) (i * 5)))) (sym (c .before .is-dim .ensures) ∙ not-true _ (c .if1 .taken)))
+returns c = let s = c .before .before .args in sym (ap (λ (b : Bool). b && (eqb (length (s .s .now)) (s .d * s .d * cellSize) && allBelow (s .d * s .d) (λ (i : ℕ). wellFormedAt (s .s .now) (i * cellSize)))) (sym (c .before .is-dim .ensures) ∙ not-true _ (c .if1 .taken)))
 
 mul-if2 : tie.Need-mul-if2
 mul-if2 c = omega (arith, square-small (c .before .before .args .d) (is-dim c))
@@ -32,7 +32,7 @@ mul-if2-2 c = omega (arith, square-small (c .before .before .args .d) (is-dim c)
 returns-2 : tie.Need-returns-2
 returns-2 c =
     let s = c .before .before .before .args in
-    sym (λ i. is-dim (c .before) i && (ne-eqb (length (s .s .now)) (s .d * s .d * 5) (c .if2 .taken) i && allBelow (s .d * s .d) (λ (i : ℕ). wellFormedAt (s .s .now) (i * 5))))
+    sym (λ i. is-dim (c .before) i && (ne-eqb (length (s .s .now)) (s .d * s .d * cellSize) (c .if2 .taken) i && allBelow (s .d * s .d) (λ (i : ℕ). wellFormedAt (s .s .now) (i * cellSize))))
 
 mul-all-well-formed : tie.Need-mul-all-well-formed
 mul-all-well-formed c = omega (arith, square-small (c .before .before .before .args .d) (is-dim (c .before)))
@@ -44,7 +44,7 @@ returns-3 : tie.Need-returns-3
 returns-3 c =
     let w = c .before in
     let s = w .before .before .before .args in
-    c .all-well-formed .ensures ∙ sym (λ i. is-dim (w .before) i && (eq-eqb (length (s .s .now)) (s .d * s .d * 5) (w .if2 .left) i && allBelow (s .d * s .d) (λ (i : ℕ). wellFormedAt (s .s .now) (i * 5))))
+    c .all-well-formed .ensures ∙ sym (λ i. is-dim (w .before) i && (eq-eqb (length (s .s .now)) (s .d * s .d * cellSize) (w .if2 .left) i && allBelow (s .d * s .d) (λ (i : ℕ). wellFormedAt (s .s .now) (i * cellSize))))
 
 pub is-matrix-spec : {M : Type 1} → statement M
 is-matrix-spec =

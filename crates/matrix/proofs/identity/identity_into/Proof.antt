@@ -8,14 +8,14 @@ use Rattle.algebra.proofs.Blocks.{Writing, begin, again, done, long}
 use Rattle.exact.specs.Exact.{exact}
 use Rattle.scalar.specs.declared.Scalar.{Scalar}
 use Rattle.scalar.specs.Calls.{value}
-use Rattle.cells.specs.Cells.{cellWords}
+use Rattle.cells.specs.Cells.{cellWords, cellSize}
 use Rattle.matrix.proofs.Terms.{dim-pos}
 use borrow.Author.Needs.{needs}
 use Rattle.matrix.proofs.identity.identity_into.Statement.{statement}
 use Rattle.matrix.proofs.identity.identity_into.Tie as tie
 
 abbrev Inv-loop : tie.InvT-loop
-Inv-loop buf₀ at d n i₀ buf i = Writing 5 buf₀ at (d * d) (λ (i : ℕ). cellWords (δ exact (i / d) (i % d))) buf i
+Inv-loop buf₀ at d n i₀ buf i = Writing cellSize buf₀ at (d * d) (λ (i : ℕ). cellWords (δ exact (i / d) (i % d))) buf i
 
 abbrev μ-loop : tie.MeasureT-loop
 μ-loop buf₀ at d n i₀ buf i = d * d - i
@@ -24,7 +24,7 @@ mul-n : tie.Need-mul-n Inv-loop μ-loop
 mul-n c = omega arith
 
 loop-holds : tie.Need-loop-holds Inv-loop μ-loop
-loop-holds c = begin (λ k. le-refl 5)
+loop-holds c = begin (λ k. le-refl cellSize)
 
 div-r : tie.Need-div-r Inv-loop μ-loop
 div-r c = dim-pos _ _ (c .loop-test .taken)

@@ -7,7 +7,7 @@ use lib.ListN.{length}
 use Rattle.algebra.proofs.Blocks.{Writing, begin, again, done, long, kept, Same, cut, block-in}
 use Rattle.exact.specs.Exact.{exact}
 use Rattle.scalar.specs.Calls.{value}
-use Rattle.cells.specs.Cells.{cellWords}
+use Rattle.cells.specs.Cells.{cellWords, cellSize}
 use Rattle.cells.proofs.Cell.{cell-same}
 use Rattle.matrix.specs.Factors.{combinedRow}
 use Rattle.matrix.proofs.Terms.{factor-same}
@@ -15,29 +15,29 @@ use Rattle.matrix.proofs.linear.add_rows.Statement.{statement}
 use Rattle.matrix.proofs.linear.add_rows.Tie as tie
 
 abbrev Inv-loop : tie.InvT-loop
-Inv-loop buf₀ x p y q to d c₀ buf c = Writing 5 buf₀ to d (λ (k : ℕ). cellWords (combinedRow buf₀ (value x) p (value y) q k)) buf c
+Inv-loop buf₀ x p y q to d c₀ buf c = Writing cellSize buf₀ to d (λ (k : ℕ). cellWords (combinedRow buf₀ (value x) p (value y) q k)) buf c
 
 abbrev μ-loop : tie.MeasureT-loop
 μ-loop buf₀ x p y q to d c₀ buf c = d - c
 
 loop-holds : tie.Need-loop-holds Inv-loop μ-loop
-loop-holds c = begin (λ k. le-refl 5)
+loop-holds c = begin (λ k. le-refl cellSize)
 
 module _ (t : tie.In-loop Inv-loop μ-loop) where
   abbrev s : tie.Start Inv-loop μ-loop
   s = t .before .before
 
-  p-in : s .args .p + t .before .loop .c * 5 + 5 ≤ length (s .args .buf .now)
+  p-in : s .args .p + t .before .loop .c * cellSize + cellSize ≤ length (s .args .buf .now)
   p-in = s .pre .0 .factor (t .before .loop .c) (t .loop-test .taken) .room
 
-  q-in : s .args .q + t .before .loop .c * 5 + 5 ≤ length (s .args .buf .now)
+  q-in : s .args .q + t .before .loop .c * cellSize + cellSize ≤ length (s .args .buf .now)
   q-in = s .pre .1 .factor (t .before .loop .c) (t .loop-test .taken) .room
 
-  left : Same (t .before .loop .buf) (s .args .buf .now) (s .args .p + t .before .loop .c * 5) 5
-  left = cut (kept (t .before .loop .inv) (s .args .p) (s .args .d * 5) (s .pre .0 .apart)) 5 (t .before .loop .c) (block-in (t .loop-test .taken) 5)
+  left : Same (t .before .loop .buf) (s .args .buf .now) (s .args .p + t .before .loop .c * cellSize) cellSize
+  left = cut (kept (t .before .loop .inv) (s .args .p) (s .args .d * cellSize) (s .pre .0 .apart)) cellSize (t .before .loop .c) (block-in (t .loop-test .taken) cellSize)
 
-  right : Same (t .before .loop .buf) (s .args .buf .now) (s .args .q + t .before .loop .c * 5) 5
-  right = cut (kept (t .before .loop .inv) (s .args .q) (s .args .d * 5) (s .pre .1 .apart)) 5 (t .before .loop .c) (block-in (t .loop-test .taken) 5)
+  right : Same (t .before .loop .buf) (s .args .buf .now) (s .args .q + t .before .loop .c * cellSize) cellSize
+  right = cut (kept (t .before .loop .inv) (s .args .q) (s .args .d * cellSize) (s .pre .1 .apart)) cellSize (t .before .loop .c) (block-in (t .loop-test .taken) cellSize)
 
 mul-a : tie.Need-mul-a Inv-loop μ-loop
 mul-a c = omega (arith, p-in c)

@@ -1,6 +1,6 @@
 -- `matrix::linear::combined_entry` meets its contract.
 use mathlib.Core.Path.{sym, ap, _∙_, subst}
-use Rattle.exact.specs.Exact.{Exact, exact}
+use Rattle.exact.specs.Exact.{Exact, exact, narrowExponent}
 use Rattle.exact.specs.Inner.{Coords}
 use Rattle.exact.proofs.Exact.{mul-lowest}
 use Rattle.scalar.specs.declared.Scalar.{Scalar}
@@ -47,7 +47,7 @@ times-requires : tie.Need-times-requires
 times-requires c κs =
     let r = c .before .before in
     let s = r .before .before .before in
-    (s .pre .0 .0, subst (λ (v : Scalar). Coords 1 28 (value v)) (sym (r .read-cell .ensures)) (s .pre .0 .1 .coords))
+    (s .pre .0 .0, subst (λ (v : Scalar). Coords 1 narrowExponent (value v)) (sym (r .read-cell .ensures)) (s .pre .0 .1 .coords))
 
 returns-2 : tie.Need-returns-2
 returns-2 c =
@@ -65,8 +65,8 @@ sum-of-products-requires : tie.Need-sum-of-products-requires
 sum-of-products-requires c κs =
     let r = c .before .before .before in
     let s = r .before .before .before in (
-      (s .pre .0 .0, subst (λ (v : Scalar). Coords 1 28 (value v)) (sym (r .read-cell .ensures)) (s .pre .0 .1 .coords)),
-      (s .pre .1 .0, subst (λ (v : Scalar). Coords 1 28 (value v)) (sym (c .read-cell2 .ensures)) (s .pre .1 .1 .coords)),
+      (s .pre .0 .0, subst (λ (v : Scalar). Coords 1 narrowExponent (value v)) (sym (r .read-cell .ensures)) (s .pre .0 .1 .coords)),
+      (s .pre .1 .0, subst (λ (v : Scalar). Coords 1 narrowExponent (value v)) (sym (c .read-cell2 .ensures)) (s .pre .1 .1 .coords)),
     )
 
 returns-3 : tie.Need-returns-3

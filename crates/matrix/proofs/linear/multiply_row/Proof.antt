@@ -7,7 +7,7 @@ use lib.ListN.{length}
 use Rattle.algebra.proofs.Blocks.{Writing, begin, again, done, long, kept, Same, cut, block-in}
 use Rattle.exact.specs.Exact.{exact}
 use Rattle.scalar.specs.Calls.{value}
-use Rattle.cells.specs.Cells.{cellWords}
+use Rattle.cells.specs.Cells.{cellWords, cellSize}
 use Rattle.cells.proofs.Cell.{cell-same}
 use Rattle.matrix.specs.Factors.{scaledRow}
 use Rattle.matrix.proofs.Terms.{factor-same}
@@ -15,23 +15,23 @@ use Rattle.matrix.proofs.linear.multiply_row.Statement.{statement}
 use Rattle.matrix.proofs.linear.multiply_row.Tie as tie
 
 abbrev Inv-loop : tie.InvT-loop
-Inv-loop buf₀ x from to d c₀ buf c = Writing 5 buf₀ to d (λ (k : ℕ). cellWords (scaledRow buf₀ (value x) from k)) buf c
+Inv-loop buf₀ x from to d c₀ buf c = Writing cellSize buf₀ to d (λ (k : ℕ). cellWords (scaledRow buf₀ (value x) from k)) buf c
 
 abbrev μ-loop : tie.MeasureT-loop
 μ-loop buf₀ x from to d c₀ buf c = d - c
 
 loop-holds : tie.Need-loop-holds Inv-loop μ-loop
-loop-holds c = begin (λ k. le-refl 5)
+loop-holds c = begin (λ k. le-refl cellSize)
 
 module _ (t : tie.In-loop Inv-loop μ-loop) where
   abbrev s : tie.Start Inv-loop μ-loop
   s = t .before .before
 
-  q-in : s .args .from + t .before .loop .c * 5 + 5 ≤ length (s .args .buf .now)
+  q-in : s .args .from + t .before .loop .c * cellSize + cellSize ≤ length (s .args .buf .now)
   q-in = s .pre .factor (t .before .loop .c) (t .loop-test .taken) .room
 
-  src : Same (t .before .loop .buf) (s .args .buf .now) (s .args .from + t .before .loop .c * 5) 5
-  src = cut (kept (t .before .loop .inv) (s .args .from) (s .args .d * 5) (s .pre .apart)) 5 (t .before .loop .c) (block-in (t .loop-test .taken) 5)
+  src : Same (t .before .loop .buf) (s .args .buf .now) (s .args .from + t .before .loop .c * cellSize) cellSize
+  src = cut (kept (t .before .loop .inv) (s .args .from) (s .args .d * cellSize) (s .pre .apart)) cellSize (t .before .loop .c) (block-in (t .loop-test .taken) cellSize)
 
 mul-q : tie.Need-mul-q Inv-loop μ-loop
 mul-q c = omega (arith, q-in c)

@@ -1,6 +1,6 @@
 -- `matrix::linear::scaled_entry` meets its contract.
 use mathlib.Core.Path.{sym, ap, _∙_, subst}
-use Rattle.exact.specs.Exact.{exact}
+use Rattle.exact.specs.Exact.{exact, narrowExponent}
 use Rattle.exact.specs.Inner.{Coords}
 use Rattle.scalar.specs.declared.Scalar.{Scalar}
 use Rattle.scalar.specs.Calls.{value}
@@ -25,7 +25,7 @@ read-cell-requires c κs = search needs
 times-requires : tie.Need-times-requires
 times-requires c κs =
     let s = c .before .before .before in
-    (s .pre .0, subst (λ (v : Scalar). Coords 1 28 (value v)) (sym (c .read-cell .ensures)) (s .pre .1 .coords))
+    (s .pre .0, subst (λ (v : Scalar). Coords 1 narrowExponent (value v)) (sym (c .read-cell .ensures)) (s .pre .1 .coords))
 
 returns-2 : tie.Need-returns-2
 returns-2 c =
