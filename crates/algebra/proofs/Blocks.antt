@@ -10,7 +10,8 @@ use native.Mathlib.Omega.{arith}
 use lib.ListN.{length, getD, set, take, drop, length-set, length-take, length-append, List·getD-append}
 use lib.Seq.{sets, sets-eq, take-at, drop-at, ext-getD, getD-append-add, length-sets, getD-set-same, getD-set-other}
 use lib.IntN.{ℤ, pos}
-use Rattle.algebra.specs.Words.{blocks, fillWords, Apart, joined}
+use Rattle.algebra.specs.Words.{blocks, fillWords, joined}
+use Rattle.algebra.specs.Inner.Apart.{Apart}
 
 -- ---- a run of stores
 module _ {A : Type 0} where

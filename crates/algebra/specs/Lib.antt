@@ -5,3 +5,4 @@ pub mod Sum
 pub mod Lists
 pub mod Schedule
 pub mod Words
+pub mod Inner

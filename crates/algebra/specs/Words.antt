@@ -1,8 +1,7 @@
 -- Words: tests of them, and words written into a list, block after block.
 use mathlib.Core.Bool.{Bool, false}
 use mathlib.Core.List.{List, [], _∷_, _++_}
-use mathlib.Core.Logic.{_⊎_}
-use Prim.Native.Nat.{ℕ, zero, suc, _+_, _*_, _≤_}
+use Prim.Native.Nat.{ℕ, zero, suc, _+_, _*_}
 use lib.Dec.{eqb, leb}
 use lib.IntN.{ℤ, pos, negsuc}
 use lib.Seq.{sets}
@@ -26,10 +25,6 @@ blocks s l at (suc n) f = sets (blocks s l at n f) (at + n * s) (f n)
 -- n words written from `at` on
 abbrev pub fillWords : List ℤ → ℕ → ℕ → (ℕ → ℤ) → List ℤ
 fillWords l at n f = blocks 1 l at n (λ (i : ℕ). f i ∷ [])
-
--- m words from a on and n words from b on do not overlap
-abbrev pub Apart : ℕ → ℕ → ℕ → ℕ → Type 0
-Apart a m b n = (a + m ≤ b) ⊎ (b + n ≤ a)
 
 -- the blocks f 0, f 1, .., f (n − 1), end to end
 unfoldable pub joined : ℕ → (ℕ → List ℤ) → List ℤ

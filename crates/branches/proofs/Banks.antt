@@ -14,12 +14,12 @@ use Rattle.algebra.specs.Words.{fromBits, blocks, upTo}
 use Rattle.algebra.proofs.Lists.{concat-length, concat-at}
 use Rattle.algebra.proofs.Blocks.{Same, length-blocks, blocks-at, block-in, append-block}
 use Rattle.exact.specs.Exact.{Exact, exact, maxExponent}
-use Rattle.exact.specs.Inner.{Coords}
+use Rattle.exact.specs.Inner.Sizes.{Coords}
 use Rattle.cells.specs.Cells.{cellWords, cellAt, exponentAt, cells}
 use Rattle.cells.proofs.Cell.{cell-is, exponent-is, length-cells, cells-at, cells-same, fill-block}
 use Rattle.store.specs.Store.{maxWord}
-use Rattle.matrix.specs.Matrix.{identified}
-use Rattle.matrix.specs.Factors.{Factor}
+use Rattle.matrix.specs.Inner.Written.{identified}
+use Rattle.matrix.specs.Inner.Factors.{Factor}
 use Rattle.kraus.specs.Dense.{table}
 use Rattle.kraus.specs.Branch.{Store, Branch}
 use Rattle.kraus.proofs.Dense.{tabulate-at}

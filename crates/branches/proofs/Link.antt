@@ -15,13 +15,13 @@ use Rattle.algebra.specs.Words.{blocks}
 use Rattle.algebra.proofs.Lists.{all-getD, concat-length, concat-at}
 use Rattle.algebra.proofs.Sum.{times-same}
 use Rattle.exact.specs.Exact.{Exact, exact, isLowest}
-use Rattle.exact.specs.Inner.{Coords}
+use Rattle.exact.specs.Inner.Sizes.{Coords}
 use Rattle.exact.proofs.Exact.{exacts}
 use Rattle.exact.proofs.Sizes.{well-lowest}
 use Rattle.cells.specs.Cells.{cellAt}
 use Rattle.cells.proofs.Cell.{cells-same}
 use Rattle.matrix.specs.Matrix as matrix
-use Rattle.matrix.specs.Factors.{Factor}
+use Rattle.matrix.specs.Inner.Factors.{Factor}
 use Rattle.matrix.proofs.Terms.{row-lt, column-lt}
 use Rattle.gate.specs.Gate.{Gate, valid}
 use Rattle.gate.specs.Operators.{Operator, operator, operators, noUnitary}

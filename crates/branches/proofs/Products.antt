@@ -18,15 +18,17 @@ use Rattle.algebra.proofs.Sum.{sum-two}
 use Rattle.algebra.proofs.Tests.{all-at}
 use Rattle.algebra.proofs.Blocks.{Writing, begin, long, kept, Same, part, cut, narrow, block-in, blocks-same, blocks-more}
 use Rattle.exact.specs.Exact.{Exact, exact, isLowest, maxExponent}
-use Rattle.exact.specs.Inner.{Coords}
+use Rattle.exact.specs.Inner.Sizes.{Coords}
 use Rattle.exact.proofs.Exact.{exacts}
-use Rattle.cells.specs.Cells.{cellAt, cellWords, exponentAt, zeroAt, fill}
+use Rattle.cells.specs.Cells.{cellAt, cellWords, exponentAt, fill}
+use Rattle.cells.specs.Inner.Zero.{zeroAt}
 use Rattle.cells.proofs.Cell.{cell-same}
 use Rattle.gate.specs.Gate.{Gate}
 use Rattle.gate.specs.Entries.{gateEntry, flips, partner, rowEntry, Ready}
 use Rattle.gate.proofs.Partner.{Two, row-two}
-use Rattle.matrix.specs.Matrix.{cell, written, zeros}
-use Rattle.matrix.specs.Factors.{Factor, Scaling, combinedRow}
+use Rattle.matrix.specs.Matrix.{cell}
+use Rattle.matrix.specs.Inner.Written.{written, zeros}
+use Rattle.matrix.specs.Inner.Factors.{Factor, Scaling, combinedRow}
 use Rattle.matrix.proofs.Terms.{by-zero, zero-first, row-lt, column-lt, factor-same}
 use Rattle.matrix.proofs.Rows.{zero-cells}
 use Rattle.branches.specs.Step.{rowSum, Applying, product, RowsAt}

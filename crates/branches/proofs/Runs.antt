@@ -12,7 +12,8 @@ use lib.ListN.{length, getD, take, List·getD-append}
 use lib.Seq.{sets, take-suc, take-all, length-sets}
 use lib.IntN.{ℤ, pos}
 use Rattle.algebra.specs.Lists.{All, total}
-use Rattle.algebra.specs.Words.{blocks, Apart}
+use Rattle.algebra.specs.Words.{blocks}
+use Rattle.algebra.specs.Inner.Apart.{Apart}
 use Rattle.algebra.proofs.Lists.{every-all, all-getD}
 use Rattle.algebra.proofs.Totals.{sub-whole, sub-take, sub-total}
 use Rattle.algebra.proofs.Blocks.{Writing, wrote, kept, long, block-in, sets-at, sets-above}

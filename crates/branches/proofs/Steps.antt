@@ -8,13 +8,14 @@ use lib.Bits.{bitAnd, and-mask}
 use lib.ListN.{length, length-append}
 use lib.Seq.{sets}
 use lib.IntN.{ℤ}
-use Rattle.algebra.specs.Words.{Apart, upTo}
+use Rattle.algebra.specs.Words.{upTo}
+use Rattle.algebra.specs.Inner.Apart.{Apart}
 use Rattle.algebra.proofs.Blocks.{Writing, again, kept, wrote, Same, same-trans, part, cut, narrow, block-in, append-block}
 use Rattle.exact.specs.Exact.{Exact, isLowest}
 use Rattle.cells.specs.Cells.{cells}
 use Rattle.cells.proofs.Cell.{fill-block, length-cells, cell-same, cells-same}
 use Rattle.store.specs.Store.{maxWord}
-use Rattle.matrix.specs.Matrix.{written}
+use Rattle.matrix.specs.Inner.Written.{written}
 use Rattle.matrix.proofs.Terms.{row-lt, column-lt, factor-same}
 use Rattle.store.specs.Inner.Held.{StoreAt}
 use Rattle.branches.specs.Store.{outcomePair, outcomeWords}

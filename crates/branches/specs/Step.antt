@@ -7,13 +7,13 @@ use lib.Bits.{bitXor}
 use lib.ListN.{length}
 use lib.IntN.{ℤ}
 use Rattle.algebra.specs.Sum.{times}
-use Rattle.algebra.specs.Words.{Apart}
+use Rattle.algebra.specs.Inner.Apart.{Apart}
 use Rattle.exact.specs.Exact.{Exact, exact, isLowest}
 use Rattle.cells.specs.Cells.{cellAt, exponentAt, cells}
 use Rattle.gate.specs.Gate.{Gate}
 use Rattle.gate.specs.Entries.{gateEntry, partner}
 use Rattle.matrix.specs.Matrix.{cell}
-use Rattle.matrix.specs.Factors.{Factor, combinedRow}
+use Rattle.matrix.specs.Inner.Factors.{Factor, combinedRow}
 use Rattle.store.specs.Inner.Held.{StoreAt}
 use Rattle.branches.specs.Store.{outcomeWords}
 use Rattle.branches.specs.Bank.{matrixSize, branchSize}

@@ -4,7 +4,7 @@ use matrix::linear::combine_rows;
 use matrix::words::clear;
 use matrix::words::is_zero;
 ghost use mathlib.Core.Path.{_≡_};
-ghost use Rattle.matrix.specs.Matrix.{written};
+ghost use Rattle.matrix.specs.Inner.Written.{written};
 ghost use Rattle.branches.specs.Step.{Applying, rowSum};
 
 // Write an operator times the matrix at `old` to `new`, row by row. Row r of the operator has entries in columns r and r ^ m alone, which lie at op + 10·r.

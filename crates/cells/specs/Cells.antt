@@ -6,7 +6,7 @@ use lib.ListN.{getD}
 use lib.IntN.{ℤ, pos, natAbs}
 use Rattle.algebra.specs.Dyadic.{frac}
 use Rattle.algebra.specs.Words.{upTo, blocks, joined}
-use Rattle.exact.specs.Exact.{Exact, number, maxExponent, wellFormed, isZero}
+use Rattle.exact.specs.Exact.{Exact, number, maxExponent, wellFormed}
 
 abbrev pub cellSize : ℕ
 cellSize = 5
@@ -25,9 +25,6 @@ exponentAt l at = upTo maxExponent (getD l (at + 4) (pos 0))
 -- the five words are a number in range and in lowest form
 abbrev pub wellFormedAt : List ℤ → ℕ → Bool
 wellFormedAt l at = exponentAt l at && wellFormed (cellAt l at)
-
-abbrev pub zeroAt : List ℤ → ℕ → Bool
-zeroAt l at = isZero (cellAt l at .num)
 
 -- n numbers written from `at` on
 abbrev pub fill : List ℤ → ℕ → ℕ → (ℕ → Exact) → List ℤ

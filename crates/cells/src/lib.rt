@@ -5,7 +5,8 @@ ghost use Prim.Native.Nat.{_+_, _≤_};
 ghost use lib.ListN.{length};
 ghost use lib.Seq.{sets};
 ghost use Rattle.scalar.specs.Calls.{value, scalarOf};
-ghost use Rattle.cells.specs.Cells.{cellAt, cellWords, exponentAt, wellFormedAt, zeroAt, cellSize};
+ghost use Rattle.cells.specs.Cells.{cellAt, cellWords, exponentAt, wellFormedAt, cellSize};
+ghost use Rattle.cells.specs.Inner.Zero.{zeroAt};
 use exact::MAX_EXPONENT;
 use scalar::Scalar;
 

@@ -16,11 +16,12 @@ use Rattle.algebra.specs.Words.{fillWords}
 use Rattle.algebra.proofs.Parts.{abs-neg}
 use Rattle.algebra.proofs.Blocks.{Writing, begin, wrote, long, kept, rest, Same, block-in, blocks-same, blocks-more}
 use Rattle.exact.specs.Exact.{Exact, exact, conj, isLowest, maxExponent, isZero}
-use Rattle.exact.specs.Inner.{Within, Room}
+use Rattle.exact.specs.Inner.Sizes.{Within, Room}
 use Rattle.exact.proofs.Exact.{exacts, conj-plus, conj-by, conj-conj}
-use Rattle.cells.specs.Cells.{cellAt, cellWords, exponentAt, zeroAt, fill}
+use Rattle.cells.specs.Cells.{cellAt, cellWords, exponentAt, fill}
+use Rattle.cells.specs.Inner.Zero.{zeroAt}
 use Rattle.cells.proofs.Cell.{cell-same, exponent-same, cell-filled, exponent-filled}
-use Rattle.matrix.specs.Factors.{Factor}
+use Rattle.matrix.specs.Inner.Factors.{Factor}
 use Rattle.matrix.proofs.Terms.{zero-by, zero-left, zero-right}
 use Rattle.matrix.proofs.Rows.{zero-cells}
 use Rattle.collect.specs.Overlap.{overlap, overlapped, blockOverlap, blockOverlapped, Readable, Sum, Row, Column, Mirrored, NewRow, AddedRow, NewBlock, Block}

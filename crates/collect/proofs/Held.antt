@@ -15,8 +15,8 @@ use Rattle.algebra.proofs.Lists.{all-getD, all-map, all-concat}
 use Rattle.algebra.proofs.Totals.{sub-whole, sub-filter, sub-take}
 use Rattle.algebra.proofs.Bits.{bits-below, bits-parts}
 use Rattle.exact.specs.Exact.{Exact, exact}
-use Rattle.exact.specs.Inner.{Room}
-use Rattle.matrix.specs.Factors.{Factor}
+use Rattle.exact.specs.Inner.Sizes.{Room}
+use Rattle.matrix.specs.Inner.Factors.{Factor}
 use Rattle.gate.specs.Gate.{Gate, valid, weight, splits}
 use Rattle.gate.specs.Operators.{Operator, operators}
 use Rattle.gate.proofs.Bits.{Word}

@@ -12,7 +12,7 @@ use Rattle.algebra.proofs.Parts.{abs-neg, abs-add}
 use Rattle.algebra.proofs.Quadratic.{ℤ√2i}
 use Rattle.algebra.proofs.Dyadic.{low-exp}
 use Rattle.exact.specs.Exact.{Exact, Number, numbers, numberHalves, exact, lowest, conj}
-use Rattle.exact.specs.Inner.{Within, Coords, Room, roomNumerator, roomExponent}
+use Rattle.exact.specs.Inner.Sizes.{Within, Coords, Room, roomNumerator, roomExponent}
 use Rattle.exact.proofs.Exact.{exacts, exactHalving}
 use Rattle.exact.proofs.Align.{widen, power-within, raised, scaled-none, aligned, fused, product-within, small}
 

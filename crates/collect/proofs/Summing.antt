@@ -14,7 +14,7 @@ use borrow.Author.Tests.{le-leb, eq-eqb, not-true}
 use Rattle.algebra.proofs.Tests.{and-split, all-at}
 use Rattle.algebra.proofs.Blocks.{Writing, wrote, long, length-blocks, block-in, blocks-same, blocks-over}
 use Rattle.exact.specs.Exact.{Exact, exact, conj, isLowest, maxExponent}
-use Rattle.exact.specs.Inner.{Room}
+use Rattle.exact.specs.Inner.Sizes.{Room}
 use Rattle.exact.proofs.Exact.{add-lowest, mul-lowest, zero-plus, conj-𝟘}
 use Rattle.cells.specs.Cells.{cellAt, cellWords, exponentAt, fill}
 use Rattle.cells.proofs.Cell.{cell-filled, exponent-filled}

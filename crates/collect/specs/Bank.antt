@@ -8,10 +8,10 @@ use lib.ListN.{length, getD}
 use lib.IntN.{ℤ}
 use Rattle.algebra.specs.Lists.{allBelow}
 use Rattle.exact.specs.Exact.{Exact, exact, conj}
-use Rattle.exact.specs.Inner.{Room}
+use Rattle.exact.specs.Inner.Sizes.{Room}
 use Rattle.cells.specs.Cells.{cellSize, cellAt}
-use Rattle.matrix.specs.Matrix.{zeros}
-use Rattle.matrix.specs.Factors.{Factor}
+use Rattle.matrix.specs.Inner.Written.{zeros}
+use Rattle.matrix.specs.Inner.Factors.{Factor}
 use Rattle.kraus.specs.Dense.{tabulate}
 use Rattle.kraus.specs.Branch as kraus
 use Rattle.store.specs.Store.{bits, storeFrom}

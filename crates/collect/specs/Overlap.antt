@@ -6,9 +6,10 @@ use Prim.Native.Nat.{ℕ, _+_, _*_, _/_, _%_, _^_, _<_, _≤_}
 use lib.ListN.{length}
 use lib.IntN.{ℤ}
 use Rattle.exact.specs.Exact.{Exact, exact, conj, isLowest}
-use Rattle.exact.specs.Inner.{Within, Room}
-use Rattle.cells.specs.Cells.{cellSize, cellAt, exponentAt, zeroAt}
-use Rattle.matrix.specs.Factors.{Factor}
+use Rattle.exact.specs.Inner.Sizes.{Within, Room}
+use Rattle.cells.specs.Cells.{cellSize, cellAt, exponentAt}
+use Rattle.cells.specs.Inner.Zero.{zeroAt}
+use Rattle.matrix.specs.Inner.Factors.{Factor}
 
 -- x times the conjugate of the number at q of m
 abbrev pub overlap : Exact → List ℤ → ℕ → Exact

@@ -13,10 +13,11 @@ ghost use Prim.Native.Nat.{_+_, _*_, _≤_};
 ghost use lib.ListN.{length};
 ghost use lib.Seq.{sets};
 ghost use Rattle.exact.specs.Exact.{conj};
-ghost use Rattle.exact.specs.Inner.{Coords};
+ghost use Rattle.exact.specs.Inner.Sizes.{Coords};
 ghost use Rattle.scalar.specs.Calls.{value, scalarOf};
-ghost use Rattle.cells.specs.Cells.{cellAt, cellWords, zeroAt, fill};
-ghost use Rattle.matrix.specs.Factors.{Factor};
+ghost use Rattle.cells.specs.Cells.{cellAt, cellWords, fill};
+ghost use Rattle.cells.specs.Inner.Zero.{zeroAt};
+ghost use Rattle.matrix.specs.Inner.Factors.{Factor};
 ghost use Rattle.collect.specs.Overlap.{overlap, overlapped, blockOverlap, blockOverlapped, Readable, Sum, Entries, Row, Column, Mirrored, NewRow, AddedRow, NewBlock, Block};
 ghost use Rattle.collect.specs.Bank.{Found};
 

@@ -16,7 +16,7 @@ use Rattle.algebra.proofs.Quadratic.{ℤ√2i}
 use Rattle.algebra.proofs.Bound as Bound
 use Rattle.algebra.proofs.Dyadic.{power-int, align, late-right, plus-comm, plus-up}
 use Rattle.exact.specs.Exact.{Number, number, numbers, Exact, exact, lowest, narrowNumerator, narrowExponent}
-use Rattle.exact.specs.Inner.{Within, scaled, Coords, roomNumerator, roomExponent}
+use Rattle.exact.specs.Inner.Sizes.{Within, scaled, Coords, roomNumerator, roomExponent}
 use Rattle.exact.proofs.Exact.{exactHalving, exacts}
 use Rattle.exact.proofs.Coordinates.{formulas, x, xy, eight, bounds, bounded}
 

@@ -7,7 +7,7 @@ use Rattle.algebra.specs.Quadratic.{Pair, pair, quadratic}
 use Rattle.algebra.proofs.Solver.{Expr, con, var, exprOps}
 use Rattle.algebra.proofs.Bound.{Within as Bounded}
 use Rattle.exact.specs.Exact.{Number}
-use Rattle.exact.specs.Inner.{Within}
+use Rattle.exact.specs.Inner.Sizes.{Within}
 
 -- the numerators' operations, on expressions
 abbrev pub formulas : Ops (Pair (Pair Expr))

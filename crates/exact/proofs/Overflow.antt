@@ -14,7 +14,7 @@ use Rattle.algebra.proofs.Quadratic.{ℤ√2i}
 use Rattle.algebra.proofs.Dyadic.{low-odd}
 use Rattle.exact.specs.Exact.{Number, numbers, numberHalves, Exact, exact, lowest, within, inRange, wellFormed, maxNumerator, maxExponent, narrowNumerator}
 use Rattle.exact.specs.Claims.{ProductsFit}
-use Rattle.exact.specs.Inner.{Within, scaled, roomNumerator}
+use Rattle.exact.specs.Inner.Sizes.{Within, scaled, roomNumerator}
 use Rattle.exact.proofs.Exact.{exactHalving, mul-lowest, lowest-odd}
 use Rattle.exact.proofs.Align.{aligned, scaled-none, widen, mul-within}
 use Rattle.exact.proofs.Sizes.{and4, within-of, of-within, well-bound, well-within, well-lowest, narrow-bound, narrow-exponent}

@@ -11,7 +11,7 @@ use Rattle.algebra.proofs.Ring.{ℤR}
 use Rattle.algebra.proofs.Solver.{Expr, var, look, holds, solve, ⟦_⟧}
 use Rattle.algebra.proofs.Machine.{raw, machine, fitsTop, fitsAll, op-fits, machine-is}
 use Rattle.exact.specs.Exact.{Number}
-use Rattle.exact.specs.Inner.{Within}
+use Rattle.exact.specs.Inner.Sizes.{Within}
 use Rattle.exact.proofs.Coordinates.{eight, bounds, bounded}
 
 -- ---- the numerators, by their names in the code

@@ -15,8 +15,8 @@ use borrow.Author.Tests.{le-leb, lt-leb, leb-true}
 use Rattle.algebra.specs.Dyadic.{evenℤ}
 use Rattle.algebra.proofs.Tests.{and-split}
 use Rattle.algebra.proofs.Signed.{reads, neg-fits, neg-back, under-by, over, within as within-by, and-one, or-even, bit-parity}
-use Rattle.exact.specs.Exact.{Exact, Number, number, within, numberHalves, inRange, isLowest, wellFormed, narrow, maxNumerator, maxExponent, narrowNumerator, narrowExponent}
-use Rattle.exact.specs.Inner.{numberOf, Within, roomNumerator}
+use Rattle.exact.specs.Exact.{Exact, Number, number, within, numberHalves, inRange, isLowest, wellFormed, narrow, maxNumerator, maxExponent, narrowNumerator, narrowExponent, numberOf}
+use Rattle.exact.specs.Inner.Sizes.{Within, roomNumerator}
 use Rattle.exact.proofs.Align.{widen}
 
 -- ---- x from −m to m, as code tests it

@@ -1,7 +1,9 @@
 -- Exact numbers: (n0 + n1·√2 + n2·i + n3·i·√2) / 2^e, with integers n0 to n3, in lowest form.
 use mathlib.Core.Bool.{Bool, not, _&&_, _||_}
+use mathlib.Core.List.{List, [], _∷_}
 use Prim.Native.Nat.{ℕ, zero, suc, _^_, _%_}
 use lib.Dec.{eqb, leb}
+use lib.ListN.{getD}
 use lib.IntN.{ℤ, pos, negsuc, natAbs}
 use Rattle.algebra.specs.Ops.{Ops, integers}
 use Rattle.algebra.specs.Quadratic.{Pair, pair, quadratic, conjugate}
@@ -21,6 +23,13 @@ numbers = quadratic root2 (pair (negsuc 0) (pos 0))
 -- n0 + n1·√2 + n2·i + n3·i·√2
 abbrev pub number : ℤ → ℤ → ℤ → ℤ → Number
 number n0 n1 n2 n3 = pair (pair n0 n1) (pair n2 n3)
+
+-- of a list, and as a list
+abbrev pub numberOf : List ℤ → Number
+numberOf l = number (getD l 0 (pos 0)) (getD l 1 (pos 0)) (getD l 2 (pos 0)) (getD l 3 (pos 0))
+
+abbrev pub listOf : Number → List ℤ
+listOf z = z .re .re ∷ z .re .im ∷ z .im .re ∷ z .im .im ∷ []
 
 -- even if all four are
 abbrev pub numberHalves : Halves Number

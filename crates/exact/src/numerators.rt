@@ -6,8 +6,8 @@ ghost use lib.Count.{trailingZeros};
 ghost use mir.Syntax.{w64};
 ghost use mir.Val.{ofZ};
 ghost use Rattle.algebra.specs.Quadratic.{conjugate};
-ghost use Rattle.exact.specs.Exact.{root2, numbers, maxExponent, narrowNumerator};
-ghost use Rattle.exact.specs.Inner.{numberOf, listOf, Within, scaled, roomNumerator};
+ghost use Rattle.exact.specs.Exact.{root2, numbers, maxExponent, narrowNumerator, numberOf, listOf};
+ghost use Rattle.exact.specs.Inner.Sizes.{Within, scaled, roomNumerator};
 
 // How many low bits are zero in all four: 64 where no bit below the top one is set.
 pub fn common_zeros(a: i64, b: i64, c: i64, d: i64) -> u32

@@ -4,8 +4,8 @@ ghost use mathlib.Core.Path.{_≡_};
 ghost use Prim.Native.Nat.{_≤_};
 ghost use lib.Dec.{leb};
 ghost use lib.IntN.{pos, natAbs};
-ghost use Rattle.exact.specs.Exact.{numberHalves, maxExponent, within, isZero};
-ghost use Rattle.exact.specs.Inner.{numberOf, scaled, roomNumerator};
+ghost use Rattle.exact.specs.Exact.{numberHalves, maxExponent, within, isZero, numberOf};
+ghost use Rattle.exact.specs.Inner.Sizes.{scaled, roomNumerator};
 
 // Whether x lies from −m to m.
 pub fn at_most(x: i64, m: i64) -> bool

@@ -6,8 +6,7 @@ use lib.ListN.{getD}
 use lib.IntN.{ℤ, pos, natAbs}
 use Rattle.algebra.specs.Dyadic.{frac}
 use Rattle.algebra.specs.Words.{upTo}
-use Rattle.exact.specs.Exact.{Exact, maxExponent}
-use Rattle.exact.specs.Inner.{numberOf}
+use Rattle.exact.specs.Exact.{Exact, maxExponent, numberOf}
 use Rattle.scalar.specs.declared.Scalar.{Scalar}
 use Rattle.scalar.specs.declared.Answer.{Answer}
 use Rattle.verdict.specs.declared.Verdict.{Verdict}

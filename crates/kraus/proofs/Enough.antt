@@ -19,7 +19,7 @@ use Rattle.algebra.proofs.Adjoint.{dot, δ-same}
 use Rattle.algebra.proofs.Quadratic.{ℤ√2i}
 use Rattle.algebra.proofs.Dyadic.{numAt, Fits, fits-exp}
 use Rattle.exact.specs.Exact.{Exact, exact, isLowest}
-use Rattle.exact.specs.Inner.{Within, scaled, Coords}
+use Rattle.exact.specs.Inner.Sizes.{Within, scaled, Coords}
 use Rattle.exact.proofs.Exact.{exactHalving, exacts, lowest-form}
 use Rattle.gate.proofs.Complete.{conjugation}
 use Rattle.kraus.specs.Dense.{cell}

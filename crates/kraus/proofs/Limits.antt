@@ -18,7 +18,7 @@ use Rattle.algebra.proofs.Adjoint.{dot}
 use Rattle.algebra.proofs.Quadratic.{ℤ√2i}
 use Rattle.algebra.proofs.Dyadic.{fits-low, fits-grow}
 use Rattle.exact.specs.Exact.{Exact, exact, narrow, wellFormed, maxNumerator, maxExponent, narrowNumerator, narrowExponent}
-use Rattle.exact.specs.Inner.{Within, scaled, Coords, Room, roomNumerator, roomExponent}
+use Rattle.exact.specs.Inner.Sizes.{Within, scaled, Coords, Room, roomNumerator, roomExponent}
 use Rattle.exact.proofs.Exact.{exactHalving, exacts}
 use Rattle.exact.proofs.Sizes.{of-within}
 use Rattle.exact.proofs.Align.{widen, power-within, scaled-none}

@@ -16,7 +16,7 @@ use Rattle.scalar.specs.Calls.{value, scalarOf, mulAnswer, conjAnswer}
 use Rattle.scalar.proofs.Questions.{asked-yes, mul-yes}
 use Rattle.cells.specs.Cells.{exponentAt, wellFormedAt, cellSize}
 use Rattle.matrix.specs.Phase.{_·_, entryOf}
-use Rattle.matrix.specs.Operands.{Operand, Operands}
+use Rattle.matrix.specs.Inner.Operands.{Operand, Operands}
 
 -- ---- a conjugate is an operand where the number is
 conj-within : (m : ℕ) (x : Exact) → within m (conj x .num) ≡ within m (x .num)

@@ -15,7 +15,7 @@ use Rattle.verdict.specs.declared.Verdict.the-variants.{TooLarge, Malformed}
 use Rattle.cells.specs.Cells.{wellFormedAt, cellSize}
 use Rattle.matrix.specs.declared.PhaseAnswer.{PhaseAnswer}
 use Rattle.matrix.specs.Phase.{isDim, entryOf, wellFormedMatrix, narrowMatrix, inPhase, answered, refusedPhase, phaseAnswer}
-use Rattle.matrix.specs.Operands.{Operands}
+use Rattle.matrix.specs.Inner.Operands.{Operands}
 use Rattle.matrix.proofs.Operands.{operands}
 
 -- ---- the dims

@@ -14,7 +14,7 @@ use Rattle.exact.specs.Exact.{Exact, exact, equal, isZero, maxExponent}
 use Rattle.exact.proofs.Exact.{one-by, mul-lowest}
 use Rattle.exact.proofs.Equal.{equal-true}
 use Rattle.cells.specs.Cells.{cellAt, cellWords, exponentAt, fill, cellSize}
-use Rattle.matrix.specs.Factors.{Scaling, scaledRow, combinedRow}
+use Rattle.matrix.specs.Inner.Factors.{Scaling, scaledRow, combinedRow}
 use Rattle.matrix.proofs.Terms.{zero-by, zero-left, zero-first}
 
 -- zero words are zero numbers

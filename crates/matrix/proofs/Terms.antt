@@ -12,12 +12,12 @@ use Rattle.algebra.proofs.Quadratic.{ℤ√2i}
 use Rattle.algebra.proofs.Dyadic.{low-zero}
 use Rattle.algebra.proofs.Blocks.{Same}
 use Rattle.exact.specs.Exact.{Exact, exact, Number, numbers, lowest, isLowest, isZero, narrowExponent}
-use Rattle.exact.specs.Inner.{Coords}
+use Rattle.exact.specs.Inner.Sizes.{Coords}
 use Rattle.exact.proofs.Exact.{exacts, exactHalving, plus-zero}
 use Rattle.exact.proofs.IsZero.{zero-is}
 use Rattle.cells.proofs.Cell.{cell-same, exponent-same}
 use Rattle.cells.specs.Cells.{cellSize}
-use Rattle.matrix.specs.Factors.{Factor}
+use Rattle.matrix.specs.Inner.Factors.{Factor}
 
 -- ---- a zero factor
 pub zero-by : (x y : Exact) → isZero (x .num) ≡ true → exact ._⊗_ x y ≡ exact .𝟘

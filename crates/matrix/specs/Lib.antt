@@ -1,4 +1,3 @@
 pub mod Matrix
-pub mod Factors
 pub mod Phase
-pub mod Operands
+pub mod Inner

@@ -17,7 +17,7 @@ ghost use Rattle.exact.specs.Exact.{conj, narrow};
 ghost use Rattle.scalar.specs.Calls.{value, scalarOf};
 ghost use Rattle.cells.specs.Cells.{wellFormedAt, cellSize};
 ghost use Rattle.matrix.specs.Phase.{_·_, isDim, entryOf, wellFormedMatrix, equalRatios, pivot, inPhaseAt, inPhase, answered, refusedPhase, phaseAnswer};
-ghost use Rattle.matrix.specs.Operands.{Operand, Operands};
+ghost use Rattle.matrix.specs.Inner.Operands.{Operand, Operands};
 
 // ---- the questions
 fn is_dim(d: usize) -> bool

@@ -11,7 +11,7 @@ ghost use Rattle.algebra.specs.Sum.{δ};
 ghost use Rattle.exact.specs.Exact.{exact};
 ghost use Rattle.scalar.specs.Calls.{scalarOf};
 ghost use Rattle.cells.specs.Cells.{cellSize};
-ghost use Rattle.matrix.specs.Matrix.{identified};
+ghost use Rattle.matrix.specs.Inner.Written.{identified};
 
 // Entry (r, c) of the identity.
 fn unit_entry(r: usize, c: usize) -> Scalar

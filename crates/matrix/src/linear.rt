@@ -11,10 +11,10 @@ use scalar::products::sum_of_products;
 use scalar::products::times;
 ghost use mathlib.Core.Path.{_≡_};
 ghost use Rattle.exact.specs.Exact.{exact, narrowExponent};
-ghost use Rattle.exact.specs.Inner.{Coords};
+ghost use Rattle.exact.specs.Inner.Sizes.{Coords};
 ghost use Rattle.scalar.specs.Calls.{value};
 ghost use Rattle.cells.specs.Cells.{cellAt, fill};
-ghost use Rattle.matrix.specs.Factors.{Factor, Scaling, scaledRow, combinedRow};
+ghost use Rattle.matrix.specs.Inner.Factors.{Factor, Scaling, scaledRow, combinedRow};
 
 // x times the number at q; a zero is passed over.
 fn scaled_entry(buf: &[i64], x: Scalar, q: usize) -> Scalar

@@ -5,9 +5,10 @@ ghost use mathlib.Core.Path.{_≡_};
 ghost use Prim.Native.Nat.{ℕ, _+_, _*_, _≤_};
 ghost use lib.ListN.{length, getD};
 ghost use lib.IntN.{pos};
-ghost use Rattle.algebra.specs.Words.{fillWords, Apart};
+ghost use Rattle.algebra.specs.Words.{fillWords};
+ghost use Rattle.algebra.specs.Inner.Apart.{Apart};
 ghost use Rattle.cells.specs.Cells.{cellSize};
-ghost use Rattle.matrix.specs.Matrix.{zeros};
+ghost use Rattle.matrix.specs.Inner.Written.{zeros};
 
 // Set n words from `at` on to zero.
 pub fn clear(s: &mut [i64], at: usize, n: usize)

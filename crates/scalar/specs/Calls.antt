@@ -3,8 +3,7 @@ use mathlib.Core.Bool.{cond, _&&_}
 use Prim.Native.Nat.{ℕ}
 use lib.IntN.{ℤ}
 use Rattle.algebra.specs.Dyadic.{frac}
-use Rattle.exact.specs.Exact.{Exact, exact, conj, half, omega, inRange, wellFormed, narrow}
-use Rattle.exact.specs.Inner.{numberOf, listOf}
+use Rattle.exact.specs.Exact.{Exact, exact, conj, half, omega, inRange, wellFormed, narrow, numberOf, listOf}
 use Rattle.scalar.specs.declared.Scalar.{Scalar}
 use Rattle.scalar.specs.declared.Answer.{Answer}
 use Rattle.verdict.specs.declared.Verdict.{Verdict}
@@ -30,10 +29,6 @@ refusedWith v = record { value = scalarOf (exact .𝟘); verdict = v }
 -- 9, unless the number is in range
 abbrev pub fitting : Exact → Answer
 fitting x = cond (inRange x) (accepted x) (refusedWith TooLarge)
-
--- the same of a struct
-abbrev pub fittingScalar : Scalar → Answer
-fittingScalar s = cond (inRange (value s)) (acceptedAs s) (refusedWith TooLarge)
 
 -- 10, unless the operand is in range and in lowest form
 abbrev pub asked : Exact → Answer → Answer

@@ -3,7 +3,8 @@ ghost use mathlib.Core.Path.{_≡_};
 ghost use mathlib.Core.Bool.{true};
 ghost use Prim.Native.Nat.{_≤_};
 ghost use Rattle.exact.specs.Exact.{exact, imaginary, invSqrtTwo, wellFormed};
-ghost use Rattle.scalar.specs.Calls.{value, acceptedAs, accepted, refusedWith, fitting, fittingScalar, integerAnswer, omegaAnswer, negAnswer, conjAnswer, halfAnswer, addAnswer, mulAnswer};
+ghost use Rattle.scalar.specs.Calls.{value, acceptedAs, accepted, refusedWith, fitting, integerAnswer, omegaAnswer, negAnswer, conjAnswer, halfAnswer, addAnswer, mulAnswer};
+ghost use Rattle.scalar.specs.Inner.Fitting.{fittingScalar};
 
 pub mod numerators;
 pub mod products;

@@ -7,8 +7,8 @@ use exact::numerators::sum4;
 ghost use mathlib.Core.Path.{_≡_};
 ghost use Prim.Native.Nat.{_-_, _≤_};
 ghost use Rattle.algebra.specs.Dyadic.{frac};
-ghost use Rattle.exact.specs.Exact.{exact, lowest, maxExponent};
-ghost use Rattle.exact.specs.Inner.{numberOf, Within, scaled, roomNumerator};
+ghost use Rattle.exact.specs.Exact.{exact, lowest, maxExponent, numberOf};
+ghost use Rattle.exact.specs.Inner.Sizes.{Within, scaled, roomNumerator};
 ghost use Rattle.scalar.specs.Calls.{scalarOf};
 
 // The lowest form of the numerators over 2^e, by one shift.

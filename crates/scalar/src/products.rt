@@ -7,7 +7,7 @@ use exact::numerators::product;
 ghost use mathlib.Core.Path.{_≡_};
 ghost use Prim.Native.Nat.{_+_};
 ghost use Rattle.exact.specs.Exact.{exact, conj, narrowExponent};
-ghost use Rattle.exact.specs.Inner.{Coords, Room};
+ghost use Rattle.exact.specs.Inner.Sizes.{Coords, Room};
 ghost use Rattle.scalar.specs.Calls.{value, scalarOf};
 
 // acc + x·y

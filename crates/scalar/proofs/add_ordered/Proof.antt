@@ -4,10 +4,11 @@ use Prim.Native.Nat.{_-_}
 use native.Mathlib.Omega.{arith}
 use borrow.Author.Needs.{needs}
 use Rattle.exact.specs.Exact.{exact}
-use Rattle.exact.specs.Inner.{scaled, roomNumerator}
+use Rattle.exact.specs.Inner.Sizes.{scaled, roomNumerator}
 use Rattle.exact.proofs.Sizes.{within-of, well-within, well-exponent}
 use Rattle.exact.proofs.Overflow.{overflow}
-use Rattle.scalar.specs.Calls.{value, fittingScalar}
+use Rattle.scalar.specs.Calls.{value}
+use Rattle.scalar.specs.Inner.Fitting.{fittingScalar}
 use Rattle.scalar.proofs.Questions.{too-large}
 use Rattle.scalar.proofs.add_ordered.Statement.{statement}
 use Rattle.scalar.proofs.add_ordered.Tie as tie

@@ -6,7 +6,7 @@ use native.Mathlib.Omega.{arith}
 use lib.Bits.{bitXor}
 use lib.ListN.{length}
 use Rattle.algebra.proofs.Blocks.{done, long, block-in}
-use Rattle.exact.specs.Inner.{Coords}
+use Rattle.exact.specs.Inner.Sizes.{Coords}
 use Rattle.scalar.specs.Calls.{value}
 use Rattle.cells.specs.Cells.{cellAt}
 use Rattle.cells.proofs.Cell.{cell-same, exponent-same}

@@ -9,7 +9,7 @@ use lib.ListN.{length}
 use lib.Seq.{sets}
 use lib.IntN.{ℤ}
 use Rattle.algebra.proofs.Blocks.{Writing, begin, done, long}
-use Rattle.matrix.specs.Matrix.{written}
+use Rattle.matrix.specs.Inner.Written.{written}
 use Rattle.store.specs.Inner.Held.{StoreAt}
 use Rattle.branches.specs.Store.{outcomeWords}
 use Rattle.branches.specs.Bank.{matrixSize, branchSize}

@@ -4,7 +4,7 @@ use Prim.Native.Nat.{_+_}
 use Rattle.scalar.specs.declared.Scalar.{Scalar}
 use lib.Seq.{sets}
 use Rattle.exact.specs.Exact.{Exact, exact}
-use Rattle.exact.specs.Inner.{Coords, Room}
+use Rattle.exact.specs.Inner.Sizes.{Coords, Room}
 use Rattle.scalar.specs.Calls.{value}
 use Rattle.cells.specs.Cells.{cellAt, cellWords}
 use Rattle.collect.proofs.Sizes.{conj-coords}

@@ -6,7 +6,7 @@ use native.Mathlib.Omega.{arith}
 use lib.ListN.{length}
 use Rattle.algebra.proofs.Blocks.{Writing, begin, again, done, long, rest, Same}
 use Rattle.exact.specs.Exact.{Exact, exact, conj}
-use Rattle.exact.specs.Inner.{Coords}
+use Rattle.exact.specs.Inner.Sizes.{Coords}
 use Rattle.scalar.specs.Calls.{value}
 use Rattle.cells.specs.Cells.{cellWords, cellAt}
 use Rattle.cells.proofs.Cell.{cell-same}

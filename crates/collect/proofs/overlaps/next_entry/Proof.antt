@@ -5,7 +5,7 @@ use Prim.Native.Nat.{ℕ, _+_, _*_, _-_, _<_, _≤_}
 use native.Mathlib.Nat.{le-refl}
 use native.Mathlib.Omega.{arith}
 use lib.ListN.{length}
-use Rattle.cells.specs.Cells.{zeroAt}
+use Rattle.cells.specs.Inner.Zero.{zeroAt}
 use Rattle.collect.proofs.Finding.{passed-more}
 use Rattle.collect.proofs.overlaps.next_entry.Statement.{statement}
 use Rattle.collect.proofs.overlaps.next_entry.Tie as tie

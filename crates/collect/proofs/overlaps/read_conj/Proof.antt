@@ -7,7 +7,7 @@ use lib.ListN.{getD}
 use lib.IntN.{pos}
 use Rattle.algebra.proofs.Signed.{reads, neg-fits, neg-back}
 use Rattle.exact.specs.Exact.{conj}
-use Rattle.exact.specs.Inner.{Within}
+use Rattle.exact.specs.Inner.Sizes.{Within}
 use Rattle.scalar.specs.declared.Scalar.{Scalar}
 use Rattle.scalar.specs.Calls.{value, scalarOf}
 use borrow.Author.Needs.{needs}

@@ -2,7 +2,7 @@
 use mathlib.Core.Path.{sym, ap, _∙_, subst}
 use lib.Seq.{sets}
 use Rattle.exact.specs.Exact.{Exact, exact, conj}
-use Rattle.exact.specs.Inner.{Coords}
+use Rattle.exact.specs.Inner.Sizes.{Coords}
 use Rattle.scalar.specs.declared.Scalar.{Scalar}
 use Rattle.scalar.specs.Calls.{value}
 use Rattle.cells.specs.Cells.{cellWords}

@@ -3,7 +3,7 @@ use mathlib.Core.List.{[], _∷_}
 use native.Mathlib.Omega.{arith}
 use borrow.Author.Needs.{needs}
 use Rattle.algebra.proofs.Signed.{neg-fits, neg-back}
-use Rattle.exact.specs.Inner.{numberOf}
+use Rattle.exact.specs.Exact.{numberOf}
 use Rattle.exact.proofs.numerators.neg4.Statement.{statement}
 use Rattle.exact.proofs.numerators.neg4.Tie as tie
 

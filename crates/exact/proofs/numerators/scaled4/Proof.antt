@@ -2,7 +2,7 @@
 use mathlib.Core.List.{[], _∷_}
 use native.Mathlib.Omega.{arith}
 use Rattle.algebra.proofs.Signed.{scale-fits, scale-back}
-use Rattle.exact.specs.Inner.{numberOf}
+use Rattle.exact.specs.Exact.{numberOf}
 use borrow.Author.Needs.{needs}
 use Rattle.exact.proofs.numerators.scaled4.Statement.{statement}
 use Rattle.exact.proofs.numerators.scaled4.Tie as tie

@@ -7,7 +7,8 @@ use mir.Syntax.{w64}
 use mir.Val.{SFits, toZ, ofZ}
 use Rattle.algebra.proofs.Solver.{var, _⊞_}
 use Rattle.algebra.proofs.Machine.{op-fits, machine-is}
-use Rattle.exact.specs.Inner.{numberOf, roomNumerator}
+use Rattle.exact.specs.Exact.{numberOf}
+use Rattle.exact.specs.Inner.Sizes.{roomNumerator}
 use borrow.Author.Needs.{needs}
 use Rattle.exact.proofs.numerators.sum4.Statement.{statement}
 use Rattle.exact.proofs.numerators.sum4.Tie as tie

@@ -1,6 +1,6 @@
 -- `all_zero` meets its contract: the four words joined.
 use borrow.Author.Needs.{needs}
-use Rattle.exact.specs.Inner.{numberOf}
+use Rattle.exact.specs.Exact.{numberOf}
 use Rattle.exact.proofs.IsZero.{union-zero}
 use Rattle.exact.proofs.ranges.all_zero.Statement.{statement}
 use Rattle.exact.proofs.ranges.all_zero.Tie as tie

@@ -8,8 +8,8 @@ use mir.Syntax.{w64}
 use mir.Val.{toZ}
 use mir.Facts.{toZ-pos}
 use borrow.Author.Needs.{needs}
-use Rattle.exact.specs.Exact.{within}
-use Rattle.exact.specs.Inner.{numberOf, roomNumerator}
+use Rattle.exact.specs.Exact.{within, numberOf}
+use Rattle.exact.specs.Inner.Sizes.{roomNumerator}
 use Rattle.exact.proofs.Overflow.{can-scale}
 use Rattle.exact.proofs.ranges.can_scale.Statement.{statement}
 use Rattle.exact.proofs.ranges.can_scale.Tie as tie

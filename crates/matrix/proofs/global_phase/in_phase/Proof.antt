@@ -4,7 +4,8 @@ use Prim.Native.Nat.{ℕ, _*_, _≤_, _<_}
 use native.Mathlib.Nat.{zero-add}
 use native.Mathlib.Omega.{arith}
 use Rattle.algebra.specs.Lists.{allBelow}
-use Rattle.cells.specs.Cells.{zeroAt, cellSize}
+use Rattle.cells.specs.Cells.{cellSize}
+use Rattle.cells.specs.Inner.Zero.{zeroAt}
 use Rattle.matrix.specs.Phase.{entryOf, inPhaseAt}
 use Rattle.matrix.proofs.GlobalPhase.{phase-pivot, phase-none}
 use Rattle.matrix.proofs.global_phase.in_phase.Statement.{statement}

@@ -8,7 +8,7 @@ use Rattle.exact.specs.Exact.{Exact, equal}
 use Rattle.scalar.specs.declared.Scalar.{Scalar}
 use Rattle.scalar.specs.Calls.{value}
 use Rattle.matrix.specs.Phase.{equalModulus, equalRatios, entryOf}
-use Rattle.matrix.specs.Operands.{Operand}
+use Rattle.matrix.specs.Inner.Operands.{Operand}
 use borrow.Author.Needs.{needs}
 use Rattle.matrix.proofs.global_phase.in_phase_at.Statement.{statement}
 use Rattle.matrix.proofs.global_phase.in_phase_at.Tie as tie

@@ -10,7 +10,7 @@ use Rattle.exact.specs.Exact.{equal}
 use Rattle.scalar.specs.declared.Scalar.{Scalar}
 use Rattle.scalar.specs.Calls.{value}
 use Rattle.matrix.specs.Phase.{_·_, equalRatios, entryOf}
-use Rattle.matrix.specs.Operands.{Operand}
+use Rattle.matrix.specs.Inner.Operands.{Operand}
 use Rattle.matrix.proofs.global_phase.ratios_same.Statement.{statement}
 use Rattle.matrix.proofs.global_phase.ratios_same.Tie as tie
 

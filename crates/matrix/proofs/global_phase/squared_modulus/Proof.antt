@@ -5,7 +5,7 @@ use Rattle.scalar.specs.declared.Scalar.{Scalar}
 use Rattle.scalar.specs.declared.Answer.{Answer}
 use Rattle.scalar.specs.Calls.{value, scalarOf}
 use Rattle.matrix.specs.Phase.{_·_}
-use Rattle.matrix.specs.Operands.{Operand}
+use Rattle.matrix.specs.Inner.Operands.{Operand}
 use Rattle.matrix.proofs.Operands.{conj-operand, conj-value}
 use borrow.Author.Needs.{needs}
 use Rattle.matrix.proofs.global_phase.squared_modulus.Statement.{statement}

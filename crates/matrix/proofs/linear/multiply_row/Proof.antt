@@ -9,7 +9,7 @@ use Rattle.exact.specs.Exact.{exact}
 use Rattle.scalar.specs.Calls.{value}
 use Rattle.cells.specs.Cells.{cellWords, cellSize}
 use Rattle.cells.proofs.Cell.{cell-same}
-use Rattle.matrix.specs.Factors.{scaledRow}
+use Rattle.matrix.specs.Inner.Factors.{scaledRow}
 use Rattle.matrix.proofs.Terms.{factor-same}
 use Rattle.matrix.proofs.linear.multiply_row.Statement.{statement}
 use Rattle.matrix.proofs.linear.multiply_row.Tie as tie

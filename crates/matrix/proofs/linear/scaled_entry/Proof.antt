@@ -1,7 +1,7 @@
 -- `matrix::linear::scaled_entry` meets its contract.
 use mathlib.Core.Path.{sym, ap, _∙_, subst}
 use Rattle.exact.specs.Exact.{exact, narrowExponent}
-use Rattle.exact.specs.Inner.{Coords}
+use Rattle.exact.specs.Inner.Sizes.{Coords}
 use Rattle.scalar.specs.declared.Scalar.{Scalar}
 use Rattle.scalar.specs.Calls.{value}
 use Rattle.cells.specs.Cells.{cellAt}

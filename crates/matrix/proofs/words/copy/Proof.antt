@@ -6,7 +6,7 @@ use native.Mathlib.Nat.{le-refl}
 use native.Mathlib.Omega.{arith}
 use lib.ListN.{getD}
 use lib.IntN.{pos}
-use Rattle.algebra.specs.Words.{Apart}
+use Rattle.algebra.specs.Inner.Apart.{Apart}
 use Rattle.algebra.proofs.Blocks.{Writing, begin, again-word, done, long, kept, narrow}
 use Rattle.algebra.proofs.Signed.{reads}
 use Rattle.matrix.proofs.words.copy.Statement.{statement}

@@ -4,7 +4,7 @@ use mathlib.Core.Bool.{true}
 use Prim.Native.Nat.{_-_, _≤_}
 use native.Mathlib.Omega.{arith}
 use borrow.Author.Tests.{not-true, not-false}
-use Rattle.matrix.specs.Matrix.{zeros}
+use Rattle.matrix.specs.Inner.Written.{zeros}
 use Rattle.algebra.proofs.Tests.{all-step, all-no}
 use Rattle.matrix.proofs.words.is_zero.Statement.{statement}
 use Rattle.matrix.proofs.words.is_zero.Tie as tie

@@ -9,7 +9,7 @@ use mir.Syntax.{w64}
 use mir.Val.{ofZ}
 use Rattle.algebra.specs.Words.{eqℤ}
 use Rattle.algebra.proofs.Signed.{eq-words}
-use Rattle.exact.specs.Inner.{numberOf}
+use Rattle.exact.specs.Exact.{numberOf}
 use borrow.Author.Needs.{needs}
 use Rattle.scalar.proofs.Scalar.equals.Statement.{statement}
 use Rattle.scalar.proofs.Scalar.equals.Tie as tie

@@ -6,10 +6,10 @@ use native.Mathlib.Numerals.{add-one}
 use native.Mathlib.Omega.{arith}
 use borrow.Author.Tests.{not-true, not-false}
 use borrow.Author.Needs.{needs}
-use Rattle.exact.specs.Exact.{lowest, half, wellFormed}
-use Rattle.exact.specs.Inner.{numberOf}
+use Rattle.exact.specs.Exact.{lowest, half, wellFormed, numberOf}
 use Rattle.exact.proofs.Sizes.{well-exponent}
-use Rattle.scalar.specs.Calls.{value, fitting, fittingScalar, scalarOf}
+use Rattle.scalar.specs.Calls.{value, fitting, scalarOf}
+use Rattle.scalar.specs.Inner.Fitting.{fittingScalar}
 use Rattle.scalar.proofs.Questions.{asked-yes, asked-no}
 use Rattle.scalar.proofs.Scalar.half.Statement.{statement}
 use Rattle.scalar.proofs.Scalar.half.Tie as tie

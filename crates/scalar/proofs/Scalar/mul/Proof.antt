@@ -8,8 +8,7 @@ use native.Mathlib.Omega.{arith}
 use borrow.Author.Tests.{not-true, not-false}
 use borrow.Author.Needs.{needs}
 use Rattle.algebra.proofs.Tests.{and-split}
-use Rattle.exact.specs.Exact.{Exact, lowest, wellFormed, narrow}
-use Rattle.exact.specs.Inner.{numberOf}
+use Rattle.exact.specs.Exact.{Exact, lowest, wellFormed, narrow, numberOf}
 use Rattle.exact.proofs.Sizes.{narrow-bound, narrow-exponent}
 use Rattle.scalar.specs.Calls.{value, scalarOf, acceptedAs, narrowAnswer}
 use Rattle.scalar.proofs.Questions.{both-no, mul-yes, mul-wide}

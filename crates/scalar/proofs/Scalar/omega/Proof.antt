@@ -8,8 +8,7 @@ use native.Mathlib.Omega.{arith}
 use lib.Dec.{lit<}
 use lib.IntN.{ℤ}
 use borrow.Author.Needs.{needs}
-use Rattle.exact.specs.Exact.{powerOf, turn}
-use Rattle.exact.specs.Inner.{listOf}
+use Rattle.exact.specs.Exact.{powerOf, turn, listOf}
 use Rattle.scalar.specs.Calls.{acceptedAs, accepted, omegaAnswer}
 use Rattle.scalar.proofs.Scalar.omega.Statement.{statement}
 use Rattle.scalar.proofs.Scalar.omega.Tie as tie

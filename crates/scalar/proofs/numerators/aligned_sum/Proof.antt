@@ -3,8 +3,7 @@ use mathlib.Core.Path.{ap, _∙_}
 use mathlib.Core.List.{List}
 use lib.IntN.{ℤ}
 use Rattle.algebra.specs.Dyadic.{frac}
-use Rattle.exact.specs.Exact.{numbers, lowest}
-use Rattle.exact.specs.Inner.{numberOf}
+use Rattle.exact.specs.Exact.{numbers, lowest, numberOf}
 use Rattle.exact.proofs.Align.{aligned}
 use Rattle.scalar.specs.Calls.{scalarOf}
 use borrow.Author.Needs.{needs}

@@ -7,8 +7,7 @@ use mir.Val.{SFits}
 use mir.Facts.{toZ-ofZ}
 use Rattle.algebra.specs.Dyadic.{frac}
 use Rattle.algebra.proofs.Signed.{shift-back}
-use Rattle.exact.specs.Exact.{number}
-use Rattle.exact.specs.Inner.{numberOf}
+use Rattle.exact.specs.Exact.{number, numberOf}
 use Rattle.exact.proofs.Zeros.{union, shifted, by-count}
 use Rattle.scalar.specs.Calls.{scalarOf}
 use borrow.Author.Needs.{needs}

@@ -5,8 +5,8 @@ use Prim.Native.Nat.{_+_, _*_, _-_, _^_}
 use native.Mathlib.Omega.{arith}
 use lib.IntN.{ℤ}
 use Rattle.algebra.specs.Dyadic.{frac, by}
-use Rattle.exact.specs.Exact.{numbers, exact}
-use Rattle.exact.specs.Inner.{numberOf, Within, roomNumerator}
+use Rattle.exact.specs.Exact.{numbers, exact, numberOf}
+use Rattle.exact.specs.Inner.Sizes.{Within, roomNumerator}
 use Rattle.exact.proofs.Exact.{exacts}
 use Rattle.exact.proofs.Align.{raised, scaled-none, product-within, factor-within, small, fused}
 use Rattle.scalar.specs.Calls.{value, scalarOf}

@@ -3,8 +3,8 @@ use mathlib.Core.Path.{ap, sym, _∙_}
 use Prim.Native.Nat.{_+_, _*_, _≤_, _^_}
 use native.Mathlib.Omega.{arith}
 use Rattle.algebra.specs.Dyadic.{frac, by}
-use Rattle.exact.specs.Exact.{numbers, exact}
-use Rattle.exact.specs.Inner.{numberOf, Within, roomExponent}
+use Rattle.exact.specs.Exact.{numbers, exact, numberOf}
+use Rattle.exact.specs.Inner.Sizes.{Within, roomExponent}
 use Rattle.exact.proofs.Exact.{exacts}
 use Rattle.exact.proofs.Align.{raised, product-within, factor-within, small, fused-both}
 use Rattle.scalar.specs.Calls.{value, scalarOf}

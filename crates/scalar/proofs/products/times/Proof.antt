@@ -4,8 +4,7 @@ use mathlib.Core.List.{List}
 use Prim.Native.Nat.{_+_}
 use lib.IntN.{ℤ}
 use native.Mathlib.Omega.{arith}
-use Rattle.exact.specs.Exact.{lowest}
-use Rattle.exact.specs.Inner.{numberOf}
+use Rattle.exact.specs.Exact.{lowest, numberOf}
 use Rattle.exact.proofs.Align.{factor-within}
 use Rattle.scalar.specs.Calls.{value, scalarOf}
 use borrow.Author.Needs.{needs}

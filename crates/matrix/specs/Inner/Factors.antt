@@ -5,12 +5,12 @@ use mathlib.Core.List.{List}
 use Prim.Native.Nat.{ℕ, _+_, _*_, _<_, _≤_}
 use lib.ListN.{length}
 use lib.IntN.{ℤ}
-use Rattle.algebra.specs.Words.{Apart}
+use Rattle.algebra.specs.Inner.Apart.{Apart}
 use Rattle.exact.specs.Exact.{Exact, exact, isLowest, narrowExponent}
-use Rattle.exact.specs.Inner.{Coords}
+use Rattle.exact.specs.Inner.Sizes.{Coords}
 use Rattle.cells.specs.Cells.{cellAt, exponentAt, cellSize}
 
--- a factor: its coordinates lie from −1 to 1, over at most 2^28
+-- a factor: its coordinates lie from −1 to 1, over at most the power of a narrow number
 pub record Factor (l : List ℤ) (at : ℕ) : Type 0 where
   pub room : at + cellSize ≤ length l
   pub exponent : exponentAt l at ≡ true

@@ -1,0 +1,3 @@
+pub mod Written
+pub mod Factors
+pub mod Operands
