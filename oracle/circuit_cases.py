@@ -1,9 +1,8 @@
 """Cases of circuit_unitary and circuit_channel: `circuit_cases.py unitary` or `circuit_cases.py channel`.
 
-Limits are 0 for the defaults, or 1 and the numbers.
-A unitary line: 4 limits, n, gate word count and words, result length, work length, verdict, index, source, checksums of result and work.
-A channel line: 6 limits, n, bits, store length and bytes, gate word count and words, result length, work length, verdict, index, source,
-checksums of result and work; then for classical_blocks on that result: its length, verdict and checksum (0 0 0 if the channel was refused).
+A line: source; limits (0 for the defaults, or 1 and six numbers), n, bits, store length and bytes, gate word count and words, the lengths of result, work and
+effects; verdict, index, checksums of result and work; of a channel the verdict of classical_blocks on that result and the checksum of the effects (a channel
+that was refused leaves words that are refused too). A unitary has no bits, no store and no effects.
 
 Each lent word holds its place mod 997, plus 1, before the call. Source 0: verdict and entries are the Rust's; 1: a refusal by document 01,
 or one whose words the Rust cannot hold. The order of records is document 01's (rules.py works out which branches survive).
@@ -14,7 +13,7 @@ import sys
 from ask import ask, blocks, matrix, refusal
 from circuits import HARD, PLAIN, circuit, flat, syllables, text
 from rules import (CCX, CEILINGS, CH, CNOT, CP, CRZ, CSWAP, H, MEASURE, P, RESET, RX, RZ, SWAP, SX, T, X, Z, arity, channel_sizes, channel_verdict,
-                   channel_words, checksum, gates, store_order, unitary_sizes, unitary_verdict)
+                   channel_words, checksum, gates, read_channel, store_order, unitary_sizes, unitary_verdict)
 
 BIG = 2**32 - 1
 BAD_GATES = [(27, 0, 0, 0, 0), (BIG, 0, 0, 0, 0), (RZ, 0, 0, 0, 9), (RZ, 0, 0, 0, BIG), (RZ, 0, 0, 0, 8), (H, 0, 0, 0, 1), (X, 0, 1, 0, 0), (Z, 0, 0, 1, 0),
@@ -33,7 +32,9 @@ def over(length, words):
 
 
 def buffer_lengths(rng, want, short):
-    """Lengths that are enough, or one word or more too short."""
+    """Lengths that are enough, or one word or more too short; or so many words to spare."""
+    if isinstance(short, tuple):
+        return want[0] + short[0], want[1] + short[1]
     result, work = (w + rng.choice([0, 0, 1, 7, 50]) for w in want)
     if short == 1:
         result = rng.choice([want[0] - 1, 0, want[0] // 2])
@@ -65,9 +66,9 @@ def lowered(rng, limits, at, exact):
     return out
 
 
-def shown(limits, count):
+def shown(limits):
     """0 for the defaults, else 1 and the limits."""
-    return [0] if tuple(limits) == CEILINGS[:count] else [1, *limits]
+    return [0] if tuple(limits) == CEILINGS else [1, *limits]
 
 
 # ---- unitaries
@@ -112,9 +113,15 @@ def unitary_inputs(rng):
     return out
 
 
-def unitary_lines(rng):
+def more_unitary_inputs(rng):
+    """Accepted ones with words to spare in either buffer or in both."""
+    for n, spare in [(n, spare) for n in (0, 1, 2, 3) for spare in ((0, 1), (1, 0), (3, 200), (5, 1000))]:
+        yield list(CEILINGS[:4]), n, flat(circuit(rng, n, 6, PLAIN)), spare
+
+
+def unitary_lines(rng, inputs):
     todo = []
-    for limits, n, words, short in unitary_inputs(rng):
+    for limits, n, words, short in inputs:
         want = unitary_sizes(n) if n <= 5 else (10, 10)
         result, work = buffer_lengths(rng, want, short)
         todo.append((limits, n, words, result, work, unitary_verdict(limits, n, words, result, work)))
@@ -131,7 +138,7 @@ def unitary_lines(rng):
                 after[5 * (r * d + c):5 * (r * d + c) + 5] = s
             spent = [0] * unitary_sizes(n)[1]
         sums = checksum(over(result, after)), checksum(over(work, spent))
-        yield [*shown(limits, 4), n, len(words), *words, result, work, *verdict, 0 if of_rust else 1, *sums]
+        yield [0 if of_rust else 1, *shown([*limits, *CEILINGS[4:]]), n, 0, 0, len(words), *words, result, work, 0, *verdict, *sums], verdict[0]
 
 
 # ---- channels
@@ -198,9 +205,17 @@ def channel_inputs(rng):
     return out
 
 
-def channel_lines(rng):
+def more_channel_inputs(rng):
+    """Accepted ones with words to spare in either buffer or in both."""
+    every = PLAIN + [MEASURE, MEASURE, RESET]
+    for n, spare in [(n, spare) for n in (0, 1, 2, 3) for spare in ((0, 1), (1, 0), (3, 200), (5, 1000))]:
+        gs = circuit(rng, n, 6, every, 2, splits=[0, 3, 2, 1][n])
+        yield list(CEILINGS), n, 2, [rng.randrange(2), 1], flat(gs), spare
+
+
+def channel_lines(rng, inputs):
     todo = []
-    for limits, n, bits, store, words, short in channel_inputs(rng):
+    for limits, n, bits, store, words, short in inputs:
         want = channel_sizes(n, gates(words)) if n <= 4 and channel_verdict(CEILINGS, n, bits, store, words, 10**9, 10**9)[0] == 0 else (64, 64)
         result, work = buffer_lengths(rng, want, short)
         todo.append((limits, n, bits, store, words, result, work, channel_verdict(limits, n, bits, store, words, result, work)))
@@ -210,7 +225,7 @@ def channel_lines(rng):
     effects = ask([f"eff {n} {bits} {text(store)} {len(words) // 5} {text(words)}" if t and v[0] == 0 else "unit 0 0"
                    for t, (_, n, bits, store, words, _, _, v) in zip(told, todo)])
     for (limits, n, bits, store, words, result, work, verdict), of_rust, answer, effect in zip(todo, told, answers, effects):
-        after, spent, tail = [], [], [0, 0, 0]
+        after, spent, length, tail = [], [], 0, [10, checksum([])]
         if of_rust:
             assert (refusal(answer) or (0, 0)) == verdict, (limits, n, bits, store, words, answer[:1], verdict)
         if verdict[0] == 0:
@@ -222,21 +237,24 @@ def channel_lines(rng):
             effect_words = channel_words(dim, bits, order, blocks(effect)[2], dim)
             length = len(effect_words) + rng.choice([0, 0, 3, -1])
             short = length < len(effect_words)
-            tail = [length, 8 if short else 0, checksum(pattern(length) if short else over(length, effect_words))]
+            tail = [8 if short else 0, checksum(pattern(length) if short else over(length, effect_words))]
+        else:
+            assert read_channel(pattern(result)) is None
         sums = checksum(over(result, after)), checksum(over(work, spent))
-        yield [*shown(limits, 6), n, bits, len(store), *store, len(words), *words, result, work, *verdict, 0 if of_rust else 1, *sums, *tail]
+        yield [0 if of_rust else 1, *shown(limits), n, bits, len(store), *store, len(words), *words, result, work, length, *verdict, *sums, *tail], verdict[0]
 
 
 def main():
     what = sys.argv[1]
     seed = {"unitary": 1995, "channel": 2010}[what]
-    lines = list({"unitary": unitary_lines, "channel": channel_lines}[what](random.Random(seed)))
-    print(len(lines), *map(text, lines), sep="\n")
-    at = -3 if what == "unitary" else -6
-    of_rust = sum(line[at] == 0 for line in lines)
-    verdicts = {}
-    for line in lines:
-        verdicts[line[at - 2]] = verdicts.get(line[at - 2], 0) + 1
+    kind, made, inputs, more = {"unitary": (2, unitary_lines, unitary_inputs, more_unitary_inputs), "channel": (3, channel_lines, channel_inputs, more_channel_inputs)}[what]
+    lines, verdicts = [], {}
+    for rng, inputs in ((random.Random(seed), inputs), (random.Random(seed + 1), more)):
+        for line, verdict in made(rng, inputs(rng)):
+            lines.append(line)
+            verdicts[verdict] = verdicts.get(verdict, 0) + 1
+    print(f"{kind} {len(lines)}", *map(text, lines), sep="\n")
+    of_rust = sum(line[0] == 0 for line in lines)
     print(f"seed {seed}: {len(lines)} cases, {of_rust} by the Rust, {len(lines) - of_rust} by document 01; by verdict {dict(sorted(verdicts.items()))}", file=sys.stderr)
 
 

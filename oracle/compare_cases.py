@@ -1,7 +1,7 @@
 """Pairs of circuits whose channels are compared, by the Rust.
 
-A line: the left and the right circuit, each as n, bits, the store, gate word count and words; then the answer: verdict 0; 0 same, 1 dimensions, 2 an entry;
-the store's two words, row, column, the left and the right scalar (0 unless an entry differs); source 0.
+A line: source 0; the left and the right circuit, each as 0 (the default limits), n, bits, store length and bytes, gate word count and words; then the answer:
+verdict 0; 0 same, 1 dimensions, 2 an entry; the store's two words, row, column, the left and the right scalar (0 unless an entry differs).
 """
 import random
 import sys
@@ -94,12 +94,16 @@ def pairs(rng):
         b = (1, [0] * 64, [one(H, 0), (MEASURE, 0, bit, 0, 0)])
         c = (1, [0] * 64, [one(H, 0), (MEASURE, 0, 63 - bit, 0, 0)])
         out += [(a, b), (b, a), (b, c), (c, b)]
+    for bit in (32, 33, 63):  # the first difference in a store whose low word is 0
+        store = [int(j == bit) for j in range(64)]
+        a, b, c = (1, store, []), (1, store, [one(X, 0)]), (1, store, [one(H, 0), (MEASURE, 0, bit - 32, 0, 0)])
+        out += [(a, b), (b, a), (a, c), (c, b)]
     return out
 
 
 def numbers(c):
     n, store, gs = c
-    return [n, len(store), *store, 5 * len(gs), *flat(gs)]
+    return [0, n, len(store), len(store), *store, 5 * len(gs), *flat(gs)]
 
 
 def for_rust(c):
@@ -120,8 +124,8 @@ def main():
             bits = [] if words[1] == "-" else [int(b) for b in words[1]]
             low, high = (sum(b << j for j, b in enumerate(half)) for half in (bits[:32], bits[32:]))
             place = [low, high, *map(int, words[2:])]
-        lines.append(text([*numbers(p[0]), *numbers(p[1]), 0, kind, *place, 0]))
-    print(len(lines), *lines, sep="\n")
+        lines.append(text([0, *numbers(p[0]), *numbers(p[1]), 0, kind, *place]))
+    print(f"4 {len(lines)}", *lines, sep="\n")
     print(f"seed {SEED}: {len(lines)} pairs by the Rust: {kinds[0]} same, {kinds[1]} of other dimensions, {kinds[2]} that differ in an entry", file=sys.stderr)
 
 

@@ -1,4 +1,4 @@
-"""Cases of equivalent_up_to_global_phase. A line: the left and the right matrix, verdict, answer (1: equivalent), source.
+"""Cases of equivalent_up_to_global_phase. A line: source, the left and the right matrix, verdict, answer (1: equivalent).
 
 A matrix is dim, its number of words, the number of words that are not 0, and place and value of each of these. Source 0: the Rust's answer;
 1: a refusal, which the Rust has not, by document 01.
@@ -103,6 +103,10 @@ def pairs(rng):
         short = (dim, [0] * length)
         good = (2, words(2, {(0, 0): ONE}))
         out += [(short, good), (good, short)]
+    for s in edge[4:]:  # only the left is wide
+        for dim in (1, 2, 4):
+            wide = (dim, words(dim, {(dim - 1, 0): s}))
+            out += [(wide, (dim, words(dim, {}))), (wide, (dim, words(dim, {(dim - 1, 0): ONE})))]
     return out
 
 
@@ -123,8 +127,8 @@ def main():
         for dim, ws in p:
             marks = [(i, w) for i, w in enumerate(ws) if w]
             numbers += [dim, len(ws), len(marks), *(x for m in marks for x in m)]
-        lines.append(text(numbers + [verdict, same, 0 if verdict == 0 else 1]))
-    print(len(lines), *lines, sep="\n")
+        lines.append(text([0 if verdict == 0 else 1, *numbers, verdict, same]))
+    print(f"1 {len(lines)}", *lines, sep="\n")
     print(f"seed {SEED}: {len(lines)} cases, {by_rust} by the Rust ({equivalent} equivalent), {len(lines) - by_rust} refusals by document 01", file=sys.stderr)
 
 

@@ -1,4 +1,4 @@
-"""Cases of the scalar calls, 18 numbers a line: call, two operands of five numbers, verdict, value, source.
+"""Cases of the scalar calls, 18 numbers a line: source, call, two operands of five numbers, verdict, value.
 
 Calls: 0 integer (of the first number), 1 zero, 2 i, 3 inv_sqrt_two, 4 omega (of the first number), 5 add, 6 neg, 7 half, 8 conj, 9 mul.
 Unused numbers are 0. Source 0: the value is the Rust's; 1: a refusal, which the Rust has not, by document 01. A 9 of add, half and integer is
@@ -80,6 +80,13 @@ def cases(rng):
             out.append((5, x, y))
     one, tiny = (1, 0, 0, 0, 0), (1, 0, 0, 0, 60)
     out += [(5, one, tiny), (5, one, (-1, 0, 0, 0, 60)), (5, (TOP, 0, 0, 0, 0), tiny), (5, tiny, (TOP, 0, 0, 0, 0)), (5, (TOP, 0, 0, 0, 0), one)]
+    for at in range(4):  # 2 + (−2^60 + √2)/2^60, and the same at other numerators: only the aligned operand is out of range
+        x, y = [0] * 5, [0] * 5
+        x[at], y[at], y[at ^ 1], y[4] = 2, -TOP, 1, 60
+        out += [(5, tuple(x), tuple(y)), (5, tuple(y), tuple(x))]
+    for at in range(5):  # not in lowest form, at exponent 1
+        x = tuple(1 if j == 4 else 2 if j == at else 0 for j in range(5))
+        out += [(call, x, ZERO) for call in ONE_OPERAND] + [(call, *xs) for call in TWO_OPERANDS for xs in ((x, one), (one, x))]
     return out
 
 
@@ -110,9 +117,9 @@ def main():
             verdict = 9
         if verdict:
             value = ZERO
-        lines.append(" ".join(map(str, (call, *x, *y, verdict, *value, 1 if verdict else 0))))
-    print(len(lines), *lines, sep="\n")
-    refused = sum(line.endswith("1") for line in lines)
+        lines.append(" ".join(map(str, (1 if verdict else 0, call, *x, *y, verdict, *value))))
+    print(f"0 {len(lines)}", *lines, sep="\n")
+    refused = sum(line.startswith("1") for line in lines)
     print(f"seed {SEED}: {len(lines)} cases, {len(lines) - refused} by the Rust, {refused} refusals by document 01", file=sys.stderr)
 
 

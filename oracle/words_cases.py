@@ -1,9 +1,9 @@
 """Cases of compare, classical_blocks and the lookup on channels given by their words, sound and damaged.
 
-A line: the left and the right words, each as length, number of words that are not 0, place and value of these; compare: verdict, 0 same, 1 dimensions,
-2 an entry, the store's two words, row, column, both scalars; classical_blocks of the left: result length, verdict, checksum of the result
-(its words hold their place mod 997, plus 1, before the call); the lookup in the left: store length and bytes, length and checksum of the part;
-source 0 where compare's answer and the effects are the Rust's, 1 where document 01 refuses.
+A line: source; the left and the right words, each as length, number of words that are not 0, place and value of these; the length of the effects' buffer; the
+store to look for, its length and bytes. Then the answers: compare's verdict, 0 same, 1 dimensions, 2 an entry, the store's two words, row, column, both
+scalars; the verdict of classical_blocks of the left and the checksum of its buffer (whose words hold their place mod 997, plus 1, before the call); length
+and checksum of the part that the lookup in the left hands back. Source 0: compare's answer and the effects are the Rust's; 1: document 01 refuses.
 """
 import random
 import sys
@@ -13,6 +13,7 @@ from circuits import text
 from rules import ONE, ZERO, block_at, channel_words, checksum, effects_fit, lowest, read_channel
 
 SEED = 4096
+CASES = 320
 TOP = 2**60
 
 
@@ -101,20 +102,56 @@ def for_rust(words):
     return text(out)
 
 
-def lookup(rng, words):
-    """A store to look for, and the part that is handed back."""
+def lookup(rng, words, store=None):
+    """A store to look for, given or drawn, and the part that is handed back."""
     sound = read_channel(words)
+    if sound is None and store is not None:
+        return store, []
     if sound is None:
         bits = rng.choice([0, 1, 2])
         return [rng.randrange(2) for _ in range(bits)], []
     dim, bits, chain = sound
-    store = list(rng.choice(chain)[0]) if chain and rng.random() < 0.7 else [rng.randrange(2) for _ in range(bits)]
-    if rng.random() < 0.15:
-        store = rng.choice([store + [0], store[:-1], [2] + store[1:], [255] * len(store)])
+    if store is None:
+        store = list(rng.choice(chain)[0]) if chain and rng.random() < 0.7 else [rng.randrange(2) for _ in range(bits)]
+        if rng.random() < 0.15:
+            store = rng.choice([store + [0], store[:-1], [2] + store[1:], [255] * len(store)])
     for s, at in chain:
         if list(s) == store:
             return store, words[at + 3:at + 3 + 5 * dim**4]
     return store, []
+
+
+def one_record(bits, chain, low=0, high=0, count=1, spare=()):
+    """A channel of dimension 1 with one record, whose entry is 0."""
+    return [1, bits, count, chain, 0, low, high, 0, 0, 0, 0, 0, *spare]
+
+
+def edges():
+    """Pairs of channels with a store to look for, each with one thing at or past its edge."""
+    good, half = one_record(64, 4), (1, 0, 0, 0, 1)
+    for bad in (one_record(65, 4), one_record(2**32 + 1, 4), one_record(-1, 4),  # 64 bits at most
+                one_record(64, 4, 2**32), one_record(64, 4, 0, 2**32), one_record(64, 4, -1), one_record(64, 4, 0, -1),  # store words of 32 bits
+                one_record(64, 5, 0, 0, 1, [0]), one_record(64, 3),  # a chain that begins beside a record
+                one_record(64, 4, 0, 0, 2), one_record(64, 4, 0, 0, 2, [0] * 8), one_record(64, 4, 0, 0, 0)):  # more records, or fewer, than there are
+        yield bad, good, [0] * 64
+        yield good, bad, [0] * 64
+    two = [1, 64, 2, 4, 12, 0, 0, *ONE, 0, 1, 0, *ONE]
+    for at, word in ((4, 13), (4, 11), (3, 5), (2, 3), (2, 1)):  # a chain that goes on beside a record; a count past the length, or short of the chain
+        bad = [*two, 0, 0]
+        bad[at] = word
+        yield bad, two, [0] * 64
+        yield two, bad, [0] * 64
+    yield two[:-1], two, [0] * 64
+    yield one_record(65, 4), one_record(65, 4), [0] * 65
+    stores = [(0, 0), (0, 1), (1, 0), (1, 1)]
+    four = channel_words(1, 2, stores, {s: {(0, 0): ONE} for s in stores}, 1)
+    for store in ([2, 0], [0, 2], [1, 2], [3, 1], [2, 2], [0, 0], [1, 1]):  # bytes other than 0 and 1
+        yield four, four, store
+    for bit in (32, 33, 63):  # a difference in a store whose low word is 0
+        store = [int(j == bit) for j in range(64)]
+        here, there = (channel_words(1, 64, [tuple(store)], {tuple(store): {(0, 0): s}}, 1) for s in (ONE, half))
+        yield here, there, store
+        yield there, here, store
 
 
 def sparse(words):
@@ -125,17 +162,19 @@ def sparse(words):
 def main():
     rng = random.Random(SEED)
     todo = []
-    for j in range(320):
+    for j in range(CASES):
         left = random_channel(rng)
         right = variant(rng, left) if rng.random() < 0.75 else random_channel(rng)
         if j % 2:
             left, right = rng.choice([(damage(rng, left), right), (left, damage(rng, right)), (damage(rng, left), damage(rng, right))])
         todo.append((left, right))
+    wanted = [store for *_, store in edges()]
+    todo += [(left, right) for left, right, _ in edges()]
     sound = [read_channel(a) is not None and read_channel(b) is not None for a, b in todo]
     compared = ask([f"cmpw {for_rust(a)} {for_rust(b)}" if ok else "unit 0 0" for ok, (a, b) in zip(sound, todo)])
     traced = ask([f"effw {for_rust(a)}" if read_channel(a) is not None else "unit 0 0" for a, _ in todo])
     lines, verdicts, effect_verdicts = [], {}, {}
-    for ok, (left, right), answer, effect in zip(sound, todo, compared, traced):
+    for j, (ok, (left, right), answer, effect) in enumerate(zip(sound, todo, compared, traced)):
         verdict, kind, place = (0 if ok else 10), 0, [0] * 14
         if ok:
             words = answer[0].split()
@@ -161,12 +200,12 @@ def main():
                 number = 0
                 after = channel_words(dim, bits, [s for s, _ in by_place], blocks(effect)[2], dim)
             effects = [length, number, checksum(after + pattern(length)[len(after):])]
-        store, part = lookup(rng, left)
+        store, part = lookup(rng, left, wanted[j - CASES] if j >= CASES else None)
         verdicts[verdict, kind] = verdicts.get((verdict, kind), 0) + 1
         effect_verdicts[effects[1]] = effect_verdicts.get(effects[1], 0) + 1
         of_rust = ok and effects[1] == 0
-        lines.append(text([*sparse(left), *sparse(right), verdict, kind, *place, *effects, len(store), *store, len(part), checksum(part), 0 if of_rust else 1]))
-    print(len(lines), *lines, sep="\n")
+        lines.append(text([0 if of_rust else 1, *sparse(left), *sparse(right), effects[0], len(store), *store, verdict, kind, *place, *effects[1:], len(part), checksum(part)]))
+    print(f"5 {len(lines)}", *lines, sep="\n")
     print(f"seed {SEED}: {len(lines)} cases, compare {dict(sorted(verdicts.items()))}, classical_blocks {dict(sorted(effect_verdicts.items()))}", file=sys.stderr)
 
 

@@ -1,7 +1,7 @@
--- Laws of a text's numbers: a byte more, where a number ends, and numbers held against others.
+-- Laws of a text's numbers: a byte more, where a number ends; and of a list that is folded place by place.
 use mathlib.Core.Path.{_≡_, refl, sym, ap, _∙_, subst}
-use mathlib.Core.Bool.{Bool, true, false, cond, _&&_, _||_}
-use mathlib.Core.List.{List, [], _∷_}
+use mathlib.Core.Bool.{Bool, true, false, cond, _||_}
+use mathlib.Core.List.{List, [], _∷_, foldl}
 use Prim.Native.Nat.{ℕ, suc, _+_, _*_, _-_, _≤_, _<_}
 use native.Mathlib.Numerals.{add-one}
 use lib.Dec.{eqb, ltb}
@@ -13,7 +13,6 @@ use mir.Facts.{toZ-ofZ}
 use Rattle.replay.specs.declared.text.Digits.{Digits}
 use Rattle.replay.specs.declared.text.Word.{Word}
 use Rattle.replay.specs.Text.{digits, withByte, wordOf, wordFrom, wordAt, wordNo}
-use Rattle.replay.specs.Record.{checkedFrom}
 use Rattle.replay.proofs.Signs.{signed-fits}
 
 pub byte-is : (d : Digits) (b : ℕ) {minus low high full : Bool} → eqb b 45 ≡ minus → ltb b 48 ≡ low → ltb 57 b ≡ high → ltb 1844674407370955160 (d .size) ≡ full
@@ -24,6 +23,14 @@ byte-is d b m l h f = λ i. cond (m i) (digits (d .size) true) (cond (l i) d (co
 -- the rest of a list, from a place before its end
 pub next-drop : {A : Type 0} (l : List A) (i : ℕ) (z : A) → i < length l → drop i l ≡ getD l i z ∷ drop (i + 1) l
 next-drop l i z h = drop-cons l i z h ∙ ap (λ (k : ℕ). getD l i z ∷ drop k l) (sym (add-one i))
+
+-- ---- a fold over the places from i on: one place more, and none left
+module _ {A B : Type 0} (f : B → A → B) (l : List A) where
+  pub fold-more : {b now : B} (i : ℕ) (z : A) → i < length l → now ≡ f b (getD l i z) → foldl f b (drop i l) ≡ foldl f now (drop (i + 1) l)
+  fold-more {b} i z h e = ap (foldl f b) (next-drop l i z h) ∙ ap (λ (a : B). foldl f a (drop (i + 1) l)) (sym e)
+
+  pub fold-end : (b : B) (i : ℕ) → length l ≤ i → foldl f b (drop i l) ≡ b
+  fold-end b i h = ap (foldl f b) (drop-of-length-le l h)
 
 from-fits : (bs : List ℕ) (d : Digits) (at : ℕ) → SFits w64 (wordFrom d at bs .value)
 unfolding wordFrom
@@ -61,11 +68,3 @@ module _ (t : List ℕ) where
   -- one number more
   pub following : (at k : ℕ) {a w : Word} → a ≡ wordNo t at k → w ≡ wordAt t (a .next) → w ≡ wordNo t at (suc k)
   following at k p q = q ∙ ap (λ (a : Word). wordAt t (a .next)) p
-
-  -- ---- numbers held against the record
-  module _ (agrees : Bool) (at : ℕ) (ns : List ℕ) (i : ℕ) where
-    pub check-end : length ns ≤ i → checkedFrom t agrees at (drop i ns) ≡ record { agrees = agrees; next = at }
-    check-end h = ap (checkedFrom t agrees at) (drop-of-length-le ns h)
-
-    pub check-more : {w : Word} → i < length ns → w ≡ wordAt t at → checkedFrom t agrees at (drop i ns) ≡ checkedFrom t (agrees && eqb (w .size) (getD ns i 0)) (w .next) (drop (i + 1) ns)
-    check-more h e = ap (checkedFrom t agrees at) (next-drop ns i 0 h) ∙ sym (λ k. checkedFrom t (agrees && eqb (e k .size) (getD ns i 0)) (e k .next) (drop (i + 1) ns))

@@ -1,5 +1,6 @@
 pub mod Text
 pub mod Record
 pub mod Checksum
+pub mod Answers
 pub mod Tally
 pub mod Words

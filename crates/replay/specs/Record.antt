@@ -1,19 +1,15 @@
--- What a text records: numbers that an answer is held against, and scalars.
-use mathlib.Core.Bool.{Bool, true, _&&_}
-use mathlib.Core.List.{List, [], _∷_}
-use Prim.Native.Nat.{ℕ, _%_}
-use lib.Dec.{eqb}
-use Rattle.replay.specs.declared.record.Checked.{Checked}
+-- What a text records: numbers, scalars and bytes, each held against what a call answered.
+use mathlib.Core.Bool.{Bool, false, cond, _&&_}
+use mathlib.Core.List.{List, [], _∷_, foldl}
+use Prim.Native.Nat.{ℕ, _+_, _%_}
+use lib.Dec.{eqb, ltb}
+use lib.ListN.{length, getD}
+use Rattle.exact.specs.Exact.{equal}
+use Rattle.scalar.specs.declared.Scalar.{Scalar}
+use Rattle.scalar.specs.Calls.{value}
+use Rattle.replay.specs.declared.record.Record.{Record}
 use Rattle.replay.specs.declared.scalars.ScalarRead.{ScalarRead}
 use Rattle.replay.specs.Text.{wordAt, wordNo}
-
--- whether the numbers from `at` on are these, if all before them agreed
-abbrev pub checkedFrom : List ℕ → Bool → ℕ → List ℕ → Checked
-checkedFrom t agrees at [] = record { agrees = agrees; next = at }
-checkedFrom t agrees at (n ∷ ns) = checkedFrom t (agrees && eqb (wordAt t at .size) n) (wordAt t at .next) ns
-
-abbrev pub checkedAt : List ℕ → ℕ → List ℕ → Checked
-checkedAt t at ns = checkedFrom t true at ns
 
 -- n0 to n3 and e
 abbrev pub scalarAt : List ℕ → ℕ → ScalarRead
@@ -24,3 +20,25 @@ scalarAt t at = record {
   };
   next = wordNo t at 4 .next;
 }
+
+-- whether all that was compared agrees, and where the rest begins
+abbrev pub recordOf : Bool → ℕ → Record
+recordOf agrees next = record { agrees = agrees; next = next }
+
+-- the next number is n
+abbrev pub withNumber : List ℕ → Record → ℕ → Record
+withNumber t r n = recordOf (r .agrees && eqb (wordAt t (r .next) .size) n) (wordAt t (r .next) .next)
+
+abbrev pub withNumbers : List ℕ → Record → List ℕ → Record
+withNumbers t r ns = foldl (withNumber t) r ns
+
+-- the next scalar is s
+abbrev pub withScalar : List ℕ → Record → Scalar → Record
+withScalar t r s = recordOf (r .agrees && equal (value s) (value (scalarAt t (r .next) .value))) (scalarAt t (r .next) .next)
+
+-- the next byte is b; behind the text's end there is none
+abbrev pub withByte : List ℕ → Record → ℕ → Record
+withByte t r b = cond (ltb (r .next) (length t)) (recordOf (r .agrees && eqb (getD t (r .next) 0) b) (r .next + 1)) (recordOf false (r .next))
+
+abbrev pub withBytes : List ℕ → Record → List ℕ → Record
+withBytes t r bs = foldl (withByte t) r bs

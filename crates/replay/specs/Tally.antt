@@ -2,7 +2,7 @@
 use mathlib.Core.Bool.{Bool, true, cond, not, _&&_, _||_}
 use Prim.Native.Nat.{ℕ, _+_}
 use lib.Dec.{ltb}
-use Rattle.replay.specs.declared.tally.Outcome.{Outcome}
+use Rattle.replay.specs.declared.record.Record.{Record}
 use Rattle.replay.specs.declared.tally.Tally.{Tally}
 
 -- a count, with one more where a test says so; it stops at a million
@@ -16,11 +16,11 @@ firstOf before case agrees = cond (agrees || ltb 0 before) before case
 abbrev pub none : Tally
 none = record { cases = 0; «of_rust» = 0; «of_document» = 0; disagree = 0; first = 0 }
 
-abbrev pub withCase : Tally → Outcome → Tally
-withCase t o = record {
+abbrev pub withCase : Tally → Record → Bool → Tally
+withCase t r rust = record {
   cases = counted (t .cases) true;
-  «of_rust» = counted (t .«of_rust») (o .agrees && o .«of_rust»);
-  «of_document» = counted (t .«of_document») (o .agrees && not (o .«of_rust»));
-  disagree = counted (t .disagree) (not (o .agrees));
-  first = firstOf (t .first) (counted (t .cases) true) (o .agrees);
+  «of_rust» = counted (t .«of_rust») (r .agrees && rust);
+  «of_document» = counted (t .«of_document») (r .agrees && not rust);
+  disagree = counted (t .disagree) (not (r .agrees));
+  first = firstOf (t .first) (counted (t .cases) true) (r .agrees);
 }

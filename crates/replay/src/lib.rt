@@ -1,4 +1,5 @@
-// Replays of recorded answers: a text of numbers is read, the calls are made, and agreement is counted.
+// Replays of recorded answers: a text of numbers is read, the calls are made, their answers are held against the record, and agreement is counted.
+pub mod answers;
 pub mod record;
 pub mod scalars;
 pub mod sum;

@@ -1,26 +1,104 @@
-// Numbers held against the record.
+// The record of a case's answers, read number by number and held against what the calls answered.
+use crate::scalars::read_scalar;
 use crate::text::read;
+use scalar::Scalar;
 ghost use mathlib.Core.Path.{_≡_};
-ghost use Rattle.replay.specs.Record.{checkedAt};
+ghost use mathlib.Core.Bool.{true};
+ghost use Rattle.replay.specs.Record.{recordOf, withNumber, withNumbers, withScalar, withByte, withBytes};
 
-// Whether they agree, and where the next number begins.
-pub struct Checked {
-    pub agrees: bool,
-    pub next: usize,
+// Whether all that was compared so far agrees, and where the rest of the record begins. Only the comparisons below change it.
+pub struct Record {
+    agrees: bool,
+    next: usize,
 }
 
-// Whether the numbers of the text from `at` on are these.
-pub fn check(text: &[u8], at: usize, numbers: &[u64]) -> Checked
-    ensures { λ r. ⌜ r ≡ checkedAt (now (text .entry)) at (now (numbers .entry)) ⌝ }
-{
-    let mut agrees = true;
-    let mut next = at;
-    let mut i = 0;
-    while i < numbers.len() {
-        let word = read(text, next);
-        agrees = agrees & (word.size == numbers[i]);
-        next = word.next;
-        i += 1;
+impl Record {
+    pub fn begin(at: usize) -> Record
+        ensures { λ r. ⌜ r ≡ recordOf true at ⌝ }
+    {
+        Record {
+            agrees: true,
+            next: at,
+        }
     }
-    Checked { agrees, next }
+
+    pub fn agrees(self) -> bool
+        ensures { λ r. ⌜ r ≡ self .agrees ⌝ }
+    {
+        self.agrees
+    }
+
+    pub fn next(self) -> usize
+        ensures { λ r. ⌜ r ≡ self .next ⌝ }
+    {
+        self.next
+    }
+
+    // The next number is this one.
+    pub fn number(self, text: &[u8], n: u64) -> Record
+        ensures { λ r. ⌜ r ≡ withNumber (now (text .entry)) self n ⌝ }
+    {
+        let word = read(text, self.next);
+        Record {
+            agrees: self.agrees & (word.size == n),
+            next: word.next,
+        }
+    }
+
+    // The next numbers are these.
+    pub fn numbers(self, text: &[u8], ns: &[u64]) -> Record
+        ensures { λ r. ⌜ r ≡ withNumbers (now (text .entry)) self (now (ns .entry)) ⌝ }
+    {
+        let mut seen = self;
+        let mut i = 0;
+        while i < ns.len() {
+            let n = ns[i];
+            seen = seen.number(text, n);
+            i += 1;
+        }
+        seen
+    }
+
+    // The next scalar is this one.
+    pub fn scalar(self, text: &[u8], s: Scalar) -> Record
+        ensures { λ r. ⌜ r ≡ withScalar (now (text .entry)) self s ⌝ }
+    {
+        let recorded = read_scalar(text, self.next);
+        let value = recorded.value;
+        Record {
+            agrees: self.agrees & s.equals(value),
+            next: recorded.next,
+        }
+    }
+
+    // The next byte is this one; behind the text's end there is none.
+    fn byte(self, text: &[u8], b: u8) -> Record
+        ensures { λ r. ⌜ r ≡ withByte (now (text .entry)) self b ⌝ }
+    {
+        let at = self.next;
+        if at < text.len() {
+            return Record {
+                agrees: self.agrees & (text[at] == b),
+                next: at + 1,
+            };
+        }
+        Record {
+            agrees: false,
+            next: at,
+        }
+    }
+
+    // The next bytes are these.
+    pub fn bytes(self, text: &[u8], bs: &[u8]) -> Record
+        ensures { λ r. ⌜ r ≡ withBytes (now (text .entry)) self (now (bs .entry)) ⌝ }
+    {
+        let mut seen = self;
+        let mut i = 0;
+        while i < bs.len() {
+            let b = bs[i];
+            seen = seen.byte(text, b);
+            i += 1;
+        }
+        seen
+    }
 }

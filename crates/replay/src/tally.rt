@@ -1,22 +1,16 @@
 // What a replay counts and prints.
+use crate::record::Record;
 use libc::STDOUT_FILENO;
 ghost use mathlib.Core.Path.{_≡_};
 ghost use Rattle.replay.specs.Tally.{counted, firstOf, none, withCase};
 
-// One case: whether the call agrees with the record, whether the record is the Rust's, and where the next case begins.
-pub struct Outcome {
-    pub agrees: bool,
-    pub of_rust: bool,
-    pub next: usize,
-}
-
 // All cases; those that agree, by where the record comes from; those that do not, and the number of the first of these, from 1.
 pub struct Tally {
-    pub cases: u64,
-    pub of_rust: u64,
-    pub of_document: u64,
-    pub disagree: u64,
-    pub first: u64,
+    cases: u64,
+    of_rust: u64,
+    of_document: u64,
+    disagree: u64,
+    first: u64,
 }
 
 // A count, with one more where `more` says so; it stops at a million.
@@ -46,17 +40,16 @@ impl Tally {
         }
     }
 
-    // With one more case.
-    pub fn with(self, outcome: Outcome) -> Tally
-        ensures { λ r. ⌜ r ≡ withCase self outcome ⌝ }
+    // With one more case, whose record is the Rust's or document 01's.
+    pub fn with(self, seen: Record, rust: bool) -> Tally
+        ensures { λ r. ⌜ r ≡ withCase self seen rust ⌝ }
     {
-        let agrees = outcome.agrees;
-        let of_rust = outcome.of_rust;
+        let agrees = seen.agrees();
         let cases = counted(self.cases, true);
         Tally {
             cases,
-            of_rust: counted(self.of_rust, agrees & of_rust),
-            of_document: counted(self.of_document, agrees & !of_rust),
+            of_rust: counted(self.of_rust, agrees & rust),
+            of_document: counted(self.of_document, agrees & !rust),
             disagree: counted(self.disagree, !agrees),
             first: first_of(self.first, cases, agrees),
         }

@@ -1,15 +1,14 @@
 -- `sum::checksum` meets its contract.
 use mathlib.Core.Path.{_≡_, refl, sym, ap, _∙_}
 use mathlib.Core.List.{foldl}
-use Prim.Native.Nat.{_+_, _-_}
+use Prim.Native.Nat.{_-_}
 use native.Mathlib.Omega.{arith}
 use borrow.Author.Needs.{needs}
-use lib.ListN.{length, drop, drop-of-length-le}
+use lib.ListN.{length, drop}
 use lib.IntN.{pos}
 use mir.Facts.{toZ-ofZ}
-use Rattle.replay.specs.declared.sum.Sums.{Sums}
 use Rattle.replay.specs.Checksum.{sums, withWord, joined}
-use Rattle.replay.proofs.Reading.{next-drop}
+use Rattle.replay.proofs.Reading.{fold-more, fold-end}
 use Rattle.replay.proofs.sum.checksum.Statement.{statement}
 use Rattle.replay.proofs.sum.checksum.Tie as tie
 
@@ -42,8 +41,7 @@ loop-again c =
     let k = c .before .before in
     let l = k .before in
     let ws = l .before .args .words .now in
-    l .loop .inv ∙ ap (foldl withWord (l .loop .sums)) (next-drop ws (l .loop .i) (pos 0) (k .loop-test .taken))
-    ∙ ap (λ (s : Sums). foldl withWord s (drop (l .loop .i + 1) ws)) (sym (c .with-word .ensures ∙ ap (withWord (l .loop .sums)) (toZ-ofZ (record { sfits = c .before .w .given }))))
+    l .loop .inv ∙ fold-more withWord ws (l .loop .i) (pos 0) (k .loop-test .taken) (c .with-word .ensures ∙ ap (withWord (l .loop .sums)) (toZ-ofZ (record { sfits = c .before .w .given })))
 
 joined-requires : tie.Need-joined-requires Inv-loop μ-loop
 joined-requires c κs = search needs
@@ -52,7 +50,7 @@ returns : tie.Need-returns Inv-loop μ-loop
 returns c =
     let a = c .before in
     let l = a .before in
-    c .joined .ensures ∙ ap joined (sym (l .loop .inv ∙ ap (foldl withWord (l .loop .sums)) (drop-of-length-le (l .before .args .words .now) (a .loop-test .left))))
+    c .joined .ensures ∙ ap joined (sym (l .loop .inv ∙ fold-end withWord (l .before .args .words .now) (l .loop .sums) (l .loop .i) (a .loop-test .left)))
 
 pub checksum-spec : {M : Type 1} → statement M
 checksum-spec =

@@ -1,10 +1,13 @@
 -- `Tally::with` meets its contract.
-use mathlib.Core.Path.{ap, _∙_}
-use Prim.Native.Nat.{ℕ}
-use Rattle.replay.specs.Tally.{firstOf}
+use mathlib.Core.Path.{_∙_}
+use mathlib.Core.Bool.{not, _&&_}
 use borrow.Author.Needs.{needs}
+use Rattle.replay.specs.Tally.{counted, firstOf}
 use Rattle.replay.proofs.tally.Tally.with.Statement.{statement}
 use Rattle.replay.proofs.tally.Tally.with.Tie as tie
+
+agrees-requires : tie.Need-agrees-requires
+agrees-requires c κs = search needs
 
 counted-requires : tie.Need-counted-requires
 counted-requires c κs = search needs
@@ -27,20 +30,20 @@ returns c =
     let c3 = c4 .before in
     let c2 = c3 .before in
     let c1 = c2 .before in
-    let s = c1 .before .args in
-    let first = c .first-of .ensures ∙ ap (λ (n : ℕ). firstOf (s .self .first) n (s .outcome .agrees)) (c1 .counted .ensures) in
-    λ i. record {
-      cases = c1 .counted .ensures i;
-      «of_rust» = c2 .counted2 .ensures i;
-      «of_document» = c3 .counted3 .ensures i;
-      disagree = c4 .counted4 .ensures i;
-      first = first i;
-    }
+    let a = c1 .before in
+    let s = a .before .args in
+    let e = a .agrees .ensures in
+    let rust = c2 .counted2 .ensures ∙ (λ i. counted (s .self .«of_rust») (e i && s .rust)) in
+    let document = c3 .counted3 .ensures ∙ (λ i. counted (s .self .«of_document») (e i && not (s .rust))) in
+    let disagree = c4 .counted4 .ensures ∙ (λ i. counted (s .self .disagree) (not (e i))) in
+    let first = c .first-of .ensures ∙ (λ i. firstOf (s .self .first) (c1 .counted .ensures i) (e i)) in
+    λ i. record { cases = c1 .counted .ensures i; «of_rust» = rust i; «of_document» = document i; disagree = disagree i; first = first i }
 
 pub with-spec : {M : Type 1} → statement M
 with-spec =
     tie.close
     (tie.spec
+    agrees-requires
     counted-requires
     counted-requires-2
     counted-requires-3

@@ -1,0 +1,53 @@
+// Cases of the program that lists a channel.
+use list_text::list;
+use replay::record::Record;
+use replay::text::read;
+use replay::words::fitting;
+ghost use Prim.Native.Nat.{_≤_};
+ghost use lib.ListN.{length};
+
+// The lengths of the buffers that the program lends.
+const RESULT: u64 = 5200;
+
+const WORK: u64 = 2000;
+
+// Where a part of the text begins and ends.
+struct Span {
+    start: usize,
+    end: usize,
+}
+
+// The part of `size` bytes from `at` on, or as much of it as there is.
+fn part(text: &[u8], at: usize, size: u64) -> Span
+    ensures { λ r. ⌜ (r .start ≤ r .end) × (r .end ≤ length (now (text .entry))) ⌝ }
+{
+    let start = fitting(at as u64, text.len());
+    let end = start + fitting(size, text.len() - start);
+    Span { start, end }
+}
+
+// The first `count` bytes of the page, held against the record.
+fn said(text: &[u8], at: usize, page: &[u8], count: usize) -> Record {
+    let seen = Record::begin(at).number(text, count as u64);
+    let n = fitting(count as u64, page.len());
+    seen.bytes(text, &page[..n])
+}
+
+// The length of a text, the text and a newline; the length of the answer and the answer.
+pub fn listing_case(
+    text: &[u8],
+    at: usize,
+    result: &mut [i64],
+    work: &mut [i64],
+    page: &mut [u8],
+) -> Record {
+    let size = read(text, at);
+    let given = part(text, size.next, size.size);
+    let start = given.start;
+    let end = given.end;
+    let r = fitting(RESULT, result.len());
+    let w = fitting(WORK, work.len());
+    let count = list(&text[start..end], &mut result[..r], &mut work[..w], page);
+    let newline = part(text, end, 1);
+    said(text, newline.end, page, count)
+}
