@@ -29,8 +29,9 @@ use Rattle.gate.specs.Entries.{gateEntry, flips, Ready}
 use Rattle.gate.proofs.Bits.{Word}
 use Rattle.gate.proofs.Dispatch.{valid-ready}
 use Rattle.kraus.specs.Dense.{cell}
-use Rattle.kraus.specs.Branch.{Branch, apply, step}
+use Rattle.kraus.specs.Branch.{Branch, KrausOperator, apply, krausOperator, operatorsOf, gateStep}
 use Rattle.kraus.proofs.Enough.{Everywhere}
+use Rattle.kraus.proofs.Counting.{step-length}
 use Rattle.kraus.proofs.Limits.{Kraus, Enough, matrixOf, gate-entries}
 use Rattle.store.specs.Inner.Held.{StoreAt}
 use Rattle.branches.specs.Store.{outcomePair, outcomeBit}
@@ -53,17 +54,21 @@ module _ (n m : ℕ) (g : Gate) (ok : valid n m g ≡ true) (z : Branch) (bs : L
   abbrev ops : ℕ
   ops = length (operators g)
 
-  pub step-length : length (step n bs g) ≡ length bs * length (operators g)
-  step-length = concat-length (λ (b : Branch). map (apply n g b) os) ops (λ b. length-map os (apply n g b)) bs
+  abbrev K : Operator → KrausOperator
+  K = krausOperator n g
 
-  step-at : (j : ℕ) → j < length bs * ops → getD (step n bs g) j (apply n g z o) ≡ apply n g (getD bs (j / ops) z) (getD os (j % ops) o)
+  pub gate-length : length (gateStep n bs g) ≡ length bs * length (operators g)
+  gate-length = step-length n (operatorsOf n g) bs ∙ ap (λ (k : ℕ). length bs * k) (length-map os K)
+
+  step-at : (j : ℕ) → j < length bs * ops → getD (gateStep n bs g) j (apply n z (K o)) ≡ apply n (getD bs (j / ops) z) (K (getD os (j % ops) o))
   step-at j h =
       let p = factor-pos j (length bs) ops h in
-      ap (λ (k : ℕ). getD (step n bs g) k (apply n g z o)) (sym (div-add-mod' j ops))
-      ∙ concat-at (λ (b : Branch). map (apply n g b) os) ops (λ b. length-map os (apply n g b)) bs z (apply n g z o) (j / ops) (j % ops) (div-lt-iff-lt-mul p .1 h) (mod-lt j p)
+      ap (λ (k : ℕ). getD (gateStep n bs g) k (apply n z (K o))) (sym (div-add-mod' j ops))
+      ∙ concat-at (λ (b : Branch). map (apply n b) (operatorsOf n g)) ops (λ b. length-map (operatorsOf n g) (apply n b) ∙ length-map os K) bs z (apply n z (K o)) (j / ops) (j % ops)
+      (div-lt-iff-lt-mul p .1 h) (mod-lt j p)
       ∙ past (getD bs (j / ops) z) (j % ops) os (mod-lt j p)
     where
-      past : (b : Branch) (k : ℕ) (xs : List Operator) → k < length xs → getD (map (apply n g b) xs) k (apply n g z o) ≡ apply n g b (getD xs k o)
+      past : (b : Branch) (k : ℕ) (xs : List Operator) → k < length xs → getD (map (apply n b) (map K xs)) k (apply n z (K o)) ≡ apply n b (K (getD xs k o))
       past b k [] h = absurd (not-suc-le-zero h)
       past b zero (x ∷ xs) h = refl
       past b (suc k) (x ∷ xs) h = past b k xs (omega arith)
@@ -124,7 +129,7 @@ module _ (n m : ℕ) (g : Gate) (ok : valid n m g ≡ true) (z : Branch) (bs : L
           store-at (2 ^ n) bs held z j h b (omega arith)
 
       module _ (slots : ℕ) (few-qubits : n ≤ 5) (rows : (v : ℕ) → v < length (operators g) → RowsAt l (slots + v * branchSize (2 ^ n)) n g v (2 ^ n)) where
-        step-words : (j : ℕ) → j < length bs * ops → stepWords l (flips n g) slots ops from (2 ^ n) (outcomeBit g) j ≡ branchWords (2 ^ n) (getD (step n bs g) j (apply n g z o))
+        step-words : (j : ℕ) → j < length bs * ops → stepWords l (flips n g) slots ops from (2 ^ n) (outcomeBit g) j ≡ branchWords (2 ^ n) (getD (gateStep n bs g) j (apply n z (K o)))
         step-words j h =
             let p = factor-pos j (length bs) ops h in
             let b = div-lt-iff-lt-mul p .1 h in
@@ -137,8 +142,8 @@ module _ (n m : ℕ) (g : Gate) (ok : valid n m g ≡ true) (z : Branch) (bs : L
             ∙ ap (branchWords (2 ^ n)) (sym (step-at j h))
 
         pub step-held : {to : ℕ} {q : List ℤ} → q ≡ blocks (branchSize (2 ^ n)) l to (length bs * length (operators g)) (stepWords l (flips n g) slots (length (operators g)) from (2 ^ n) (outcomeBit g))
-            → to + length bs * length (operators g) * branchSize (2 ^ n) ≤ length l → Holds q to (bankWords (2 ^ n) (step n bs g))
+            → to + length bs * length (operators g) * branchSize (2 ^ n) ≤ length l → Holds q to (bankWords (2 ^ n) (gateStep n bs g))
         step-held {to} e room =
             let f = stepWords l (flips n g) slots ops from (2 ^ n) (outcomeBit g) in
-            held-blocks l to (2 ^ n) f (apply n g z o) (step n bs g) (e ∙ ap (λ (k : ℕ). blocks (branchSize (2 ^ n)) l to k f) (sym step-length))
-            (λ j. le-of-eq (length-product l (flips n g) _ _ (2 ^ n) (outcomeBit g) (j % ops))) (omega (arith, ap (λ (k : ℕ). k * branchSize (2 ^ n)) step-length)) (λ j h. step-words j (omega (arith, step-length)))
+            held-blocks l to (2 ^ n) f (apply n z (K o)) (gateStep n bs g) (e ∙ ap (λ (k : ℕ). blocks (branchSize (2 ^ n)) l to k f) (sym gate-length))
+            (λ j. le-of-eq (length-product l (flips n g) _ _ (2 ^ n) (outcomeBit g) (j % ops))) (omega (arith, ap (λ (k : ℕ). k * branchSize (2 ^ n)) gate-length)) (λ j h. step-words j (omega (arith, gate-length)))

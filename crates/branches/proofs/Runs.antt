@@ -24,7 +24,7 @@ use Rattle.gate.proofs.Bits.{Word}
 use Rattle.gate.proofs.Dispatch.{valid-ready}
 use Rattle.gate.proofs.Partner.{row-two}
 use Rattle.gate.proofs.Listed.{gates-length, gates-at}
-use Rattle.kraus.specs.Branch.{Store, Branch, branches, start, step}
+use Rattle.kraus.specs.Branch.{Store, Branch, branches, start, gateStep}
 use Rattle.kraus.proofs.Counting.{branch-count, branches-bits}
 use Rattle.kraus.proofs.Limits.{Enough, never-48}
 use Rattle.branches.specs.Store.{outcomeBit}
@@ -35,7 +35,7 @@ use Rattle.branches.proofs.Banks.{length-branch, length-bank, held-same
 use Rattle.branches.proofs.Products.{rows-at}
 use Rattle.branches.proofs.Steps.{length-product}
 use Rattle.branches.proofs.Gates.{two-operators, operators-some}
-use Rattle.branches.proofs.Link.{step-length, step-small, step-below, step-own, step-other, step-factor, step-lowest, step-store, step-held}
+use Rattle.branches.proofs.Link.{gate-length, step-small, step-below, step-own, step-other, step-factor, step-lowest, step-store, step-held}
 
 pub work-is : (d banks : ℕ) → workSize d banks ≡ 2 * (banks * branchSize d) + 2 * branchSize d
 work-is d banks = add-mul (2 * banks) 2 (branchSize d) ∙ ap (λ (k : ℕ). k + 2 * branchSize d) (mul-assoc 2 banks (branchSize d))
@@ -119,15 +119,15 @@ module _ {l₀ : List ℤ} {ws : List ℕ} {σ : Store} {n banks : ℕ} (r : Run
     ok : valid n (length σ) g ≡ true
     ok = subst (λ (g : Gate). valid n (length σ) g ≡ true) gate-is (all-getD (λ (g : Gate). valid n (length σ) g ≡ true) (gatesOf ws) (every-all (valid n (length σ)) _ (λ g e. e) (gatesOf ws) (r .accepted)) i listed none)
 
-    next : after (i + 1) ≡ step n (after i) g
+    next : after (i + 1) ≡ gateStep n (after i) g
     next =
         ap (λ (k : ℕ). after k) (add-one i)
         ∙ ap (branches n σ) (take-suc (gatesOf ws) i none listed)
-        ∙ foldl-append (step n) (start n σ) (take i (gatesOf ws)) (getD (gatesOf ws) i none ∷ [])
-        ∙ ap (step n (after i)) gate-is
+        ∙ foldl-append (gateStep n) (start n σ) (take i (gatesOf ws)) (getD (gatesOf ws) i none ∷ [])
+        ∙ ap (gateStep n (after i)) gate-is
 
     next-length : length (after (i + 1)) ≡ length (after i) * ops
-    next-length = ap length next ∙ step-length n (length σ) g ok (identityBranch d σ) (after i)
+    next-length = ap length next ∙ gate-length n (length σ) g ok (identityBranch d σ) (after i)
 
     from-le : from ≤ bank
     from-le = ⊎-elim (λ e. omega arith) (λ e. omega arith) (w .place)

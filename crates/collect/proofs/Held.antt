@@ -18,9 +18,8 @@ use Rattle.exact.specs.Exact.{Exact, exact}
 use Rattle.exact.specs.Inner.{Room}
 use Rattle.matrix.specs.Factors.{Factor}
 use Rattle.gate.specs.Gate.{Gate, valid, weight, splits}
-use Rattle.gate.specs.Operators.{Operator, operators}
 use Rattle.gate.proofs.Bits.{Word}
-use Rattle.kraus.specs.Branch.{Store, Branch, apply, step, start, branches}
+use Rattle.kraus.specs.Branch.{Store, Branch, KrausOperator, apply, start, operatorsOf, gateStep, branches}
 use Rattle.kraus.specs.Blocks.{alive, survivors, having, block, stores}
 use Rattle.kraus.proofs.Dense.{tabulate-length, tabulate-at}
 use Rattle.kraus.proofs.Counting.{branch-count, branches-bits}
@@ -54,11 +53,12 @@ module _ (n : ℕ) where
   abbrev Square : Branch → Type 0
   Square b = length (b .matrix) ≡ 2 ^ n * 2 ^ n
 
-  run-square : (gs : List Gate) (bs : List Branch) → All Square bs → All Square (foldl (step n) bs gs)
+  run-square : (gs : List Gate) (bs : List Branch) → All Square bs → All Square (foldl (gateStep n) bs gs)
   run-square [] bs h = h
   run-square (g ∷ gs) bs h =
-      run-square gs (step n bs g)
-      (all-concat Square Square (λ (b : Branch). map (apply n g b) (operators g)) (λ b k. all-map (λ (o : Operator). Unit {0}) Square (apply n g b) (λ o u. tabulate-length (2 ^ n * 2 ^ n) 0 _) (operators g) (any (λ (o : Operator). Unit {0}) (λ o. tt) (operators g))) bs h)
+      run-square gs (gateStep n bs g)
+      (all-concat Square Square (λ (b : Branch). map (apply n b) (operatorsOf n g)) (λ b k.
+      all-map (λ (K : KrausOperator). Unit {0}) Square (apply n b) (λ K u. tabulate-length (2 ^ n * 2 ^ n) 0 _) (operatorsOf n g) (any (λ (K : KrausOperator). Unit {0}) (λ K. tt) (operatorsOf n g))) bs h)
 
 -- an accepted circuit's branches in a bank
 pub circuit-held : {l : List ℤ} {at : ℕ} (n : ℕ) (σ : Store) (gs : List Gate) → every (valid n (length σ)) gs ≡ true → Bits σ → total weight gs ≤ 48 → length σ ≤ 64 → n ≤ 4 → 2 ^ total splits gs ≤ 64
