@@ -15,7 +15,7 @@ use Rattle.cells.specs.Cells.{fill}
 use Rattle.cells.proofs.Cell.{fill-block}
 use Rattle.gate.specs.Gate.{Gate, gateAt, elem, measure, reset, splits}
 use Rattle.gate.specs.Operators.{operators}
-use Rattle.gate.specs.Entries.{flips, rowEntry, Ready}
+use Rattle.gate.specs.Inner.Entries.{flips, rowEntry, Ready}
 use Rattle.kraus.proofs.Counting.{operators-length}
 use Rattle.branches.specs.Store.{outcomeBit}
 use Rattle.branches.specs.Bank.{branchSize}

@@ -14,18 +14,19 @@ use Rattle.algebra.specs.Lists.{All}
 use Rattle.algebra.specs.Words.{blocks}
 use Rattle.algebra.proofs.Lists.{all-getD, concat-length, concat-at}
 use Rattle.algebra.proofs.Sum.{times-same}
-use Rattle.exact.specs.Exact.{Exact, exact, isLowest}
+use Rattle.exact.specs.Exact.{Exact, exact, isLowest, narrowExponent}
 use Rattle.exact.specs.Inner.{Coords}
 use Rattle.exact.proofs.Exact.{exacts}
 use Rattle.exact.proofs.Sizes.{well-lowest}
-use Rattle.cells.specs.Cells.{cellAt}
+use Rattle.cells.specs.Cells.{cellAt, cellSize}
 use Rattle.cells.proofs.Cell.{cells-same}
 use Rattle.matrix.specs.Matrix as matrix
 use Rattle.matrix.specs.Factors.{Factor}
 use Rattle.matrix.proofs.Terms.{row-lt, column-lt}
-use Rattle.gate.specs.Gate.{Gate, valid}
+use Rattle.gate.specs.Gate.{Gate}
 use Rattle.gate.specs.Operators.{Operator, operator, operators, noUnitary}
-use Rattle.gate.specs.Entries.{gateEntry, flips, Ready}
+use Rattle.gate.specs.Inner.Entries.{valid, flips, Ready}
+use Rattle.gate.specs.Embed.{gateEntry}
 use Rattle.gate.proofs.Bits.{Word}
 use Rattle.gate.proofs.Dispatch.{valid-ready}
 use Rattle.kraus.specs.Dense.{cell}
@@ -35,7 +36,7 @@ use Rattle.kraus.proofs.Counting.{step-length}
 use Rattle.kraus.proofs.Limits.{Kraus, Enough, matrixOf, gate-entries}
 use Rattle.store.specs.Inner.Held.{StoreAt}
 use Rattle.branches.specs.Store.{outcomePair, outcomeBit}
-use Rattle.branches.specs.Bank.{matrixSize, branchSize, branchWords, bankWords, Holds}
+use Rattle.branches.specs.Bank.{matrixSize, branchSize, branchWords, bankWords, Holds, rowSize}
 use Rattle.branches.specs.Step.{rowSum, product, RowsAt, stepWords}
 use Rattle.branches.proofs.Stores.{outcome-store}
 use Rattle.branches.proofs.Banks.{read-factor, bank-read, bank-low, bank-high, store-at, held-blocks, table-cells}
@@ -74,27 +75,27 @@ module _ (n m : ℕ) (g : Gate) (ok : valid n m g ≡ true) (z : Branch) (bs : L
       past b (suc k) (x ∷ xs) h = past b k xs (omega arith)
 
   -- the entries of its operators are small
-  pub step-small : (v r c : ℕ) → v < length (operators g) → r < 2 ^ n → c < 2 ^ n → Coords 1 28 (gateEntry n g v r c)
+  pub step-small : (v r c : ℕ) → v < length (operators g) → r < 2 ^ n → c < 2 ^ n → Coords 1 narrowExponent (gateEntry n g v r c)
   step-small v r c hv hr hc =
       let k = all-getD (λ (o : Operator). Everywhere (Kraus 1) n (matrixOf n g o)) os (gate-entries n m g ok) v hv o c hc r hr in
       record { exponent = omega (arith, k .coords .exponent); size = k .coords .size }
 
   module _ {l : List ℤ} {from : ℕ} (held : Holds l from (bankWords (2 ^ n) bs)) where
     -- and so are those of its branches
-    module _ (E : ℕ) (small : E ≤ 28) (enough : Enough E n bs) (j i : ℕ) (h : j < length bs) (hi : i < 2 ^ n * 2 ^ n) where
+    module _ (E : ℕ) (small : E ≤ narrowExponent) (enough : Enough E n bs) (j i : ℕ) (h : j < length bs) (hi : i < 2 ^ n * 2 ^ n) where
       abbrev x : Exact
       x = getD (getD bs j z .matrix) i (exact .𝟘)
 
       kraus : Kraus E x
       kraus = all-getD (λ (b : Branch). (i : ℕ) → i < 2 ^ n * 2 ^ n → Kraus E (getD (b .matrix) i (exact .𝟘))) bs (enough .entries) j h z i hi
 
-      cell-is : cellAt l (from + j * branchSize (2 ^ n) + i * 5) ≡ x
+      cell-is : cellAt l (from + j * branchSize (2 ^ n) + i * cellSize) ≡ x
       cell-is = bank-read (2 ^ n) bs held z j h .number i hi
 
-      pub step-factor : Factor l (from + j * branchSize (2 ^ n) + i * 5)
+      pub step-factor : Factor l (from + j * branchSize (2 ^ n) + i * cellSize)
       step-factor = read-factor (bank-read (2 ^ n) bs held z j h) E small i hi kraus
 
-      pub step-lowest : isLowest (cellAt l (from + j * branchSize (2 ^ n) + i * 5)) ≡ true
+      pub step-lowest : isLowest (cellAt l (from + j * branchSize (2 ^ n) + i * cellSize)) ≡ true
       step-lowest = ap isLowest cell-is ∙ well-lowest x (kraus .well-formed)
 
     -- the product with a branch in words is that with its matrix
@@ -111,10 +112,10 @@ module _ (n m : ℕ) (g : Gate) (ok : valid n m g ≡ true) (z : Branch) (bs : L
       pub step-below : (r : ℕ) → r < 2 ^ n → bitXor r (flips n g) < 2 ^ n
       step-below r hr = partner-lt (operable 0 (operators-some g)) few-qubits refl hr
 
-      pub step-own : (v r : ℕ) → v < length (operators g) → r < 2 ^ n → Factor l (slots + v * branchSize (2 ^ n) + r * 10)
+      pub step-own : (v r : ℕ) → v < length (operators g) → r < 2 ^ n → Factor l (slots + v * branchSize (2 ^ n) + r * rowSize)
       step-own v r hv hr = own-factor (operable v hv) few-qubits refl refl (rows v hv) (λ r c hr hc. step-small v r c hv hr hc) r hr
 
-      pub step-other : (v r : ℕ) → v < length (operators g) → r < 2 ^ n → Factor l (slots + v * branchSize (2 ^ n) + r * 10 + 5)
+      pub step-other : (v r : ℕ) → v < length (operators g) → r < 2 ^ n → Factor l (slots + v * branchSize (2 ^ n) + r * rowSize + cellSize)
       step-other v r hv hr = other-factor (operable v hv) few-qubits refl refl (rows v hv) (λ r c hr hc. step-small v r c hv hr hc) r hr
 
       row-sums : (j : ℕ) → j < length bs → (v r c : ℕ) → v < ops → r < 2 ^ n → c < 2 ^ n

@@ -12,6 +12,10 @@ use Rattle.kraus.specs.Dense.{table}
 use Rattle.kraus.specs.Branch.{Store, Branch}
 use Rattle.branches.specs.Store.{storeWords}
 
+-- the words of a row of an operator: its two entries
+abbrev pub rowSize : ℕ
+rowSize = 2 * cellSize
+
 -- the words of a matrix, and of a branch, with d rows and columns
 abbrev pub matrixSize : ℕ → ℕ
 matrixSize d = d * d * cellSize

@@ -10,8 +10,9 @@ use Rattle.algebra.proofs.Sum.{listSum-same, listSum-map, listSum-concat, zero-
 use Rattle.algebra.proofs.Adjoint.{dot, dot-same, dot-one, keep-dot}
 use Rattle.exact.specs.Exact.{Exact, exact}
 use Rattle.exact.proofs.Exact.{exacts}
-use Rattle.gate.specs.Gate.{Gate, valid}
+use Rattle.gate.specs.Gate.{Gate}
 use Rattle.gate.specs.Operators.{operators}
+use Rattle.gate.specs.Inner.Entries.{valid}
 use Rattle.gate.proofs.Complete.{conjugation, gate-complete}
 use Rattle.kraus.specs.Dense.{table, cell, left}
 use Rattle.kraus.specs.Branch.{Store, Branch, KrausOperator, apply, step, start, krausOperator, operatorsOf, gateStep, branches}

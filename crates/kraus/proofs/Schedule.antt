@@ -16,9 +16,10 @@ use Rattle.algebra.proofs.Schedule.{schedule-trace}
 use Rattle.algebra.proofs.Perm.{Perm, perm-path, concat-of, steps-commute, split, splits-commute, filter-of}
 use Rattle.exact.specs.Exact.{Exact, exact}
 use Rattle.exact.proofs.Exact.{exacts}
-use Rattle.gate.specs.Gate.{Gate, elem, meet, qubits, bits, share, valid}
+use Rattle.gate.specs.Gate.{Gate, elem, meet, qubits, bits, share}
 use Rattle.gate.specs.Operators.{Operator, operators}
 use Rattle.gate.specs.Embed.{embed}
+use Rattle.gate.specs.Inner.Entries.{valid}
 use Rattle.gate.proofs.Gate.{meet-no, Fits, valid-fits}
 use Rattle.gate.proofs.Embed.{embeds-commute}
 use Rattle.kraus.specs.Branch.{Store, Branch, write, apply, start, krausOperator, operatorsOf, gateStep, branches}

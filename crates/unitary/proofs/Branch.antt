@@ -10,9 +10,10 @@ use Rattle.algebra.specs.Sum.{δ}
 use Rattle.algebra.specs.Lists.{every, total}
 use Rattle.algebra.proofs.Tests.{and-split}
 use Rattle.exact.specs.Exact.{Exact, exact}
-use Rattle.gate.specs.Gate.{Gate, qubits, splits, valid}
+use Rattle.gate.specs.Gate.{Gate, qubits, splits, measure, reset}
 use Rattle.gate.specs.Operators.{Operator, operator, projectors, resetters, unitaries, noUnitary}
 use Rattle.gate.specs.Embed.{embed}
+use Rattle.gate.specs.Inner.Entries.{valid}
 use Rattle.kraus.specs.Dense.{table, left}
 use Rattle.kraus.specs.Branch.{Branch, write, apply, gateStep, branches}
 use Rattle.unitary.specs.Unitary.{unitaryStep, circuitUnitary}
@@ -22,8 +23,8 @@ abbrev pub branch : List Exact → Branch
 branch m = record { matrix = m; store = [] }
 
 -- neither measure nor reset
-no-split : (g : Gate) → eqb (splits g) 0 ≡ true → (eqb (g .kind) 12 ≡ false) × (eqb (g .kind) 13 ≡ false)
-no-split g = go (eqb (g .kind) 12) (eqb (g .kind) 13)
+no-split : (g : Gate) → eqb (splits g) 0 ≡ true → (eqb (g .kind) measure ≡ false) × (eqb (g .kind) reset ≡ false)
+no-split g = go (eqb (g .kind) measure) (eqb (g .kind) reset)
   where
     go : (a b : Bool) → eqb (cond (a || (b || false)) 1 0) 0 ≡ true → (a ≡ false) × (b ≡ false)
     go true b e = absurd (true≢false (sym e))
@@ -31,7 +32,7 @@ no-split g = go (eqb (g .kind) 12) (eqb (g .kind) 13)
     go false false e = (refl, refl)
 
 step-one : (n : ℕ) (g : Gate) (m : List Exact) → eqb (splits g) 0 ≡ true → gateStep n (branch m ∷ []) g ≡ branch (unitaryStep n m g) ∷ []
-step-one n g m e = let f = no-split g e in go (eqb (g .kind) 12) (eqb (g .kind) 13) (f .0) (f .1)
+step-one n g m e = let f = no-split g e in go (eqb (g .kind) measure) (eqb (g .kind) reset) (f .0) (f .1)
   where
     ops : Bool → Bool → List Operator
     ops a b = cond a projectors (cond b resetters (operator (getD (unitaries (g .k)) (g .kind) noUnitary) 0 ∷ []))
