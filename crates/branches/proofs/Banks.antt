@@ -25,8 +25,8 @@ use Rattle.kraus.specs.Branch.{Store, Branch}
 use Rattle.kraus.proofs.Dense.{tabulate-at}
 use Rattle.kraus.proofs.Limits.{Kraus}
 use Rattle.store.specs.Inner.Held.{Bits, StoreAt}
-use Rattle.branches.specs.Store.{storeWords}
-use Rattle.branches.specs.Bank.{matrixSize, branchSize, branchWords, bankWords, identityBranch, Holds}
+use Rattle.branches.specs.Inner.Store.{storeWords}
+use Rattle.branches.specs.Inner.Bank.{matrixSize, branchSize, branchWords, bankWords, identityBranch, Holds}
 use Rattle.branches.proofs.Stores.{low-below, high-below}
 
 -- ---- the words of a branch

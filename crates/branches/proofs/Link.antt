@@ -35,9 +35,9 @@ use Rattle.kraus.proofs.Enough.{Everywhere}
 use Rattle.kraus.proofs.Counting.{step-length}
 use Rattle.kraus.proofs.Limits.{Kraus, Enough, matrixOf, gate-entries}
 use Rattle.store.specs.Inner.Held.{StoreAt}
-use Rattle.branches.specs.Store.{outcomePair, outcomeBit}
-use Rattle.branches.specs.Bank.{matrixSize, branchSize, branchWords, bankWords, Holds, rowSize}
-use Rattle.branches.specs.Step.{rowSum, product, RowsAt, stepWords}
+use Rattle.branches.specs.Inner.Store.{outcomePair, outcomeBit}
+use Rattle.branches.specs.Inner.Bank.{matrixSize, branchSize, branchWords, bankWords, Holds, rowSize}
+use Rattle.branches.specs.Inner.Step.{rowSum, product, RowsAt, stepWords}
 use Rattle.branches.proofs.Stores.{outcome-store}
 use Rattle.branches.proofs.Banks.{read-factor, bank-read, bank-low, bank-high, store-at, held-blocks, table-cells}
 use Rattle.branches.proofs.Gates.{operators-some}

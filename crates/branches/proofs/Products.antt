@@ -11,7 +11,7 @@ use lib.Dec.{eqb, leb}
 use lib.ListN.{length}
 use lib.IntN.{ℤ, pos}
 use borrow.Author.Tests.{le-leb}
-use Rattle.branches.specs.Bank.{rowSize}
+use Rattle.branches.specs.Inner.Bank.{rowSize}
 use Rattle.algebra.specs.Sum.{times}
 use Rattle.algebra.specs.Words.{blocks, fillWords}
 use Rattle.algebra.proofs.Semi as semi
@@ -31,7 +31,7 @@ use Rattle.matrix.specs.Matrix.{cell, written, zeros}
 use Rattle.matrix.specs.Factors.{Factor, Scaling, combinedRow}
 use Rattle.matrix.proofs.Terms.{by-zero, zero-first, row-lt, column-lt, factor-same}
 use Rattle.matrix.proofs.Rows.{zero-cells}
-use Rattle.branches.specs.Step.{rowSum, Applying, product, RowsAt}
+use Rattle.branches.specs.Inner.Step.{rowSum, Applying, product, RowsAt}
 
 -- the rows of an operator, from cells that hold its entries
 rows-own : (n : ℕ) (g : Gate) (j r : ℕ) → rowEntry n g j (r * 2) ≡ gateEntry n g j r r

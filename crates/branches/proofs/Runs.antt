@@ -28,10 +28,10 @@ use Rattle.gate.proofs.Listed.{gates-length, gates-at}
 use Rattle.kraus.specs.Branch.{Store, Branch, branches, start, gateStep}
 use Rattle.kraus.proofs.Counting.{branch-count, branches-bits}
 use Rattle.kraus.proofs.Limits.{Enough, krausExponent, circuit-enough}
-use Rattle.branches.specs.Store.{outcomeBit}
-use Rattle.branches.specs.Bank.{branchSize, branchWords, bankWords, identityBranch, Holds, rowSize}
-use Rattle.branches.specs.Step.{RowsAt, stepWords}
-use Rattle.branches.specs.Run.{workSize, operatorWords, withOperators, gateStepped, GateStep, Runs, Ran}
+use Rattle.branches.specs.Inner.Store.{outcomeBit}
+use Rattle.branches.specs.Inner.Bank.{branchSize, branchWords, bankWords, identityBranch, Holds, rowSize}
+use Rattle.branches.specs.Inner.Step.{RowsAt, stepWords}
+use Rattle.branches.specs.Inner.Run.{workSize, operatorWords, withOperators, gateStepped, GateStep, Runs, Ran}
 use Rattle.branches.proofs.Banks.{length-branch, length-bank, held-same}
 use Rattle.branches.proofs.Products.{rows-at}
 use Rattle.branches.proofs.Steps.{length-product}

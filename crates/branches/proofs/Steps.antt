@@ -17,9 +17,9 @@ use Rattle.store.specs.Store.{maxWord}
 use Rattle.matrix.specs.Matrix.{written}
 use Rattle.matrix.proofs.Terms.{row-lt, column-lt, factor-same}
 use Rattle.store.specs.Inner.Held.{StoreAt}
-use Rattle.branches.specs.Store.{outcomePair, outcomeWords}
-use Rattle.branches.specs.Bank.{matrixSize, branchSize, rowSize}
-use Rattle.branches.specs.Step.{rowSum, Applying, productWords, stepWords, Step}
+use Rattle.branches.specs.Inner.Store.{outcomePair, outcomeWords}
+use Rattle.branches.specs.Inner.Bank.{matrixSize, branchSize, rowSize}
+use Rattle.branches.specs.Inner.Step.{rowSum, Applying, productWords, stepWords, Step}
 use Rattle.branches.proofs.Products.{own-at, other-at, sum-same}
 
 pub dim-square : (d : ℕ) → d ≤ 32 → d * d ≤ 1024

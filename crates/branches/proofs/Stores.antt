@@ -21,7 +21,7 @@ use Rattle.gate.specs.Inner.Entries.{valid}
 use Rattle.gate.proofs.Bits.{Word}
 use Rattle.kraus.specs.Branch.{Store, write}
 use Rattle.store.specs.Inner.Held.{Bits}
-use Rattle.branches.specs.Store.{storeWords, withBit, outcomeWord, outcomePair, outcomeBit}
+use Rattle.branches.specs.Inner.Store.{storeWords, withBit, outcomeWord, outcomePair, outcomeBit}
 use Rattle.algebra.proofs.Bits.{bits-take, bits-drop, bits-below, take-below, bits-set, bit-weight}
 
 -- ---- the word of the bits from `first` on, with a bit written

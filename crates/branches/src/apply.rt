@@ -7,7 +7,7 @@ use matrix::words::clear;
 use matrix::words::is_zero;
 ghost use mathlib.Core.Path.{_≡_};
 ghost use Rattle.matrix.specs.Matrix.{written};
-ghost use Rattle.branches.specs.Step.{Applying, rowSum};
+ghost use Rattle.branches.specs.Inner.Step.{Applying, rowSum};
 
 // Write an operator times the matrix at `old` to `new`, row by row. Row r of the operator has entries in columns r and r ^ m alone, which lie from op on, row after row.
 fn apply_rows(work: &mut [i64], m: usize, op: usize, old: usize, new: usize, d: usize)

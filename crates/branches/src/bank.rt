@@ -10,8 +10,8 @@ ghost use lib.ListN.{length};
 ghost use lib.Seq.{sets};
 ghost use Rattle.algebra.specs.Words.{blocks};
 ghost use Rattle.store.specs.Inner.Held.{Bits};
-ghost use Rattle.branches.specs.Bank.{branchSize, branchWords, identityBranch};
-ghost use Rattle.branches.specs.Step.{Step, stepWords};
+ghost use Rattle.branches.specs.Inner.Bank.{branchSize, branchWords, identityBranch};
+ghost use Rattle.branches.specs.Inner.Step.{Step, stepWords};
 
 // The words of a row of an operator: its two entries.
 pub const ROW: usize = 10;

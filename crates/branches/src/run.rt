@@ -15,8 +15,8 @@ ghost use Rattle.gate.specs.Gate.{gateAt};
 ghost use Rattle.gate.specs.Operators.{operators};
 ghost use Rattle.gate.specs.Inner.Entries.{flips};
 ghost use Rattle.gate.specs.Verdict.{gateOf};
-ghost use Rattle.branches.specs.Store.{outcomeBit};
-ghost use Rattle.branches.specs.Run.{Slots, withOperators, gateStepped, GateStep, Runs, Ran};
+ghost use Rattle.branches.specs.Inner.Store.{outcomeBit};
+ghost use Rattle.branches.specs.Inner.Run.{Slots, withOperators, gateStepped, GateStep, Runs, Ran};
 
 // Write the rows of a gate's operators to the two slots; answers how many operators they are. m are the bits that the gate may change.
 fn write_operators(
@@ -39,11 +39,14 @@ fn write_operators(
     2
 }
 
-// The classical bit that a gate writes; 64, which no store has, where it writes none.
+// A bit that no store has.
+const NO_BIT: u32 = 64;
+
+// The classical bit that a gate writes.
 fn outcome_bit(g: GateWords) -> u32
     ensures { λ r. ⌜ r ≡ outcomeBit (gateOf g) ⌝ }
 {
-    if g.kind == MEASURE { g.b } else { 64 }
+    if g.kind == MEASURE { g.b } else { NO_BIT }
 }
 
 // Send the `count` branches at `from` to their products with the operators of the gate at `at`, whose rows are written to the two slots; answers how many they are.

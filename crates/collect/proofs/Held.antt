@@ -26,7 +26,7 @@ use Rattle.kraus.proofs.Dense.{tabulate-length, tabulate-at}
 use Rattle.kraus.proofs.Counting.{branch-count, branches-bits}
 use Rattle.kraus.proofs.Limits.{Kraus, Enough, krausExponent, circuit-enough}
 use Rattle.store.specs.Inner.Held.{Bits}
-use Rattle.branches.specs.Bank.{bankWords, Holds}
+use Rattle.branches.specs.Inner.Bank.{bankWords, Holds}
 use Rattle.branches.proofs.Banks.{read-factor, bank-room, bank-read, bank-low, bank-high, store-at}
 use Rattle.store.specs.Store.{bits, storeFrom}
 use Rattle.channel.specs.Layout.{headerSize, recordSize, side}

@@ -16,8 +16,8 @@ use Rattle.gate.specs.Gate.{Gate, gatesOf, splits}
 use Rattle.gate.specs.Inner.Entries.{valid}
 use Rattle.kraus.specs.Branch.{Branch, branches}
 use Rattle.kraus.specs.Blocks.{survivors, stores}
-use Rattle.branches.specs.Bank.{branchSize, bankWords, Holds}
-use Rattle.branches.specs.Run.{workSize, Runs, Ran}
+use Rattle.branches.specs.Inner.Bank.{branchSize, bankWords, Holds}
+use Rattle.branches.specs.Inner.Run.{workSize, Runs, Ran}
 use Rattle.circuit.specs.declared.limits.Limits.{Limits}
 use Rattle.circuit.specs.Sizes.{workWords}
 use Rattle.circuit.proofs.Products.{square-is}

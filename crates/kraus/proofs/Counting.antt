@@ -202,13 +202,13 @@ module _ (mark : ℕ → Bool) (n : ℕ) (σ : Store) where
   fit-run [] m bs h = h
   fit-run (g ∷ gs) m bs h =
       fit-run gs (m .1) (gateStep n bs g)
-      (all-concat Fits Fits (λ (b : Branch). map (apply n b) (operatorsOf n g)) (λ b f. all-map (Keeping f) Fits (apply n b) (λ K k. k) (operatorsOf n g) (keeping g (m .0) f)) bs h)
+      (all-concat Fits Fits (λ (b : Branch). map (apply n b) (operatorsOf n g)) (λ b f. all-map (Keeping b) Fits (apply n b) (λ K k. k) (operatorsOf n g) (keeping g (m .0) b f)) bs h)
     where
-      Keeping : {b : Branch} → Fits b → KrausOperator → Type 0
-      Keeping {b} f K = Fit mark σ (K .writes (b .store))
+      Keeping : Branch → KrausOperator → Type 0
+      Keeping b K = Fit mark σ (K .writes (b .store))
 
-      keeping : (g : Gate) → All (λ (i : ℕ). mark i ≡ true) (bits g) → {b : Branch} (f : Fits b) → All (Keeping f) (operatorsOf n g)
-      keeping g k {b} f = all-map Out (Keeping f) (krausOperator n g) (λ o x. fit-write (b .store) (bits g) (o .out) f k x) (operators g) (outs g)
+      keeping : (g : Gate) → All (λ (i : ℕ). mark i ≡ true) (bits g) → (b : Branch) → Fits b → All (Keeping b) (operatorsOf n g)
+      keeping g k b f = all-map Out (Keeping b) (krausOperator n g) (λ o x. fit-write (b .store) (bits g) (o .out) f k x) (operators g) (outs g)
 
 -- ---- the marks are the bits that some gate writes
 abbrev written : List Gate → ℕ → Bool

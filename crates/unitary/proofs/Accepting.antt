@@ -33,11 +33,11 @@ use Rattle.verdict.specs.Verdict.{accepted}
 use Rattle.circuit.specs.Questions.{ask, after, atGate, gatesVerdict, unitaryWithin, matrixVerdict, unitaryVerdict}
 use Rattle.circuit.proofs.Numbers.{matrix-low}
 use Rattle.circuit.proofs.Products.{square-is}
-use Rattle.branches.specs.Store.{storeWords}
-use Rattle.branches.specs.Bank.{bankWords}
-use Rattle.branches.specs.Run.{Runs, Ran}
+use Rattle.branches.specs.Inner.Store.{storeWords}
+use Rattle.branches.specs.Inner.Bank.{bankWords}
+use Rattle.branches.specs.Inner.Run.{Runs, Ran}
 use Rattle.unitary.specs.Unitary.{circuitUnitary, verdictOf, resultAfter, workAfter}
-use Rattle.unitary.specs.Accepted.{Accepted}
+use Rattle.unitary.specs.Inner.Accepted.{Accepted}
 use Rattle.unitary.proofs.Branch.{one-branch, all-valid, none-split}
 use Rattle.unitary.proofs.Words.{copied}
 

@@ -23,7 +23,7 @@ use Rattle.kraus.specs.Dense.{cell}
 use Rattle.kraus.proofs.Complete.{norm, gram, completeness}
 use Rattle.circuit.proofs.Products.{square-is}
 use Rattle.unitary.specs.Unitary.{circuitUnitary}
-use Rattle.unitary.specs.Accepted.{Accepted}
+use Rattle.unitary.specs.Inner.Accepted.{Accepted}
 use Rattle.unitary.specs.IsUnitary.{IsUnitary, Delivers, DeliversUnitary}
 use Rattle.unitary.proofs.Branch.{branch, one-branch, all-valid}
 use Rattle.unitary.proofs.Accepting.{unitary-accepted}

@@ -10,7 +10,7 @@ use Rattle.algebra.specs.Words.{fillWords, joined}
 use Rattle.algebra.proofs.Blocks.{Writing, again-word, blocks-joined, length-joined, joined-at}
 use Rattle.exact.specs.Exact.{Exact}
 use Rattle.cells.specs.Cells.{cellWords, fill, cells, cellSize}
-use Rattle.branches.specs.Bank.{Holds}
+use Rattle.branches.specs.Inner.Bank.{Holds}
 
 -- one word more from the start
 pub next-word : {l : List ℤ} {n : ℕ} (f : ℕ → ℤ) {b : List ℤ} {i : ℕ} → Writing 1 l 0 n (λ (k : ℕ). f k ∷ []) b i → {x : ℤ} → i < n → x ≡ f i

@@ -16,7 +16,7 @@ ghost use Rattle.exact.specs.Exact.{exact};
 ghost use Rattle.cells.specs.Cells.{fill};
 ghost use Rattle.gate.specs.Gate.{gatesOf};
 ghost use Rattle.circuit.specs.Sizes.{unitaryWork};
-ghost use Rattle.unitary.specs.Accepted.{Accepted};
+ghost use Rattle.unitary.specs.Inner.Accepted.{Accepted};
 ghost use Rattle.unitary.specs.Unitary.{circuitUnitary, verdictOf, resultAfter, workAfter};
 
 // Copy n words of `work`, from `from` on, to the start of `result`.

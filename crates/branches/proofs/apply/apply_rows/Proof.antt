@@ -5,7 +5,7 @@ use native.Mathlib.Nat.{mul-le-mul, le-refl}
 use native.Mathlib.Omega.{arith}
 use lib.Bits.{bitXor}
 use lib.ListN.{length}
-use Rattle.branches.specs.Bank.{rowSize}
+use Rattle.branches.specs.Inner.Bank.{rowSize}
 use Rattle.exact.specs.Exact.{narrowExponent}
 use Rattle.algebra.proofs.Blocks.{done, long, block-in}
 use Rattle.exact.specs.Inner.{Coords}

@@ -11,9 +11,9 @@ use lib.IntN.{ℤ}
 use Rattle.algebra.proofs.Blocks.{Writing, begin, done, long}
 use Rattle.matrix.specs.Matrix.{written}
 use Rattle.store.specs.Inner.Held.{StoreAt}
-use Rattle.branches.specs.Store.{outcomeWords}
-use Rattle.branches.specs.Bank.{matrixSize, branchSize, rowSize}
-use Rattle.branches.specs.Step.{rowSum, Applying, stepWords}
+use Rattle.branches.specs.Inner.Store.{outcomeWords}
+use Rattle.branches.specs.Inner.Bank.{matrixSize, branchSize, rowSize}
+use Rattle.branches.specs.Inner.Step.{rowSum, Applying, stepWords}
 use Rattle.branches.proofs.Steps.{step-square, total-le, length-product, number-is, branch-is, op-at, old-in, new-in, turn-applying, turn-store, turn-room, turn-more}
 use Rattle.branches.proofs.bank.step.Statement.{statement}
 use Rattle.branches.proofs.bank.step.Tie as tie

@@ -5,8 +5,8 @@ use native.Mathlib.Omega.{arith}
 use lib.Pow.{pow-mono}
 use lib.ListN.{length}
 use Rattle.gate.specs.Gate.{gateSize}
-use Rattle.branches.specs.Bank.{branchSize}
-use Rattle.branches.specs.Run.{Ran}
+use Rattle.branches.specs.Inner.Bank.{branchSize}
+use Rattle.branches.specs.Inner.Run.{Ran}
 use Rattle.branches.proofs.Runs.{Running, work-is, begins, place-le, ready, more, ends}
 use Rattle.branches.proofs.run.run_gates.Statement.{statement}
 use Rattle.branches.proofs.run.run_gates.Tie as tie

@@ -16,8 +16,8 @@ use Rattle.gate.specs.Inner.Entries.{partner}
 use Rattle.matrix.specs.Matrix.{cell}
 use Rattle.matrix.specs.Factors.{Factor, combinedRow}
 use Rattle.store.specs.Inner.Held.{StoreAt}
-use Rattle.branches.specs.Store.{outcomeWords}
-use Rattle.branches.specs.Bank.{matrixSize, branchSize, rowSize}
+use Rattle.branches.specs.Inner.Store.{outcomeWords}
+use Rattle.branches.specs.Inner.Bank.{matrixSize, branchSize, rowSize}
 
 -- ---- one operator, given by two entries to a row
 -- row r of an operator at `op`, with entries in columns r and r ^ m, times the matrix at `old`, by columns

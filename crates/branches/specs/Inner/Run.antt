@@ -13,9 +13,9 @@ use Rattle.gate.specs.Operators.{operators}
 use Rattle.gate.specs.Inner.Entries.{valid, flips, rowEntry, Ready}
 use Rattle.kraus.specs.Branch.{Store, branches}
 use Rattle.store.specs.Inner.Held.{Bits}
-use Rattle.branches.specs.Store.{outcomeBit}
-use Rattle.branches.specs.Bank.{branchSize, bankWords, Holds, rowSize}
-use Rattle.branches.specs.Step.{Step, stepWords}
+use Rattle.branches.specs.Inner.Store.{outcomeBit}
+use Rattle.branches.specs.Inner.Bank.{branchSize, bankWords, Holds, rowSize}
+use Rattle.branches.specs.Inner.Step.{Step, stepWords}
 
 abbrev pub operatorsAt : ℕ → ℕ → ℕ
 operatorsAt d banks = 2 * (banks * branchSize d)
