@@ -13,9 +13,9 @@ use Rattle.algebra.specs.Sum.{δ}
 use Rattle.algebra.specs.Words.{fromBits, blocks, upTo}
 use Rattle.algebra.proofs.Lists.{concat-length, concat-at}
 use Rattle.algebra.proofs.Blocks.{Same, length-blocks, blocks-at, block-in, append-block}
-use Rattle.exact.specs.Exact.{Exact, exact, maxExponent}
+use Rattle.exact.specs.Exact.{Exact, exact, maxExponent, narrowExponent}
 use Rattle.exact.specs.Inner.Sizes.{Coords}
-use Rattle.cells.specs.Cells.{cellWords, cellAt, exponentAt, cells}
+use Rattle.cells.specs.Cells.{cellWords, cellAt, exponentAt, cells, cellSize}
 use Rattle.cells.proofs.Cell.{cell-is, exponent-is, length-cells, cells-at, cells-same, fill-block}
 use Rattle.store.specs.Store.{maxWord}
 use Rattle.matrix.specs.Inner.Written.{identified}
@@ -25,8 +25,8 @@ use Rattle.kraus.specs.Branch.{Store, Branch}
 use Rattle.kraus.proofs.Dense.{tabulate-at}
 use Rattle.kraus.proofs.Limits.{Kraus}
 use Rattle.store.specs.Inner.Held.{Bits, StoreAt}
-use Rattle.branches.specs.Store.{storeWords}
-use Rattle.branches.specs.Bank.{matrixSize, branchSize, branchWords, bankWords, identityBranch, Holds}
+use Rattle.branches.specs.Inner.Store.{storeWords}
+use Rattle.branches.specs.Inner.Bank.{matrixSize, branchSize, branchWords, bankWords, identityBranch, Holds}
 use Rattle.branches.proofs.Stores.{low-below, high-below}
 
 -- ---- the words of a branch
@@ -37,9 +37,9 @@ module _ (d : ℕ) (b : Branch) where
   pub length-branch : length (branchWords d b) ≡ branchSize d
   length-branch = length-append (cells (d * d) entries) (storeWords (b .store)) ∙ ap (λ (n : ℕ). n + 2) (length-cells entries (d * d))
 
-  branch-cell : (i k : ℕ) → i < d * d → k < 5 → getD (branchWords d b) (i * 5 + k) (pos 0) ≡ getD (cellWords (entries i)) k (pos 0)
+  branch-cell : (i k : ℕ) → i < d * d → k < cellSize → getD (branchWords d b) (i * cellSize + k) (pos 0) ≡ getD (cellWords (entries i)) k (pos 0)
   branch-cell i k h l =
-      List·getD-append (cells (d * d) entries) (storeWords (b .store)) (pos 0) (i * 5 + k) (omega (arith, length-cells entries (d * d), block-in h 5))
+      List·getD-append (cells (d * d) entries) (storeWords (b .store)) (pos 0) (i * cellSize + k) (omega (arith, length-cells entries (d * d), block-in h cellSize))
       ∙ cells-at entries (d * d) i k h l
 
   branch-store : (k : ℕ) → getD (branchWords d b) (matrixSize d + k) (pos 0) ≡ getD (storeWords (b .store)) k (pos 0)
@@ -52,16 +52,16 @@ length-bank d bs = concat-length (branchWords d) (branchSize d) (length-branch d
 
 -- ---- n numbers f i are read from `at` on
 pub record Read (l : List ℤ) (at n : ℕ) (f : ℕ → Exact) : Type 0 where
-  pub room : at + n * 5 ≤ length l
-  pub number : (i : ℕ) → i < n → cellAt l (at + i * 5) ≡ f i
-  pub exponent : (i : ℕ) → i < n → exponentAt l (at + i * 5) ≡ leb (f i .exp) maxExponent
+  pub room : at + n * cellSize ≤ length l
+  pub number : (i : ℕ) → i < n → cellAt l (at + i * cellSize) ≡ f i
+  pub exponent : (i : ℕ) → i < n → exponentAt l (at + i * cellSize) ≡ leb (f i .exp) maxExponent
 
 -- a number with coordinates from −1 to 1
-pub read-factor : {l : List ℤ} {at n : ℕ} {f : ℕ → Exact} → Read l at n f → (e : ℕ) → e ≤ 28 → (i : ℕ) → i < n → Kraus e (f i) → Factor l (at + i * 5)
+pub read-factor : {l : List ℤ} {at n : ℕ} {f : ℕ → Exact} → Read l at n f → (e : ℕ) → e ≤ narrowExponent → (i : ℕ) → i < n → Kraus e (f i) → Factor l (at + i * cellSize)
 read-factor {f = f} r e small i h k = record {
-  room = omega (arith, r .room, block-in h 5);
+  room = omega (arith, r .room, block-in h cellSize);
   exponent = r .exponent i h ∙ le-leb (f i .exp) maxExponent (omega (arith, k .coords .exponent));
-  coords = subst (Coords 1 28) (sym (r .number i h)) (record { exponent = omega (arith, k .coords .exponent); size = k .coords .size });
+  coords = subst (Coords 1 narrowExponent) (sym (r .number i h)) (record { exponent = omega (arith, k .coords .exponent); size = k .coords .size });
 }
 
 -- ---- what a bank holds; z is what is read past its end
@@ -78,17 +78,17 @@ module _ {l : List ℤ} {at : ℕ} (d : ℕ) (bs : List Branch) (h : Holds l at 
         ∙ concat-at (branchWords d) (branchSize d) (length-branch d) bs z (pos 0) j k hj hk
 
     module _ (i : ℕ) (hi : i < d * d) where
-      words : (k : ℕ) → k < 5 → getD l (at + j * branchSize d + i * 5 + k) (pos 0) ≡ getD (cellWords (entries d (getD bs j z) i)) k (pos 0)
+      words : (k : ℕ) → k < cellSize → getD l (at + j * branchSize d + i * cellSize + k) (pos 0) ≡ getD (cellWords (entries d (getD bs j z) i)) k (pos 0)
       words k hk =
-          ap (λ (w : ℕ). getD l w (pos 0)) (add-assoc (at + j * branchSize d) (i * 5) k)
-          ∙ bank-word (i * 5 + k) (omega (arith, block-in hi 5))
+          ap (λ (w : ℕ). getD l w (pos 0)) (add-assoc (at + j * branchSize d) (i * cellSize) k)
+          ∙ bank-word (i * cellSize + k) (omega (arith, block-in hi cellSize))
           ∙ branch-cell d (getD bs j z) i k hi hk
 
-      bank-cell : cellAt l (at + j * branchSize d + i * 5) ≡ getD (getD bs j z .matrix) i (exact .𝟘)
-      bank-cell = cell-is l (at + j * branchSize d + i * 5) (entries d (getD bs j z) i) words
+      bank-cell : cellAt l (at + j * branchSize d + i * cellSize) ≡ getD (getD bs j z .matrix) i (exact .𝟘)
+      bank-cell = cell-is l (at + j * branchSize d + i * cellSize) (entries d (getD bs j z) i) words
 
-      bank-exponent : exponentAt l (at + j * branchSize d + i * 5) ≡ leb (getD (getD bs j z .matrix) i (exact .𝟘) .exp) maxExponent
-      bank-exponent = exponent-is l (at + j * branchSize d + i * 5) (entries d (getD bs j z) i) words
+      bank-exponent : exponentAt l (at + j * branchSize d + i * cellSize) ≡ leb (getD (getD bs j z .matrix) i (exact .𝟘) .exp) maxExponent
+      bank-exponent = exponent-is l (at + j * branchSize d + i * cellSize) (entries d (getD bs j z) i) words
 
     -- its numbers
     pub bank-read : Read l (at + j * branchSize d) (d * d) (λ (i : ℕ). getD (getD bs j z .matrix) i (exact .𝟘))

@@ -15,12 +15,12 @@ use Rattle.cells.specs.Cells.{fill}
 use Rattle.cells.proofs.Cell.{fill-block}
 use Rattle.gate.specs.Gate.{Gate, gateAt, elem, measure, reset, splits}
 use Rattle.gate.specs.Operators.{operators}
-use Rattle.gate.specs.Entries.{flips, rowEntry, Ready}
+use Rattle.gate.specs.Inner.Entries.{flips, rowEntry, Ready}
 use Rattle.kraus.proofs.Counting.{operators-length}
-use Rattle.branches.specs.Store.{outcomeBit}
-use Rattle.branches.specs.Bank.{branchSize}
-use Rattle.branches.specs.Step.{Step, stepWords}
-use Rattle.branches.specs.Run.{operatorWords, withOperators, gateStepped, GateStep}
+use Rattle.branches.specs.Inner.Store.{outcomeBit}
+use Rattle.branches.specs.Inner.Bank.{branchSize}
+use Rattle.branches.specs.Inner.Step.{Step, stepWords}
+use Rattle.branches.specs.Inner.Run.{operatorWords, withOperators, gateStepped, GateStep}
 
 splits-one : (g : Gate) → splits g ≤ 1
 splits-one g = go (elem (g .kind) (measure ∷ reset ∷ []))

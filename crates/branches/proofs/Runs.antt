@@ -11,6 +11,7 @@ use lib.Pow.{pow-mono, pow-pos}
 use lib.ListN.{length, getD, take, List·getD-append}
 use lib.Seq.{sets, take-suc, take-all, length-sets}
 use lib.IntN.{ℤ, pos}
+use Rattle.cells.specs.Cells.{cellSize}
 use Rattle.algebra.specs.Lists.{All, total}
 use Rattle.algebra.specs.Words.{blocks}
 use Rattle.algebra.specs.Inner.Apart.{Apart}
@@ -18,32 +19,32 @@ use Rattle.algebra.proofs.Lists.{every-all, all-getD}
 use Rattle.algebra.proofs.Totals.{sub-whole, sub-take, sub-total}
 use Rattle.algebra.proofs.Blocks.{Writing, wrote, kept, long, block-in, sets-at, sets-above}
 use Rattle.cells.proofs.Cell.{length-cells, block-cell, block-word, exponent-is}
-use Rattle.gate.specs.Gate.{Gate, gateAt, gatesOf, valid, splits}
+use Rattle.gate.specs.Gate.{Gate, gateAt, gatesOf, splits, gateSize}
 use Rattle.gate.specs.Operators.{operators}
-use Rattle.gate.specs.Entries.{flips, rowEntry, Ready}
+use Rattle.gate.specs.Inner.Entries.{valid, flips, rowEntry, Ready}
 use Rattle.gate.proofs.Bits.{Word}
 use Rattle.gate.proofs.Dispatch.{valid-ready}
 use Rattle.gate.proofs.Partner.{row-two}
 use Rattle.gate.proofs.Listed.{gates-length, gates-at}
-use Rattle.kraus.specs.Branch.{Store, Branch, branches, start, step}
+use Rattle.kraus.specs.Branch.{Store, Branch, branches, start, gateStep}
 use Rattle.kraus.proofs.Counting.{branch-count, branches-bits}
-use Rattle.kraus.proofs.Limits.{Enough, never-48}
-use Rattle.branches.specs.Store.{outcomeBit}
-use Rattle.branches.specs.Bank.{branchSize, branchWords, bankWords, identityBranch, Holds}
-use Rattle.branches.specs.Step.{RowsAt, stepWords}
-use Rattle.branches.specs.Run.{workSize, operatorWords, withOperators, gateStepped, GateStep, Runs, Ran}
+use Rattle.kraus.proofs.Limits.{Enough, krausExponent, circuit-enough}
+use Rattle.branches.specs.Inner.Store.{outcomeBit}
+use Rattle.branches.specs.Inner.Bank.{branchSize, branchWords, bankWords, identityBranch, Holds, rowSize}
+use Rattle.branches.specs.Inner.Step.{RowsAt, stepWords}
+use Rattle.branches.specs.Inner.Run.{workSize, operatorWords, withOperators, gateStepped, GateStep, Runs, Ran}
 use Rattle.branches.proofs.Banks.{length-branch, length-bank, held-same}
 use Rattle.branches.proofs.Products.{rows-at}
 use Rattle.branches.proofs.Steps.{length-product}
 use Rattle.branches.proofs.Gates.{two-operators, operators-some}
-use Rattle.branches.proofs.Link.{step-length, step-small, step-below, step-own, step-other, step-factor, step-lowest, step-store, step-held}
+use Rattle.branches.proofs.Link.{gate-length, step-small, step-below, step-own, step-other, step-factor, step-lowest, step-store, step-held}
 
 pub work-is : (d banks : ℕ) → workSize d banks ≡ 2 * (banks * branchSize d) + 2 * branchSize d
 work-is d banks = add-mul (2 * banks) 2 (branchSize d) ∙ ap (λ (k : ℕ). k + 2 * branchSize d) (mul-assoc 2 banks (branchSize d))
 
 -- the buffer after i gates: their branches at `from`
 pub record Running (l₀ : List ℤ) (ws : List ℕ) (σ : Store) (n d banks : ℕ) (l : List ℤ) (from count i : ℕ) : Type 0 where
-  pub below : i ≤ length ws / 5
+  pub below : i ≤ length ws / gateSize
   pub counted : count ≡ length (branches n σ (take i (gatesOf ws)))
   pub held : Holds l from (bankWords d (branches n σ (take i (gatesOf ws))))
   pub place : (from ≡ 0) ⊎ (from ≡ banks * branchSize d)
@@ -98,9 +99,9 @@ module _ {l₀ : List ℤ} {ws : List ℕ} {σ : Store} {n banks : ℕ} (r : Run
     }
 
   -- ---- gate i
-  module _ {l : List ℤ} {from count i : ℕ} (w : Running l₀ ws σ n (2 ^ n) banks l from count i) (h : i < length ws / 5) where
+  module _ {l : List ℤ} {from count i : ℕ} (w : Running l₀ ws σ n (2 ^ n) banks l from count i) (h : i < length ws / gateSize) where
     abbrev g : Gate
-    g = gateAt ws (i * 5)
+    g = gateAt ws (i * gateSize)
 
     abbrev ops : ℕ
     ops = length (operators g)
@@ -112,23 +113,23 @@ module _ {l₀ : List ℤ} {ws : List ℕ} {σ : Store} {n banks : ℕ} (r : Run
     none = gateAt ws 0
 
     gate-is : getD (gatesOf ws) i none ≡ g
-    gate-is = gates-at ws 0 (length ws / 5) i none h ∙ ap (λ (j : ℕ). gateAt ws (j * 5)) (zero-add i)
+    gate-is = gates-at ws 0 (length ws / gateSize) i none h ∙ ap (λ (j : ℕ). gateAt ws (j * gateSize)) (zero-add i)
 
     listed : i < length (gatesOf ws)
-    listed = omega (arith, gates-length ws 0 (length ws / 5))
+    listed = omega (arith, gates-length ws 0 (length ws / gateSize))
 
     ok : valid n (length σ) g ≡ true
     ok = subst (λ (g : Gate). valid n (length σ) g ≡ true) gate-is (all-getD (λ (g : Gate). valid n (length σ) g ≡ true) (gatesOf ws) (every-all (valid n (length σ)) _ (λ g e. e) (gatesOf ws) (r .accepted)) i listed none)
 
-    next : after (i + 1) ≡ step n (after i) g
+    next : after (i + 1) ≡ gateStep n (after i) g
     next =
         ap (λ (k : ℕ). after k) (add-one i)
         ∙ ap (branches n σ) (take-suc (gatesOf ws) i none listed)
-        ∙ foldl-append (step n) (start n σ) (take i (gatesOf ws)) (getD (gatesOf ws) i none ∷ [])
-        ∙ ap (step n (after i)) gate-is
+        ∙ foldl-append (gateStep n) (start n σ) (take i (gatesOf ws)) (getD (gatesOf ws) i none ∷ [])
+        ∙ ap (gateStep n (after i)) gate-is
 
     next-length : length (after (i + 1)) ≡ length (after i) * ops
-    next-length = ap length next ∙ step-length n (length σ) g ok (identityBranch d σ) (after i)
+    next-length = ap length next ∙ gate-length n (length σ) g ok (identityBranch d σ) (after i)
 
     from-le : from ≤ bank
     from-le = ⊎-elim (λ e. omega arith) (λ e. omega arith) (w .place)
@@ -162,7 +163,7 @@ module _ {l₀ : List ℤ} {ws : List ℕ} {σ : Store} {n banks : ℕ} (r : Run
     two : 2 ≤ d
     two = let t = row-two operable (r .few) 0 (pow-pos n) in omega (arith, t .below, t .other)
 
-    wide : d * 10 ≤ size
+    wide : d * rowSize ≤ size
     wide = omega (arith, mul-le-mul two (le-refl d))
 
     sized : (k : ℕ) → length (operatorWords n d g k) ≤ size
@@ -176,7 +177,7 @@ module _ {l₀ : List ℤ} {ws : List ℕ} {σ : Store} {n banks : ℕ} (r : Run
 
     rows : (v : ℕ) → v < ops → RowsAt m (slots + v * size) n g v d
     rows v hv = rows-at (omega (arith, long writing, full, block-in hv size, wide)) (λ k hk. block-cell size l slots (operatorWords n d g) sized ops v (d * 2) k (rowEntry n g v) refl hv hk full)
-        (λ k hk. exponent-is m (slots + v * size + k * 5) (rowEntry n g v k) (block-word size l slots (operatorWords n d g) sized ops v (d * 2) k (rowEntry n g v) refl hv hk full))
+        (λ k hk. exponent-is m (slots + v * size + k * cellSize) (rowEntry n g v k) (block-word size l slots (operatorWords n d g) sized ops v (d * 2) k (rowEntry n g v) refl hv hk full))
         (λ q c hq hc. step-small n (length σ) g ok (identityBranch d σ) (after i) v q c hv hq hc .exponent) (λ q hq. row-two operable (r .few) q hq .below)
       where
         full : slots + ops * size ≤ length l
@@ -195,10 +196,10 @@ module _ {l₀ : List ℤ} {ws : List ℕ} {σ : Store} {n banks : ℕ} (r : Run
     apart : Apart from (count * size) to (count * ops * size)
     apart = ⊎-elim (λ e. inl (omega (arith, count-size))) (λ e. inr (omega (arith, next-size))) (w .place)
 
-    enough : Enough 25 n (after i)
-    enough = never-48 n (length σ) σ (gatesOf ws) (r .accepted) (r .light) i
+    enough : Enough krausExponent n (after i)
+    enough = circuit-enough n (length σ) σ (gatesOf ws) (r .accepted) (r .light) i
 
-    running-ready : GateStep l ws (i * 5) (2 * (banks * branchSize (2 ^ n))) n (2 ^ n) from (banks * branchSize (2 ^ n) - from) count
+    running-ready : GateStep l ws (i * gateSize) (2 * (banks * branchSize (2 ^ n))) n (2 ^ n) from (banks * branchSize (2 ^ n) - from) count
     running-ready = record {
       gate-room = omega arith;
       slots-ready = record { few = r .few; dim = refl; ready = operable; wide = wide; room = room };
@@ -215,13 +216,13 @@ module _ {l₀ : List ℤ} {ws : List ℕ} {σ : Store} {n banks : ℕ} (r : Run
         from-room = omega (arith, long writing, count-size, from-le, room);
         to-room = omega (arith, long writing, to-room, room);
         from-apart = apart;
-        factor = λ b j hb hj. step-factor n (length σ) g ok z (after i) held-still 25 (omega arith) enough b j (omega (arith, w .counted)) hj;
-        lowest = λ b j hb hj. step-lowest n (length σ) g ok z (after i) held-still 25 (omega arith) enough b j (omega (arith, w .counted)) hj;
+        factor = λ b j hb hj. step-factor n (length σ) g ok z (after i) held-still krausExponent (omega arith) enough b j (omega (arith, w .counted)) hj;
+        lowest = λ b j hb hj. step-lowest n (length σ) g ok z (after i) held-still krausExponent (omega arith) enough b j (omega (arith, w .counted)) hj;
         stores = λ b hb. step-store n (length σ) g ok z (after i) held-still words (r .short) b (omega (arith, w .counted));
       };
     }
 
-    running-more : {q : List ℤ} {c : ℕ} → c ≡ count * length (operators (gateAt ws (i * 5))) → q ≡ gateStepped l (2 * (banks * branchSize (2 ^ n))) n (2 ^ n) from (banks * branchSize (2 ^ n) - from) count (gateAt ws (i * 5))
+    running-more : {q : List ℤ} {c : ℕ} → c ≡ count * length (operators (gateAt ws (i * gateSize))) → q ≡ gateStepped l (2 * (banks * branchSize (2 ^ n))) n (2 ^ n) from (banks * branchSize (2 ^ n) - from) count (gateAt ws (i * gateSize))
         → Running l₀ ws σ n (2 ^ n) banks q (banks * branchSize (2 ^ n) - from) c (i + 1)
     running-more {q} p e = record {
       below = omega arith;
@@ -256,9 +257,9 @@ module _ {l₀ : List ℤ} {ws : List ℕ} {σ : Store} {n d banks : ℕ} (r₀ 
   runs : Runs b ws σ n d banks
   runs = record { few = r₀ .few; dim = r₀ .dim; accepted = r₀ .accepted; light = r₀ .light; short = r₀ .short; bits = r₀ .bits; banked = r₀ .banked; room = omega (arith, r₀ .room, same) }
 
-  pub ends : {l : List ℤ} {from count i : ℕ} → Running b ws σ n d banks l from count i → length ws / 5 ≤ i → Ran l₀ l ws σ n d banks from
+  pub ends : {l : List ℤ} {from count i : ℕ} → Running b ws σ n d banks l from count i → length ws / gateSize ≤ i → Ran l₀ l ws σ n d banks from
   ends {l} {from} {i = i} w h =
-      let all : take i (gatesOf ws) ≡ gatesOf ws = take-all i (gatesOf ws) (omega (arith, gates-length ws 0 (length ws / 5))) in
+      let all : take i (gatesOf ws) ≡ gatesOf ws = take-all i (gatesOf ws) (omega (arith, gates-length ws 0 (length ws / gateSize))) in
       record {
         held = subst (λ (gs : List Gate). Holds l from (bankWords d (branches n σ gs))) all (w .held);
         counted = branch-count n σ (gatesOf ws) ∙ sym (r₀ .banked);
@@ -268,20 +269,20 @@ module _ {l₀ : List ℤ} {ws : List ℕ} {σ : Store} {n d banks : ℕ} (r₀ 
             ∙ sets-above (branchWords d (identityBranch d σ)) l₀ 0 k (pos 0) (omega (arith, length-branch d (identityBranch d σ), work-is d banks));
       }
 
-  module _ {l : List ℤ} {from count i size : ℕ} (w : Running b ws σ n d banks l from count i) (h : i < length ws / 5) (e : size ≡ branchSize d) where
+  module _ {l : List ℤ} {from count i size : ℕ} (w : Running b ws σ n d banks l from count i) (h : i < length ws / gateSize) (e : size ≡ branchSize d) where
     pub place-le : from ≤ banks * size
     place-le = ⊎-elim (λ p. omega arith) (λ p. omega (arith, ap (λ (k : ℕ). banks * k) e)) (w .place)
 
-    pub ready : GateStep l ws (i * 5) (2 * (banks * size)) n d from (banks * size - from) count
+    pub ready : GateStep l ws (i * gateSize) (2 * (banks * size)) n d from (banks * size - from) count
     ready =
-        subst (λ (s : ℕ). GateStep l ws (i * 5) (2 * (banks * s)) n d from (banks * s - from) count) (sym e)
-        (subst (λ (d : ℕ). Runs b ws σ n d banks → Running b ws σ n d banks l from count i → GateStep l ws (i * 5) (2 * (banks * branchSize d)) n d from (banks * branchSize d - from) count) (sym (r₀ .dim))
+        subst (λ (s : ℕ). GateStep l ws (i * gateSize) (2 * (banks * s)) n d from (banks * s - from) count) (sym e)
+        (subst (λ (d : ℕ). Runs b ws σ n d banks → Running b ws σ n d banks l from count i → GateStep l ws (i * gateSize) (2 * (banks * branchSize d)) n d from (banks * branchSize d - from) count) (sym (r₀ .dim))
         (λ r w. running-ready r w h) runs w)
 
-    pub more : {q : List ℤ} {c : ℕ} → c ≡ count * length (operators (gateAt ws (i * 5))) → q ≡ gateStepped l (2 * (banks * size)) n d from (banks * size - from) count (gateAt ws (i * 5))
+    pub more : {q : List ℤ} {c : ℕ} → c ≡ count * length (operators (gateAt ws (i * gateSize))) → q ≡ gateStepped l (2 * (banks * size)) n d from (banks * size - from) count (gateAt ws (i * gateSize))
         → Running b ws σ n d banks q (banks * size - from) c (i + 1)
     more {q} {c} p =
-        subst (λ (s : ℕ). q ≡ gateStepped l (2 * (banks * s)) n d from (banks * s - from) count (gateAt ws (i * 5)) → Running b ws σ n d banks q (banks * s - from) c (i + 1)) (sym e)
+        subst (λ (s : ℕ). q ≡ gateStepped l (2 * (banks * s)) n d from (banks * s - from) count (gateAt ws (i * gateSize)) → Running b ws σ n d banks q (banks * s - from) c (i + 1)) (sym e)
         (subst (λ (d : ℕ). Runs b ws σ n d banks → Running b ws σ n d banks l from count i
-        → q ≡ gateStepped l (2 * (banks * branchSize d)) n d from (banks * branchSize d - from) count (gateAt ws (i * 5)) → Running b ws σ n d banks q (banks * branchSize d - from) c (i + 1)) (sym (r₀ .dim))
+        → q ≡ gateStepped l (2 * (banks * branchSize d)) n d from (banks * branchSize d - from) count (gateAt ws (i * gateSize)) → Running b ws σ n d banks q (banks * branchSize d - from) c (i + 1)) (sym (r₀ .dim))
         (λ r w f. running-more r w h p f) runs w)

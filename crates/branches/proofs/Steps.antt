@@ -12,15 +12,15 @@ use Rattle.algebra.specs.Words.{upTo}
 use Rattle.algebra.specs.Inner.Apart.{Apart}
 use Rattle.algebra.proofs.Blocks.{Writing, again, kept, wrote, Same, same-trans, part, cut, narrow, block-in, append-block}
 use Rattle.exact.specs.Exact.{Exact, isLowest}
-use Rattle.cells.specs.Cells.{cells}
+use Rattle.cells.specs.Cells.{cells, cellSize}
 use Rattle.cells.proofs.Cell.{fill-block, length-cells, cell-same, cells-same}
 use Rattle.store.specs.Store.{maxWord}
 use Rattle.matrix.specs.Inner.Written.{written}
 use Rattle.matrix.proofs.Terms.{row-lt, column-lt, factor-same}
 use Rattle.store.specs.Inner.Held.{StoreAt}
-use Rattle.branches.specs.Store.{outcomePair, outcomeWords}
-use Rattle.branches.specs.Bank.{matrixSize, branchSize}
-use Rattle.branches.specs.Step.{rowSum, Applying, productWords, stepWords, Step}
+use Rattle.branches.specs.Inner.Store.{outcomePair, outcomeWords}
+use Rattle.branches.specs.Inner.Bank.{matrixSize, branchSize, rowSize}
+use Rattle.branches.specs.Inner.Step.{rowSum, Applying, productWords, stepWords, Step}
 use Rattle.branches.proofs.Products.{own-at, other-at, sum-same}
 
 pub dim-square : (d : ℕ) → d ≤ 32 → d * d ≤ 1024
@@ -80,7 +80,7 @@ module _ {l : List ℤ} {f slots ops from to d count : ℕ} (p : Step l f slots 
     old-lt : j / ops < count
     old-lt = div-lt-iff-lt-mul (p .some-op) .1 h
 
-    pub op-at : slots + j % ops * branchSize d + d * 10 ≤ length l
+    pub op-at : slots + j % ops * branchSize d + d * rowSize ≤ length l
     op-at = omega (arith, block-in number-lt (branchSize d), p .wide, p .slots-room)
 
     pub old-in : j / ops * branchSize d + branchSize d ≤ count * branchSize d
@@ -93,24 +93,24 @@ module _ {l : List ℤ} {f slots ops from to d count : ℕ} (p : Step l f slots 
       branch : Same b l old size
       branch = part (kept w from (count * size) (p .from-apart)) old size (omega arith) (omega (arith, old-in))
 
-      matrix : Same b l old (d * d * 5)
-      matrix = part branch old (d * d * 5) (omega arith) (omega arith)
+      matrix : Same b l old (d * d * cellSize)
+      matrix = part branch old (d * d * cellSize) (omega arith) (omega arith)
 
-      same-at : (i : ℕ) → i < d * d → Same b l (old + i * 5) 5
-      same-at i hi = cut matrix 5 i (block-in hi 5)
+      same-at : (i : ℕ) → i < d * d → Same b l (old + i * cellSize) cellSize
+      same-at i hi = cut matrix cellSize i (block-in hi cellSize)
 
       -- the branch lies apart from the place of its product
       old-apart : Apart old size new size
       old-apart = narrow from (count * size) to (count * ops * size) old size new size (p .from-apart) (omega arith) (omega (arith, old-in)) (omega arith) (omega (arith, new-in))
 
-      op-in : j % ops * branchSize d + d * 10 ≤ ops * branchSize d
+      op-in : j % ops * branchSize d + d * rowSize ≤ ops * branchSize d
       op-in = omega (arith, block-in number-lt (branchSize d), p .wide)
 
       abbrev op : ℕ
       op = slots + j % ops * branchSize d
 
-      entries : Same b l op (d * 10)
-      entries = part (kept w slots (ops * size) (p .slots-apart)) op (d * 10) (omega arith) (omega (arith, op-in))
+      entries : Same b l op (d * rowSize)
+      entries = part (kept w slots (ops * size) (p .slots-apart)) op (d * rowSize) (omega arith) (omega (arith, op-in))
 
       pub turn-applying : Applying b f (slots + j % ops * branchSize d) (from + j / ops * branchSize d) (to + j * branchSize d) d
       turn-applying = record {
@@ -118,12 +118,12 @@ module _ {l : List ℤ} {f slots ops from to d count : ℕ} (p : Step l f slots 
         op-room = omega (arith, entries .long, op-at);
         own = λ r hr. factor-same (own-at d entries matrix r hr) (p .own (j % ops) r number-lt hr);
         other = λ r hr. factor-same (other-at d entries matrix r hr) (p .other (j % ops) r number-lt hr);
-        op-apart = narrow slots (ops * size) to (count * ops * size) (slots + j % ops * size) (d * 10) new (d * d * 5) (p .slots-apart) (omega arith) (omega (arith, op-in)) (omega arith) (omega (arith, new-in));
+        op-apart = narrow slots (ops * size) to (count * ops * size) (slots + j % ops * size) (d * rowSize) new (d * d * cellSize) (p .slots-apart) (omega arith) (omega (arith, op-in)) (omega arith) (omega (arith, new-in));
         old-room = omega (arith, branch .long, old-in, p .from-room);
         factor = λ i hi. factor-same (same-at i hi) (p .factor (j / ops) i old-lt hi);
         lowest = λ i hi. ap isLowest (cell-same (same-at i hi)) ∙ p .lowest (j / ops) i old-lt hi;
         new-room = omega (arith, branch .long, new-in, p .to-room);
-        apart = narrow old size new size old (d * d * 5) new (d * d * 5) old-apart (omega arith) (omega arith) (omega arith) (omega arith);
+        apart = narrow old size new size old (d * d * cellSize) new (d * d * cellSize) old-apart (omega arith) (omega arith) (omega arith) (omega arith);
       }
 
       -- after the product
@@ -134,7 +134,7 @@ module _ {l : List ℤ} {f slots ops from to d count : ℕ} (p : Step l f slots 
         store : Same m l (old + matrixSize d) 2
         store =
             same-trans
-            (kept (wrote (λ k. le-refl 5) e) (old + matrixSize d) 2 (narrow old size new size (old + matrixSize d) 2 new (d * d * 5) old-apart (omega arith) (omega arith) (omega arith) (omega arith)))
+            (kept (wrote (λ k. le-refl cellSize) e) (old + matrixSize d) 2 (narrow old size new size (old + matrixSize d) 2 new (d * d * cellSize) old-apart (omega arith) (omega arith) (omega arith) (omega arith)))
             (part branch (old + matrixSize d) 2 (omega arith) (omega arith))
 
         pub turn-store : StoreAt m (from + j / ops * branchSize d + matrixSize d)

@@ -15,12 +15,13 @@ use borrow.Author.Tests.{ltb-true, lt-ltb, le-ltb}
 use Rattle.algebra.specs.Words.{fromBits}
 use Rattle.algebra.specs.Lists.{every}
 use Rattle.algebra.proofs.Tests.{and-split}
-use Rattle.gate.specs.Gate.{Gate, measure, reset, qubits, bits, distinct, formed, placed, supported, valid}
+use Rattle.gate.specs.Gate.{Gate, measure, reset, qubits, bits, distinct, formed, placed, supported}
 use Rattle.gate.specs.Operators.{Operator, operator, operators, unitaries, noUnitary, projectors, resetters}
+use Rattle.gate.specs.Inner.Entries.{valid}
 use Rattle.gate.proofs.Bits.{Word}
 use Rattle.kraus.specs.Branch.{Store, write}
 use Rattle.store.specs.Inner.Held.{Bits}
-use Rattle.branches.specs.Store.{storeWords, withBit, outcomeWord, outcomePair, outcomeBit}
+use Rattle.branches.specs.Inner.Store.{storeWords, withBit, outcomeWord, outcomePair, outcomeBit}
 use Rattle.algebra.proofs.Bits.{bits-take, bits-drop, bits-below, take-below, bits-set, bit-weight}
 
 -- ---- the word of the bits from `first` on, with a bit written

@@ -1,4 +1,1 @@
-pub mod Store
-pub mod Bank
-pub mod Step
-pub mod Run
+pub mod Inner

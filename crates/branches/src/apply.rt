@@ -1,13 +1,15 @@
 // A gate's operator applied to the matrix of a branch.
+use super::bank::ROW;
+use cells::CELL;
 use cells::read_cell;
 use matrix::linear::combine_rows;
 use matrix::words::clear;
 use matrix::words::is_zero;
 ghost use mathlib.Core.Path.{_≡_};
 ghost use Rattle.matrix.specs.Inner.Written.{written};
-ghost use Rattle.branches.specs.Step.{Applying, rowSum};
+ghost use Rattle.branches.specs.Inner.Step.{Applying, rowSum};
 
-// Write an operator times the matrix at `old` to `new`, row by row. Row r of the operator has entries in columns r and r ^ m alone, which lie at op + 10·r.
+// Write an operator times the matrix at `old` to `new`, row by row. Row r of the operator has entries in columns r and r ^ m alone, which lie from op on, row after row.
 fn apply_rows(work: &mut [i64], m: usize, op: usize, old: usize, new: usize, d: usize)
     requires { ⌜ Applying (now work) m op old new d ⌝ }
     ensures { λ _. ⌜ now (work .exit) ≡ written (now (work .entry)) new d (rowSum (now (work .entry)) m op old d) ⌝ }
@@ -15,13 +17,13 @@ fn apply_rows(work: &mut [i64], m: usize, op: usize, old: usize, new: usize, d: 
     let mut r = 0;
     while r < d {
         let s = r ^ m;
-        let a = op + r * 10;
-        let b = a + 5;
+        let a = op + r * ROW;
+        let b = a + CELL;
         let x = read_cell(work, a);
         let y = read_cell(work, b);
-        let p = old + r * d * 5;
-        let q = old + s * d * 5;
-        let to = new + r * d * 5;
+        let p = old + r * d * CELL;
+        let q = old + s * d * CELL;
+        let to = new + r * d * CELL;
         combine_rows(work, x, p, y, q, to, d);
         r += 1;
     }
@@ -34,7 +36,7 @@ pub fn apply_operator(work: &mut [i64], m: usize, op: usize, old: usize, new: us
 {
     let entries = d * d;
     if is_zero(work, old, entries) {
-        clear(work, new, entries * 5);
+        clear(work, new, entries * CELL);
         return;
     }
     apply_rows(work, m, op, old, new, d);

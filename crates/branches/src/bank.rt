@@ -1,6 +1,7 @@
 // Branches in words: where they lie, the first one, and a step of all of them.
 use super::apply::apply_operator;
 use super::outcome::write_store;
+use cells::CELL;
 use matrix::identity::identity_into;
 use store::pack;
 ghost use mathlib.Core.Path.{_≡_};
@@ -9,15 +10,18 @@ ghost use lib.ListN.{length};
 ghost use lib.Seq.{sets};
 ghost use Rattle.algebra.specs.Words.{blocks};
 ghost use Rattle.store.specs.Inner.Held.{Bits};
-ghost use Rattle.branches.specs.Bank.{branchSize, branchWords, identityBranch};
-ghost use Rattle.branches.specs.Step.{Step, stepWords};
+ghost use Rattle.branches.specs.Inner.Bank.{branchSize, branchWords, identityBranch};
+ghost use Rattle.branches.specs.Inner.Step.{Step, stepWords};
+
+// The words of a row of an operator: its two entries.
+pub const ROW: usize = 10;
 
 // The words of a branch.
 pub fn branch_size(d: usize) -> usize
     requires { ⌜ d ≤ 32 ⌝ }
     ensures { λ r. ⌜ r ≡ branchSize d ⌝ }
 {
-    d * d * 5 + 2
+    d * d * CELL + 2
 }
 
 fn least(a: usize, b: usize) -> usize
@@ -35,7 +39,7 @@ pub fn start_branch(work: &mut [i64], at: usize, d: usize, store: &[u8])
     let cut = least(32, store.len());
     let low = pack(store, 0, cut);
     let high = pack(store, cut, store.len());
-    let s = at + d * d * 5;
+    let s = at + d * d * CELL;
     work[s] = low as i64;
     work[s + 1] = high as i64;
 }
@@ -55,7 +59,7 @@ pub fn step(
     requires { ⌜ Step (now work) m slots ops from to d count ⌝ }
     ensures { λ _. ⌜ now (work .exit) ≡ blocks (branchSize d) (now (work .entry)) to (count * ops) (stepWords (now (work .entry)) m slots ops from d bit) ⌝ }
 {
-    let matrix = d * d * 5;
+    let matrix = d * d * CELL;
     let size = matrix + 2;
     let total = count * ops;
     let last = ops - 1;

@@ -7,7 +7,7 @@ ghost use lib.Seq.{sets};
 ghost use Rattle.algebra.specs.Words.{upTo};
 ghost use Rattle.store.specs.Store.{maxWord};
 ghost use Rattle.store.specs.Inner.Held.{StoreAt};
-ghost use Rattle.branches.specs.Store.{withBit, outcomeWord, outcomeWords};
+ghost use Rattle.branches.specs.Inner.Store.{withBit, outcomeWord, outcomeWords};
 
 // x with bit k made v.
 fn with_bit(x: u64, k: u32, v: u64) -> u64

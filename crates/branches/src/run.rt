@@ -2,6 +2,8 @@
 use super::bank::branch_size;
 use super::bank::start_branch;
 use super::bank::step;
+use gate::GATE;
+use gate::MEASURE;
 use gate::judge::GateWords;
 use gate::judge::read_gate;
 use gate::rows::flips;
@@ -11,10 +13,10 @@ ghost use Prim.Native.Nat.{_*_};
 ghost use lib.ListN.{length};
 ghost use Rattle.gate.specs.Gate.{gateAt};
 ghost use Rattle.gate.specs.Operators.{operators};
-ghost use Rattle.gate.specs.Entries.{flips};
+ghost use Rattle.gate.specs.Inner.Entries.{flips};
 ghost use Rattle.gate.specs.Verdict.{gateOf};
-ghost use Rattle.branches.specs.Store.{outcomeBit};
-ghost use Rattle.branches.specs.Run.{Slots, withOperators, gateStepped, GateStep, Runs, Ran};
+ghost use Rattle.branches.specs.Inner.Store.{outcomeBit};
+ghost use Rattle.branches.specs.Inner.Run.{Slots, withOperators, gateStepped, GateStep, Runs, Ran};
 
 // Write the rows of a gate's operators to the two slots; answers how many operators they are. m are the bits that the gate may change.
 fn write_operators(
@@ -37,11 +39,14 @@ fn write_operators(
     2
 }
 
-// The classical bit that a gate writes; 64, which no store has, where it writes none.
+// A bit that no store has.
+const NO_BIT: u32 = 64;
+
+// The classical bit that a gate writes.
 fn outcome_bit(g: GateWords) -> u32
     ensures { λ r. ⌜ r ≡ outcomeBit (gateOf g) ⌝ }
 {
-    if g.kind == 12 { g.b } else { 64 }
+    if g.kind == MEASURE { g.b } else { NO_BIT }
 }
 
 // Send the `count` branches at `from` to their products with the operators of the gate at `at`, whose rows are written to the two slots; answers how many they are.
@@ -81,14 +86,14 @@ pub fn run_gates(
 {
     let bank = banks * branch_size(d);
     let slots = 2 * bank;
-    let total = gates.len() / 5;
+    let total = gates.len() / GATE;
     start_branch(work, 0, d, store);
     let mut from = 0;
     let mut count = 1;
     let mut i = 0;
     while i < total {
         let to = bank - from;
-        count = step_gate(work, gates, i * 5, slots, n, d, from, to, count);
+        count = step_gate(work, gates, i * GATE, slots, n, d, from, to, count);
         from = to;
         i += 1;
     }

@@ -7,8 +7,9 @@ use lib.Dec.{eqb, leb}
 use lib.ListN.{length}
 use Rattle.algebra.specs.Lists.{All, every}
 use Rattle.gate.specs.declared.judge.Asking.the-variants.{Channel}
-use Rattle.gate.specs.Gate.{Gate, gatesOf, formed, placed, supported, valid}
+use Rattle.gate.specs.Gate.{Gate, gatesOf, formed, placed, supported, maxWeight}
 use Rattle.gate.specs.Verdict.{firstFault, faultOf}
+use Rattle.gate.specs.Inner.Entries.{valid}
 use Rattle.circuit.specs.declared.limits.Limits.{Limits}
 use Rattle.verdict.specs.declared.Verdict.the-variants.{OverLimit, UnsupportedAt, OperandAt, MalformedAt, OverCeiling}
 use Rattle.circuit.specs.Limits.{matrixCeilings, branchCeilings}

@@ -11,7 +11,7 @@ use borrow.Author.Tests.{leb-true, leb-false, lt-leb}
 use Rattle.algebra.specs.Lists.{total}
 use Rattle.algebra.proofs.Tests.{and-split}
 use Rattle.gate.specs.declared.judge.Asking.the-variants.{Channel, Unitary}
-use Rattle.gate.specs.Gate.{gatesOf, weight}
+use Rattle.gate.specs.Gate.{gatesOf, weight, maxWeight}
 use Rattle.gate.specs.Verdict.{faultOf}
 use Rattle.circuit.specs.declared.limits.Limits.{Limits}
 use Rattle.circuit.specs.declared.footprint.Footprint.{Footprint}
@@ -94,7 +94,7 @@ after-no v w e = sym (ap (λ (t : Bool). cond t w v) e)
 
 -- ---- questions 7 to 10, by their answers
 module _ (f : Footprint) (n m : ℕ) (l : Limits) (result work : ℕ) where
-  pub four-answers : {stored a b c d : Bool} → stored ≡ a → withinLimits f n m l ≡ b → leb (f .weight) 48 ≡ c → roomFor (sizesOf f n) result work ≡ d
+  pub four-answers : {stored a b c d : Bool} → stored ≡ a → withinLimits f n m l ≡ b → leb (f .weight) maxWeight ≡ c → roomFor (sizesOf f n) result work ≡ d
       → ask a BadStore (ask b OverLimit (ask c TooHeavy (ask d ShortBuffer Accepted))) ≡ numbersVerdict f n m stored l result work
   four-answers p q r s = sym (λ i. ask (p i) BadStore (ask (q i) OverLimit (ask (r i) TooHeavy (ask (s i) ShortBuffer Accepted))))
 
@@ -129,7 +129,7 @@ module _ (n : ℕ) (l : Limits) (ws : List ℕ) (result work : ℕ) where
   abbrev pub last : Bool → Bool → Verdict
   last d e = ask d TooHeavy (ask e ShortBuffer Accepted)
 
-  pub three-asked : {c d e : Bool} → unitaryWithin n (length ws / 5) l ≡ c → leb (total weight (gatesOf ws)) 48 ≡ d
+  pub three-asked : {c d e : Bool} → unitaryWithin n (length ws / 5) l ≡ c → leb (total weight (gatesOf ws)) maxWeight ≡ d
       → (leb (unitaryResult (2 ^ n)) result && leb (unitaryWork (2 ^ n)) work) ≡ e
       → ask c OverLimit (after judged (last d e)) ≡ matrixVerdict n l ws result work
   three-asked r s t = sym (λ i. ask (r i) OverLimit (after judged (last (s i) (t i))))
@@ -148,8 +148,8 @@ module _ (n : ℕ) (l : Limits) (ws : List ℕ) (result work : ℕ) where
   pub unitary-room : (d : ℕ) {t : Bool} → d ≡ 2 ^ n → t ≡ (leb (unitaryResult d) result && leb (unitaryWork d) work) → (leb (unitaryResult (2 ^ n)) result && leb (unitaryWork (2 ^ n)) work) ≡ t
   unitary-room d h f = ap (λ (d : ℕ). leb (unitaryResult d) result && leb (unitaryWork d) work) (sym h) ∙ sym f
 
-  pub unitary-weight : (m : ℕ) (f : Footprint) → f ≡ footprintOf m (gatesOf ws) → leb (total weight (gatesOf ws)) 48 ≡ leb (f .weight) 48
-  unitary-weight m f e = ap (λ (f : Footprint). leb (f .weight) 48) (sym e)
+  pub unitary-weight : (m : ℕ) (f : Footprint) → f ≡ footprintOf m (gatesOf ws) → leb (total weight (gatesOf ws)) maxWeight ≡ leb (f .weight) maxWeight
+  unitary-weight m f e = ap (λ (f : Footprint). leb (f .weight) maxWeight) (sym e)
 
   pub unitary-many : few-gates ≡ false → unitaryWithin n (length ws / 5) l ≡ false
   unitary-many = go (leb n (l .«max_qubits»)) (leb (length ws / 5) (l .«max_operations»)) sized

@@ -5,14 +5,14 @@ use Prim.Native.Nat.{ℕ, suc, _/_, _%_}
 use lib.Dec.{eqb, leb}
 use lib.ListN.{length}
 use Rattle.algebra.specs.Lists.{total}
-use Rattle.gate.specs.Gate.{Gate, gatesOf, elem, formed, placed, supported, weight}
+use Rattle.gate.specs.Gate.{Gate, gatesOf, elem, formed, placed, supported, weight, maxWeight}
 use Rattle.circuit.specs.declared.limits.Limits.{Limits}
 use Rattle.verdict.specs.declared.Verdict.{Verdict}
 use Rattle.verdict.specs.declared.Verdict.the-variants.{Accepted, OverLimit, UnsupportedAt, OperandAt, BadStore, MalformedAt, OverCeiling, TooHeavy, ShortBuffer}
 use Rattle.circuit.specs.Limits.{matrixCeilings, branchCeilings}
 use Rattle.circuit.specs.Footprint.{footprintOf}
 use Rattle.store.specs.Store.{storeFits}
-use Rattle.circuit.specs.Questions.{sizesOf, withinLimits, maxWeight, roomFor}
+use Rattle.circuit.specs.Questions.{sizesOf, withinLimits, roomFor}
 
 pub record Question : Type 0 where
   -- document 01's number of it

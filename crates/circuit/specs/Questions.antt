@@ -9,7 +9,7 @@ use Rattle.store.specs.Store.{storeFits}
 use Rattle.gate.specs.declared.judge.GateVerdict.{GateVerdict}
 use Rattle.gate.specs.declared.judge.GateVerdict.the-variants.{Fine, Malformed, Operand, Unsupported}
 use Rattle.gate.specs.declared.judge.Asking.the-variants.{Channel, Unitary}
-use Rattle.gate.specs.Gate.{Gate, gatesOf, weight}
+use Rattle.gate.specs.Gate.{Gate, gatesOf, weight, maxWeight}
 use Rattle.gate.specs.Verdict.{faultOf}
 use Rattle.circuit.specs.declared.limits.Limits.{Limits}
 use Rattle.circuit.specs.declared.footprint.Footprint.{Footprint}
@@ -70,10 +70,6 @@ withinLimits f n m l =
     && (leb n (l .«max_qubits»)
     && (leb (cellsNeeded (s .branches) (s .stores) (s .rows)) (l .«max_matrix_cells»)
     && leb (termsNeeded (f .gates) (s .branches) (s .rows)) (l .«max_multiply_terms»))))
-
--- question 9
-abbrev pub maxWeight : ℕ
-maxWeight = 48
 
 -- question 10: `result` and `work` are the lengths of the buffers
 abbrev pub roomFor : Sizes → ℕ → ℕ → Bool

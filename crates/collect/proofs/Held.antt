@@ -17,16 +17,16 @@ use Rattle.algebra.proofs.Bits.{bits-below, bits-parts}
 use Rattle.exact.specs.Exact.{Exact, exact}
 use Rattle.exact.specs.Inner.Sizes.{Room}
 use Rattle.matrix.specs.Inner.Factors.{Factor}
-use Rattle.gate.specs.Gate.{Gate, valid, weight, splits}
-use Rattle.gate.specs.Operators.{Operator, operators}
+use Rattle.gate.specs.Gate.{Gate, weight, splits, maxWeight}
+use Rattle.gate.specs.Inner.Entries.{valid}
 use Rattle.gate.proofs.Bits.{Word}
-use Rattle.kraus.specs.Branch.{Store, Branch, apply, step, start, branches}
+use Rattle.kraus.specs.Branch.{Store, Branch, KrausOperator, apply, start, operatorsOf, gateStep, branches}
 use Rattle.kraus.specs.Blocks.{alive, survivors, having, block, stores}
 use Rattle.kraus.proofs.Dense.{tabulate-length, tabulate-at}
 use Rattle.kraus.proofs.Counting.{branch-count, branches-bits}
-use Rattle.kraus.proofs.Limits.{Kraus, Enough, never-48}
+use Rattle.kraus.proofs.Limits.{Kraus, Enough, krausExponent, circuit-enough}
 use Rattle.store.specs.Inner.Held.{Bits}
-use Rattle.branches.specs.Bank.{bankWords, Holds}
+use Rattle.branches.specs.Inner.Bank.{bankWords, Holds}
 use Rattle.branches.proofs.Banks.{read-factor, bank-room, bank-read, bank-low, bank-high, store-at}
 use Rattle.store.specs.Store.{bits, storeFrom}
 use Rattle.channel.specs.Layout.{headerSize, recordSize, side}
@@ -43,7 +43,7 @@ pub record Held (l : List ℤ) (at n m : ℕ) (bs : List Branch) : Type 0 where
   pub narrow : m ≤ 64
   pub small : n ≤ 4
   pub few : length bs ≤ 64
-  pub enough : Enough 25 n bs
+  pub enough : Enough krausExponent n bs
 
 -- ---- the branches of a circuit
 any : {A : Type 0} (P : A → Type 0) → ((a : A) → P a) → (xs : List A) → All P xs
@@ -54,14 +54,15 @@ module _ (n : ℕ) where
   abbrev Square : Branch → Type 0
   Square b = length (b .matrix) ≡ 2 ^ n * 2 ^ n
 
-  run-square : (gs : List Gate) (bs : List Branch) → All Square bs → All Square (foldl (step n) bs gs)
+  run-square : (gs : List Gate) (bs : List Branch) → All Square bs → All Square (foldl (gateStep n) bs gs)
   run-square [] bs h = h
   run-square (g ∷ gs) bs h =
-      run-square gs (step n bs g)
-      (all-concat Square Square (λ (b : Branch). map (apply n g b) (operators g)) (λ b k. all-map (λ (o : Operator). Unit {0}) Square (apply n g b) (λ o u. tabulate-length (2 ^ n * 2 ^ n) 0 _) (operators g) (any (λ (o : Operator). Unit {0}) (λ o. tt) (operators g))) bs h)
+      run-square gs (gateStep n bs g)
+      (all-concat Square Square (λ (b : Branch). map (apply n b) (operatorsOf n g)) (λ b k.
+      all-map (λ (K : KrausOperator). Unit {0}) Square (apply n b) (λ K u. tabulate-length (2 ^ n * 2 ^ n) 0 _) (operatorsOf n g) (any (λ (K : KrausOperator). Unit {0}) (λ K. tt) (operatorsOf n g))) bs h)
 
 -- an accepted circuit's branches in a bank
-pub circuit-held : {l : List ℤ} {at : ℕ} (n : ℕ) (σ : Store) (gs : List Gate) → every (valid n (length σ)) gs ≡ true → Bits σ → total weight gs ≤ 48 → length σ ≤ 64 → n ≤ 4 → 2 ^ total splits gs ≤ 64
+pub circuit-held : {l : List ℤ} {at : ℕ} (n : ℕ) (σ : Store) (gs : List Gate) → every (valid n (length σ)) gs ≡ true → Bits σ → total weight gs ≤ maxWeight → length σ ≤ 64 → n ≤ 4 → 2 ^ total splits gs ≤ 64
     → Holds l at (bankWords (2 ^ n) (branches n σ gs)) → Held l at n (length σ) (branches n σ gs)
 circuit-held n σ gs ok bits light narrow small few holds = record {
   words = holds;
@@ -70,7 +71,7 @@ circuit-held n σ gs ok bits light narrow small few holds = record {
   narrow = narrow;
   small = small;
   few = omega (arith, branch-count n σ gs);
-  enough = subst (λ (hs : List Gate). Enough 25 n (branches n σ hs)) (take-length gs) (never-48 n (length σ) σ gs ok light (length gs));
+  enough = subst (λ (hs : List Gate). Enough krausExponent n (branches n σ hs)) (take-length gs) (circuit-enough n (length σ) σ gs ok light (length gs));
 }
 
 -- ---- what a bank that holds them is read as
@@ -103,11 +104,11 @@ module _ {l : List ℤ} {at n m : ℕ} {bs : List Branch} (h : Held l at n m bs)
     entry-of : (i : ℕ) → i < d * d → entry l at d j i ≡ getD (at-place j .matrix) i (exact .𝟘)
     entry-of = bank-read d bs (h .words) z j hj .number
 
-    kraus-of : (i : ℕ) → i < d * d → Kraus 25 (getD (at-place j .matrix) i (exact .𝟘))
-    kraus-of = all-getD (λ (b : Branch). (i : ℕ) → i < d * d → Kraus 25 (getD (b .matrix) i (exact .𝟘))) bs (h .enough .entries) j hj z
+    kraus-of : (i : ℕ) → i < d * d → Kraus krausExponent (getD (at-place j .matrix) i (exact .𝟘))
+    kraus-of = all-getD (λ (b : Branch). (i : ℕ) → i < d * d → Kraus krausExponent (getD (b .matrix) i (exact .𝟘))) bs (h .enough .entries) j hj z
 
     factor-of : (i : ℕ) → i < d * d → Factor l (place at d j + i * 5)
-    factor-of i hi = read-factor (bank-read d bs (h .words) z j hj) 25 (omega arith) i hi (kraus-of i hi)
+    factor-of i hi = read-factor (bank-read d bs (h .words) z j hj) krausExponent (omega arith) i hi (kraus-of i hi)
 
     branch-is : branchIn l at d m j ≡ at-place j
     branch-is =

@@ -18,7 +18,7 @@ use Rattle.exact.specs.Inner.Sizes.{Room}
 use Rattle.exact.proofs.Exact.{add-lowest, mul-lowest, zero-plus, conj-𝟘}
 use Rattle.cells.specs.Cells.{cellAt, cellWords, exponentAt, fill}
 use Rattle.cells.proofs.Cell.{cell-filled, exponent-filled}
-use Rattle.branches.specs.Bank.{branchSize}
+use Rattle.branches.specs.Inner.Bank.{branchSize}
 use Rattle.collect.specs.Overlap.{blockOverlap, blockOverlapped, Sum, NewBlock, Block}
 use Rattle.collect.specs.Bank.{place, storeOf, entry, survives, has, isFirst, starts, overlaps, Branch, Found, Bank}
 use Rattle.collect.proofs.Adding.{sum-mirror}

@@ -16,7 +16,7 @@ use Rattle.kraus.specs.Dense.{tabulate}
 use Rattle.kraus.specs.Branch as kraus
 use Rattle.store.specs.Store.{bits, storeFrom}
 use Rattle.store.specs.Inner.Held.{StoreAt}
-use Rattle.branches.specs.Bank.{matrixSize, branchSize}
+use Rattle.branches.specs.Inner.Bank.{matrixSize, branchSize}
 use Rattle.channel.specs.Layout as layout
 
 -- where branch j lies in the bank at `at`, and where its store does

@@ -16,14 +16,15 @@ use Rattle.algebra.proofs.Blocks.{blocks-parts}
 use Rattle.algebra.proofs.Trace.{length-of}
 use Rattle.algebra.proofs.Perm.{Perm, perm-path, perm-sym}
 use Rattle.exact.specs.Exact.{exact, narrow}
-use Rattle.gate.specs.Gate.{Gate, gatesOf, valid}
+use Rattle.gate.specs.Gate.{Gate, gatesOf}
+use Rattle.gate.specs.Inner.Entries.{valid}
 use Rattle.gate.proofs.Listed.{gates-length}
 use Rattle.kraus.specs.Branch.{Branch, branches}
 use Rattle.kraus.specs.Blocks.{survivors, stores}
 use Rattle.kraus.proofs.Schedule.{schedule-survivors}
 use Rattle.kraus.proofs.Stores.{stores-of}
 use Rattle.kraus.proofs.Counts.{Counts, schedule-counts}
-use Rattle.kraus.proofs.Limits.{Kraus}
+use Rattle.kraus.proofs.Limits.{Kraus, krausExponent}
 use Rattle.circuit.specs.declared.limits.Limits.{Limits}
 use Rattle.circuit.specs.Footprint.{footprintOf}
 use Rattle.verdict.specs.Verdict.{accepted}
@@ -69,7 +70,7 @@ module _ (n m : ℕ) (σ : List ℕ) (l : Limits) (ws : List ℕ) (r w : List �
     result = result-is;
     workRoom = is-sound .workRoom;
     work = ap (λ (b : Bool). cond b (zeroed (worked n m ws) w) w) e ∙ zeroed-is (worked n m ws) w (is-sound .workRoom);
-    matrices = λ k. all-imp (λ (b : Branch). (i : ℕ) → i < 2 ^ n * 2 ^ n → Kraus 25 (getD (b .matrix) i (exact .𝟘))) (λ (b : Branch). (i : ℕ) → i < 2 ^ n * 2 ^ n → narrow (getD (b .matrix) i (exact .𝟘)) ≡ true)
+    matrices = λ k. all-imp (λ (b : Branch). (i : ℕ) → i < 2 ^ n * 2 ^ n → Kraus krausExponent (getD (b .matrix) i (exact .𝟘))) (λ (b : Branch). (i : ℕ) → i < 2 ^ n * 2 ^ n → narrow (getD (b .matrix) i (exact .𝟘)) ≡ true)
         (branches n σ (take k (gatesOf ws))) (λ b h i p. h i p .is-narrow) (enough is-sound k .entries);
     blocks = block-fine is-sound;
   }

@@ -6,7 +6,8 @@ use Prim.Native.Nat.{ℕ, _/_, _%_}
 use lib.Dec.{eqb, leb}
 use lib.ListN.{length}
 use Rattle.algebra.specs.Lists.{every}
-use Rattle.gate.specs.Gate.{gatesOf, valid}
+use Rattle.gate.specs.Gate.{gatesOf, maxWeight}
+use Rattle.gate.specs.Inner.Entries.{valid}
 use Rattle.circuit.specs.declared.limits.Limits.{Limits}
 use Rattle.circuit.specs.declared.footprint.Footprint.{Footprint}
 use Rattle.verdict.specs.declared.Verdict.{Verdict}
@@ -14,7 +15,7 @@ use Rattle.verdict.specs.declared.Verdict.the-variants.{Accepted, OverLimit, Ba
 use Rattle.circuit.specs.Limits.{matrixCeilings, branchCeilings}
 use Rattle.circuit.specs.Footprint.{footprintOf}
 use Rattle.store.specs.Store.{storeFits}
-use Rattle.circuit.specs.Questions.{sizesOf, withinLimits, maxWeight, roomFor}
+use Rattle.circuit.specs.Questions.{sizesOf, withinLimits, roomFor}
 use Rattle.circuit.specs.Asked.{Question, question, firstBy, firstNo, decidedBy, ofGates, numberQuestions, asked}
 use Rattle.circuit.proofs.Asked.{yes, gates, valid-first, gates-every, faulty-by}
 

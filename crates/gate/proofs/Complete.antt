@@ -14,9 +14,10 @@ use Rattle.algebra.proofs.Adjoint.{Star}
 use Rattle.exact.specs.Exact.{exact, conj, equal}
 use Rattle.exact.proofs.Equal.{equal-true}
 use Rattle.exact.proofs.Exact.{exacts, conj-plus, conj-by, conj-𝟘, one-by, mul-lowest}
-use Rattle.gate.specs.Gate.{Gate, gate, rz, arity, qubits, unused, supported, valid}
+use Rattle.gate.specs.Gate.{Gate, gate, lastKind, rz, arity, qubits, unused, supported}
 use Rattle.gate.specs.Operators.{Operator, operators, one, none, sameBits}
 use Rattle.gate.specs.Embedding.{adjoint, basis, product, Complete}
+use Rattle.gate.specs.Inner.Entries.{valid}
 use Rattle.gate.proofs.Gate.{valid-split, valid-fits, valid-distinct}
 use Rattle.gate.proofs.Bits.{Word}
 use Rattle.gate.proofs.Isometry.{Isometry, embed-isometry}
@@ -74,17 +75,17 @@ abbrev pub plain : ℕ → ℕ → Gate
 plain kind k = gate kind 0 0 0 k
 
 abbrev pub allKinds : (ℕ → ℕ → Bool) → Bool
-allKinds p = allBelow 27 (λ (kind : ℕ). allBelow (cond (eqb kind rz) 9 1) (p kind))
+allKinds p = allBelow (suc lastKind) (λ (kind : ℕ). allBelow (cond (eqb kind rz) 9 1) (p kind))
 
 module _ (n m : ℕ) (g : Gate) (ok : valid n m g ≡ true) where
-  words : (leb (g .kind) 26 ≡ true) × (cond (eqb (g .kind) rz) (leb (g .k) 8) (eqb (g .k) 0) ≡ true)
+  words : (leb (g .kind) lastKind ≡ true) × (cond (eqb (g .kind) rz) (leb (g .k) 8) (eqb (g .k) 0) ≡ true)
   words =
       let rest = every (λ (w : ℕ). eqb w 0) (unused g) in
-      let (a, b) = and-split (leb (g .kind) 26) (cond (eqb (g .kind) rz) (leb (g .k) 8) (eqb (g .k) 0) && rest) (valid-split n m g ok .form) in
+      let (a, b) = and-split (leb (g .kind) lastKind) (cond (eqb (g .kind) rz) (leb (g .k) 8) (eqb (g .k) 0) && rest) (valid-split n m g ok .form) in
       (a, and-split (cond (eqb (g .kind) rz) (leb (g .k) 8) (eqb (g .k) 0)) rest b .0)
 
-  pub kind-below : g .kind < 27
-  kind-below = omega (arith, leb-true (g .kind) 26 (words .0))
+  pub kind-below : g .kind < suc lastKind
+  kind-below = omega (arith, leb-true (g .kind) lastKind (words .0))
 
   k-below : g .k < cond (eqb (g .kind) rz) 9 1
   k-below = go (eqb (g .kind) rz) (words .1)
@@ -94,7 +95,7 @@ module _ (n m : ℕ) (g : Gate) (ok : valid n m g ≡ true) where
       go false e = omega (arith, eqb-true (g .k) 0 e)
 
   pub at-gate : (p : ℕ → ℕ → Bool) → allKinds p ≡ true → p (g .kind) (g .k) ≡ true
-  at-gate p e = all-at (cond (eqb (g .kind) rz) 9 1) (p (g .kind)) (all-at 27 (λ (kind : ℕ). allBelow (cond (eqb kind rz) 9 1) (p kind)) e (g .kind) kind-below) (g .k) k-below
+  at-gate p e = all-at (cond (eqb (g .kind) rz) 9 1) (p (g .kind)) (all-at (suc lastKind) (λ (kind : ℕ). allBelow (cond (eqb kind rz) 9 1) (p kind)) e (g .kind) kind-below) (g .k) k-below
 
 abbrev trial : ℕ → ℕ → Bool
 trial kind k = not (supported (plain kind k)) || complete (arity kind) (operators (plain kind k))

@@ -8,7 +8,8 @@ use borrow.Author.Tests.{eqb-true, eq-eqb, ltb-true}
 use Rattle.algebra.specs.Lists.{All, every}
 use Rattle.algebra.proofs.Tests.{and-split, or-no, or-right}
 use Rattle.algebra.proofs.Lists.{every-all}
-use Rattle.gate.specs.Gate.{Gate, elem, distinct, meet, qubits, bits, formed, placed, supported, valid}
+use Rattle.gate.specs.Gate.{Gate, elem, distinct, meet, qubits, bits, formed, placed, supported}
+use Rattle.gate.specs.Inner.Entries.{valid}
 
 -- all of ss are in us
 pub elem-all : (ss us : List ℕ) → ((q : ℕ) → elem q ss ≡ true → elem q us ≡ true) → All (λ (q : ℕ). elem q us ≡ true) ss

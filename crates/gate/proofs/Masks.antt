@@ -17,10 +17,11 @@ use Rattle.algebra.proofs.Tests.{exhaust, equal1, equal2, or-no}
 use Rattle.exact.specs.Exact.{Exact, exact}
 use Rattle.scalar.specs.Calls.{value}
 use Rattle.gate.specs.declared.rows.Pair.{Pair}
-use Rattle.gate.specs.Gate.{Gate, gate, arity, elem}
-use Rattle.gate.specs.Operators.{Small, one, none, operators, controlled, swapped}
-use Rattle.gate.specs.Embed.{bit, embed}
-use Rattle.gate.specs.Entries.{Table, tableOf, smallOf, identity, coreOf, gateEntry, flips, partner, rowEntry, controls, pairOf, kept, exchanged, side, rowPair, Ready, Apart2, Apart3}
+use Rattle.gate.specs.Gate.{Gate, gate, arity, elem, swap, cswap}
+use Rattle.gate.specs.Inner.Kinds.{oneQubit, controlledOnce, controlledTwice}
+use Rattle.gate.specs.Operators.{Small, one, none, operators, controlled, swapped, identity}
+use Rattle.gate.specs.Embed.{bit, embed, gateEntry}
+use Rattle.gate.specs.Inner.Entries.{Table, tableOf, smallOf, coreOf, flips, partner, rowEntry, controls, pairOf, kept, exchanged, side, rowPair, Ready, Apart2, Apart3}
 use Rattle.gate.proofs.Gate.{elem-in}
 use Rattle.gate.proofs.Embedding.{respects-identity}
 use Rattle.gate.proofs.Placed.{embed-controlled, embed-swap}
@@ -208,19 +209,19 @@ module _ (n r : ℕ) (few : n ≤ 5) (hr : r < 2 ^ n) where
     abbrev Row : ℕ → Type 0
     Row m = j < length (operators (gate m a b c k)) → Holds (pairs m) (gateEntry n (gate m a b c k) j r) r (partner n (gate m a b c k) r)
 
-    one-row : a < n → (m : ℕ) → elem m (12 ∷ 13 ∷ 2 ∷ 3 ∷ 4 ∷ 5 ∷ 6 ∷ 7 ∷ 0 ∷ 1 ∷ 15 ∷ 16 ∷ []) ≡ true → Row m
+    one-row : a < n → (m : ℕ) → elem m oneQubit ≡ true → Row m
     one-row l m e w = go m e (holds-path (none-held _) (holds-same (λ s. one-entry n j r s a b c k m e w) (one-holds (coreOf (gate m a b c k) j) a l)))
       where
         Reduced : ℕ → Type 0
         Reduced m = Holds (cond (eqb (bitAnd r 0) 0) (choice (coreOf (gate m a b c k) j) (2 ^ (n - 1 - a)) r) kept) (gateEntry n (gate m a b c k) j r) r (bitXor r (2 ^ (n - 1 - a)))
             → Holds (pairs m) (gateEntry n (gate m a b c k) j r) r (partner n (gate m a b c k) r)
 
-        go : (m : ℕ) → elem m (12 ∷ 13 ∷ 2 ∷ 3 ∷ 4 ∷ 5 ∷ 6 ∷ 7 ∷ 0 ∷ 1 ∷ 15 ∷ 16 ∷ []) ≡ true → Reduced m
-        go = elem-in Reduced (12 ∷ 13 ∷ 2 ∷ 3 ∷ 4 ∷ 5 ∷ 6 ∷ 7 ∷ 0 ∷ 1 ∷ 15 ∷ 16 ∷ [])
+        go : (m : ℕ) → elem m oneQubit ≡ true → Reduced m
+        go = elem-in Reduced oneQubit
             ((λ t. t), ((λ t. t), ((λ t. t), ((λ t. t), ((λ t. t), ((λ t. t), ((λ t. t), ((λ t. t), ((λ t. t), ((λ t. t), ((λ t. t), ((λ t. t), tt))))))))))))
 
     module _ (on : Apart2 n a b) where
-      controlled-row : (m : ℕ) → elem m (8 ∷ 9 ∷ 20 ∷ 25 ∷ []) ≡ true → Row m
+      controlled-row : (m : ℕ) → elem m controlledOnce ≡ true → Row m
       controlled-row m e w =
           go m e (holds-path (one-held _ a (on .first))
           (holds-same (λ s. controlled-core n j r s a b c k m e ∙ controlled-entry n j r s a b c k m e w)
@@ -237,14 +238,14 @@ module _ (n r : ℕ) (few : n ≤ 5) (hr : r < 2 ^ n) where
               Holds (cond (eqb (bitAnd r (2 ^ (n - 1 - a))) (2 ^ (n - 1 - a))) (choice (coreOf (gate m a b c k) j) (2 ^ (n - 1 - b)) r) kept) (gateEntry n (gate m a b c k) j r) r (bitXor r (2 ^ (n - 1 - b)))
               → Holds (pairs m) (gateEntry n (gate m a b c k) j r) r (partner n (gate m a b c k) r)
 
-          go : (m : ℕ) → elem m (8 ∷ 9 ∷ 20 ∷ 25 ∷ []) ≡ true → Reduced m
-          go = elem-in Reduced (8 ∷ 9 ∷ 20 ∷ 25 ∷ []) ((λ t. t), ((λ t. t), ((λ t. t), ((λ t. t), tt))))
+          go : (m : ℕ) → elem m controlledOnce ≡ true → Reduced m
+          go = elem-in Reduced controlledOnce ((λ t. t), ((λ t. t), ((λ t. t), ((λ t. t), tt))))
 
-      swap-row : Row 19
-      swap-row w = holds-path (none-held _) (holds-same (λ s. swap-entry n j r s a b c k 19 refl w) (swap-holds a b on))
+      swap-row : Row swap
+      swap-row w = holds-path (none-held _) (holds-same (λ s. swap-entry n j r s a b c k swap refl w) (swap-holds a b on))
 
-      two-row : (m : ℕ) → elem m (19 ∷ 8 ∷ 9 ∷ 20 ∷ 25 ∷ []) ≡ true → Row m
-      two-row = elem-in Row (19 ∷ 8 ∷ 9 ∷ 20 ∷ 25 ∷ []) (swap-row, (controlled-row 8 refl, (controlled-row 9 refl, (controlled-row 20 refl, (controlled-row 25 refl, tt)))))
+      two-row : (m : ℕ) → elem m (swap ∷ controlledOnce) ≡ true → Row m
+      two-row = elem-in Row (swap ∷ controlledOnce) (swap-row, (controlled-row 8 refl, (controlled-row 9 refl, (controlled-row 20 refl, (controlled-row 25 refl, tt)))))
 
     module _ (on : Apart3 n a b c) where
       twice-holds : (t : Table) → Holds (cond (eqb (bitAnd r (2 ^ (n - 1 - a) + 2 ^ (n - 1 - b))) (2 ^ (n - 1 - a) + 2 ^ (n - 1 - b))) (choice t (2 ^ (n - 1 - c)) r) kept)
@@ -256,22 +257,22 @@ module _ (n r : ℕ) (few : n ≤ 5) (hr : r < 2 ^ n) where
           (control-holds a (b ∷ c ∷ []) (controlled (smallOf t)) (on .first) (on .other) (two .below) (two .other)
           (control-holds b (c ∷ []) (smallOf t) (on2 .first) (or-false (eqb b c) ∙ on2 .other) (two .below) (two .other) (one-holds t c (on2 .second))))
 
-      twice-row : (m : ℕ) → elem m (10 ∷ 11 ∷ []) ≡ true → Row m
-      twice-row = elem-in Row (10 ∷ 11 ∷ []) (o 10 refl, (o 11 refl, tt))
+      twice-row : (m : ℕ) → elem m controlledTwice ≡ true → Row m
+      twice-row = elem-in Row controlledTwice (o 10 refl, (o 11 refl, tt))
         where
-          o : (m : ℕ) → elem m (10 ∷ 11 ∷ []) ≡ true → j < length (operators (gate m a b c k))
+          o : (m : ℕ) → elem m controlledTwice ≡ true → j < length (operators (gate m a b c k))
               → Holds (cond (eqb (bitAnd r (2 ^ (n - 1 - a) + 2 ^ (n - 1 - b))) (2 ^ (n - 1 - a) + 2 ^ (n - 1 - b))) (choice (coreOf (gate m a b c k) j) (2 ^ (n - 1 - c)) r) kept)
               (gateEntry n (gate m a b c k) j r) r (bitXor r (2 ^ (n - 1 - c)))
           o m e w = holds-same (λ s. twice-controlled-core n j r s a b c k m e ∙ twice-controlled-entry n j r s a b c k m e w) (twice-holds (coreOf (gate m a b c k) j))
 
-      controlled-swap-row : Row 26
+      controlled-swap-row : Row cswap
       controlled-swap-row w =
           let two = swap-two n b c r few (on .others) hr in
-          holds-path (one-held _ a (on .first)) (holds-same (λ s. controlled-swap-entry n j r s a b c k 26 refl w)
+          holds-path (one-held _ a (on .first)) (holds-same (λ s. controlled-swap-entry n j r s a b c k cswap refl w)
           (control-holds a (b ∷ c ∷ []) swapped (on .first) (on .other) (two .below) (two .other) (swap-holds b c (on .others))))
 
-      three-row : (m : ℕ) → elem m (26 ∷ 10 ∷ 11 ∷ []) ≡ true → Row m
-      three-row = elem-in Row (26 ∷ 10 ∷ 11 ∷ []) (controlled-swap-row, (twice-row 10 refl, (twice-row 11 refl, tt)))
+      three-row : (m : ℕ) → elem m (cswap ∷ controlledTwice) ≡ true → Row m
+      three-row = elem-in Row (cswap ∷ controlledTwice) (controlled-swap-row, (twice-row 10 refl, (twice-row 11 refl, tt)))
 
 -- the pair of row r of a gate that passes the questions
 row-holds : {n : ℕ} {g : Gate} {j : ℕ} → Ready n g j → n ≤ 5 → (r : ℕ) → r < 2 ^ n
@@ -311,22 +312,22 @@ module _ (n a b c k : ℕ) where
   abbrev weight : ℕ → ℕ
   weight q = 2 ^ (n - 1 - q)
 
-  pub flips-swap : (m : ℕ) → m ≡ 19 → weight a + weight b ≡ flips n (gate m a b c k)
+  pub flips-swap : (m : ℕ) → m ≡ swap → weight a + weight b ≡ flips n (gate m a b c k)
   flips-swap m e = subst (λ (m : ℕ). weight a + weight b ≡ flips n (gate m a b c k)) (sym e) refl
 
-  pub flips-controlled-swap : (m : ℕ) → m ≡ 26 → weight b + weight c ≡ flips n (gate m a b c k)
+  pub flips-controlled-swap : (m : ℕ) → m ≡ cswap → weight b + weight c ≡ flips n (gate m a b c k)
   flips-controlled-swap m e = subst (λ (m : ℕ). weight b + weight c ≡ flips n (gate m a b c k)) (sym e) refl
 
-  pub flips-target : (m : ℕ) → (m ≡ 19 → ⊥) → (m ≡ 26 → ⊥) → (u v : ℕ) → u ≡ arity m → u ≡ v → weight (getD (a ∷ b ∷ c ∷ []) (v - 1) 0) ≡ flips n (gate m a b c k)
+  pub flips-target : (m : ℕ) → (m ≡ swap → ⊥) → (m ≡ cswap → ⊥) → (u v : ℕ) → u ≡ arity m → u ≡ v → weight (getD (a ∷ b ∷ c ∷ []) (v - 1) 0) ≡ flips n (gate m a b c k)
   flips-target m p q u v e f =
       ap (λ (u : ℕ). weight (getD (a ∷ b ∷ c ∷ []) (u - 1) 0)) (sym f ∙ e)
-      ∙ sym (λ i. cond (ne-eqb m 19 p i) (weight a + weight b) (cond (ne-eqb m 26 q i) (weight b + weight c) (weight (getD (a ∷ b ∷ c ∷ []) (arity m - 1) 0))))
+      ∙ sym (λ i. cond (ne-eqb m swap p i) (weight a + weight b) (cond (ne-eqb m cswap q i) (weight b + weight c) (weight (getD (a ∷ b ∷ c ∷ []) (arity m - 1) 0))))
 
   -- u is the arity of the kind m, and s and t the tests of the code
-  pub controls-by : (m u : ℕ) {s t : Bool} → u ≡ arity m → (eqb u 1 || eqb m 19) ≡ s → (eqb u 2 || eqb m 26) ≡ t → cond s 0 (cond t (weight a) (weight a + weight b)) ≡ controls n (gate m a b c k)
+  pub controls-by : (m u : ℕ) {s t : Bool} → u ≡ arity m → (eqb u 1 || eqb m swap) ≡ s → (eqb u 2 || eqb m cswap) ≡ t → cond s 0 (cond t (weight a) (weight a + weight b)) ≡ controls n (gate m a b c k)
   controls-by m u e f h =
       sym (λ i. cond (f i) 0 (cond (h i) (weight a) (weight a + weight b)))
-      ∙ ap (λ (u : ℕ). cond (eqb u 1 || eqb m 19) 0 (cond (eqb u 2 || eqb m 26) (weight a) (weight a + weight b))) e
+      ∙ ap (λ (u : ℕ). cond (eqb u 1 || eqb m swap) 0 (cond (eqb u 2 || eqb m cswap) (weight a) (weight a + weight b))) e
 
 -- the weight of a qubit
 pub weight-small : (n q m : ℕ) → n ≤ 5 → m ≡ 2 ^ (n - 1 - q) → m ≤ 16

@@ -14,10 +14,11 @@ use borrow.Author.Tests.{ltb-true, eqb-true, eqb-false, eq-eqb, ne-eqb, not-true
 use Rattle.algebra.specs.Lists.{allBelow}
 use Rattle.algebra.proofs.Tests.{exhaust, and-split, holds-true}
 use Rattle.exact.specs.Exact.{Exact, exact}
-use Rattle.gate.specs.Gate.{Gate, gate, arity, elem}
-use Rattle.gate.specs.Operators.{Small, one, none, operators, controlled, swapped}
-use Rattle.gate.specs.Embed.{bit, bitsOf, embed}
-use Rattle.gate.specs.Entries.{operatorAt, targetOf, gateEntry, partner, Ready, Apart2, Apart3}
+use Rattle.gate.specs.Gate.{Gate, gate, arity, elem, measure, reset, swap, cswap}
+use Rattle.gate.specs.Inner.Kinds.{oneQubit, controlledOnce, controlledTwice}
+use Rattle.gate.specs.Operators.{Small, one, none, operators, controlled, swapped, operatorAt}
+use Rattle.gate.specs.Embed.{bit, bitsOf, embed, gateEntry}
+use Rattle.gate.specs.Inner.Entries.{targetOf, partner, Ready, Apart2, Apart3}
 use Rattle.gate.proofs.Embedding.{respects-identity}
 use Rattle.gate.proofs.Placed.{clear, cleared, agree-one, embed-controlled, embed-swap}
 use Rattle.gate.proofs.Gate.{elem-in}
@@ -194,25 +195,25 @@ module _ (n j r : ℕ) (few : n ≤ 5) (hr : r < 2 ^ n) (a b c k : ℕ) where
   abbrev Asked : ℕ → Type 0
   Asked m = j < length (operators (gate m a b c k)) → Pair m
 
-  one-pair : a < n → (m : ℕ) → elem m (12 ∷ 13 ∷ 2 ∷ 3 ∷ 4 ∷ 5 ∷ 6 ∷ 7 ∷ 0 ∷ 1 ∷ 15 ∷ 16 ∷ []) ≡ true → Pair m
-  one-pair l = elem-in Pair (12 ∷ 13 ∷ 2 ∷ 3 ∷ 4 ∷ 5 ∷ 6 ∷ 7 ∷ 0 ∷ 1 ∷ 15 ∷ 16 ∷ [])
-      (o 12, (o 13, (o 2, (o 3, (o 4, (o 5, (o 6, (o 7, (o 0, (o 1, (o 15, (o 16, tt))))))))))))
+  one-pair : a < n → (m : ℕ) → elem m oneQubit ≡ true → Pair m
+  one-pair l = elem-in Pair oneQubit
+      (o measure, (o reset, (o 2, (o 3, (o 4, (o 5, (o 6, (o 7, (o 0, (o 1, (o 15, (o 16, tt))))))))))))
     where
       o : (m : ℕ) → Two (2 ^ n) (embed exact n (a ∷ []) (operatorAt (gate m a b c k) j .small) r) r (bitXor r (2 ^ (n - 1 - a)))
       o m = one-two n a r few l hr (operatorAt (gate m a b c k) j .small)
 
   module _ (on : Apart2 n a b) where
-    controlled-pair : (m : ℕ) → elem m (8 ∷ 9 ∷ 20 ∷ 25 ∷ []) ≡ true → Asked m
+    controlled-pair : (m : ℕ) → elem m controlledOnce ≡ true → Asked m
     controlled-pair m e w = go m e (two-same (λ s. controlled-entry n j r s a b c k m e w) (control-two n a (b ∷ []) (targetOf m) hr (on .first) (or-false (eqb a b) ∙ on .other) (one-two n b r few (on .second) hr (targetOf m))))
       where
-        go : (m : ℕ) → elem m (8 ∷ 9 ∷ 20 ∷ 25 ∷ []) ≡ true → Two (2 ^ n) (gateEntry n (gate m a b c k) j r) r (bitXor r (2 ^ (n - 1 - b))) → Pair m
-        go = elem-in (λ (m : ℕ). Two (2 ^ n) (gateEntry n (gate m a b c k) j r) r (bitXor r (2 ^ (n - 1 - b))) → Pair m) (8 ∷ 9 ∷ 20 ∷ 25 ∷ []) ((λ t. t), ((λ t. t), ((λ t. t), ((λ t. t), tt))))
+        go : (m : ℕ) → elem m controlledOnce ≡ true → Two (2 ^ n) (gateEntry n (gate m a b c k) j r) r (bitXor r (2 ^ (n - 1 - b))) → Pair m
+        go = elem-in (λ (m : ℕ). Two (2 ^ n) (gateEntry n (gate m a b c k) j r) r (bitXor r (2 ^ (n - 1 - b))) → Pair m) controlledOnce ((λ t. t), ((λ t. t), ((λ t. t), ((λ t. t), tt))))
 
-    swap-pair : Asked 19
-    swap-pair w = two-same (λ s. swap-entry n j r s a b c k 19 refl w) (swap-two n a b r few on hr)
+    swap-pair : Asked swap
+    swap-pair w = two-same (λ s. swap-entry n j r s a b c k swap refl w) (swap-two n a b r few on hr)
 
-    two-pair : (m : ℕ) → elem m (19 ∷ 8 ∷ 9 ∷ 20 ∷ 25 ∷ []) ≡ true → Asked m
-    two-pair = elem-in Asked (19 ∷ 8 ∷ 9 ∷ 20 ∷ 25 ∷ []) (swap-pair, (controlled-pair 8 refl, (controlled-pair 9 refl, (controlled-pair 20 refl, (controlled-pair 25 refl, tt)))))
+    two-pair : (m : ℕ) → elem m (swap ∷ controlledOnce) ≡ true → Asked m
+    two-pair = elem-in Asked (swap ∷ controlledOnce) (swap-pair, (controlled-pair 8 refl, (controlled-pair 9 refl, (controlled-pair 20 refl, (controlled-pair 25 refl, tt)))))
 
   module _ (on : Apart3 n a b c) where
     twice-pair : (m : ℕ) → Two (2 ^ n) (embed exact n (a ∷ b ∷ c ∷ []) (controlled (controlled (targetOf m))) r) r (bitXor r (2 ^ (n - 1 - c)))
@@ -221,9 +222,9 @@ module _ (n j r : ℕ) (few : n ≤ 5) (hr : r < 2 ^ n) (a b c k : ℕ) where
         control-two n a (b ∷ c ∷ []) (controlled (targetOf m)) hr (on .first) (on .other)
         (control-two n b (c ∷ []) (targetOf m) hr (on2 .first) (or-false (eqb b c) ∙ on2 .other) (one-two n c r few (on2 .second) hr (targetOf m)))
 
-    three-pair : (m : ℕ) → elem m (26 ∷ 10 ∷ 11 ∷ []) ≡ true → Asked m
-    three-pair = elem-in Asked (26 ∷ 10 ∷ 11 ∷ []) (
-      (λ w. two-same (λ s. controlled-swap-entry n j r s a b c k 26 refl w) (control-two n a (b ∷ c ∷ []) swapped hr (on .first) (on .other) (swap-two n b c r few (on .others) hr))),
+    three-pair : (m : ℕ) → elem m (cswap ∷ controlledTwice) ≡ true → Asked m
+    three-pair = elem-in Asked (cswap ∷ controlledTwice) (
+      (λ w. two-same (λ s. controlled-swap-entry n j r s a b c k cswap refl w) (control-two n a (b ∷ c ∷ []) swapped hr (on .first) (on .other) (swap-two n b c r few (on .others) hr))),
       ((λ w. two-same (λ s. twice-controlled-entry n j r s a b c k 10 refl w) (twice-pair 10)), ((λ w. two-same (λ s. twice-controlled-entry n j r s a b c k 11 refl w) (twice-pair 11)), tt)),
     )
 

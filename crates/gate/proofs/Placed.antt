@@ -9,9 +9,9 @@ use lib.Dec.{eqb}
 use borrow.Author.Tests.{eqb-true, eq-eqb}
 use Rattle.exact.specs.Exact.{Exact, exact}
 use Rattle.gate.specs.Gate.{elem}
-use Rattle.gate.specs.Operators.{Small, one, none, sameBits, controlled, swapped}
+use Rattle.gate.specs.Operators.{Small, one, none, sameBits, controlled, swapped, identity as same}
 use Rattle.gate.specs.Embed.{bit, bitsOf, agree, embed}
-use Rattle.gate.specs.Entries.{tableOf, smallOf, identity as same}
+use Rattle.gate.specs.Inner.Entries.{tableOf, smallOf}
 use Rattle.gate.proofs.Bits.{low}
 use Rattle.gate.proofs.Bits
 use Rattle.gate.proofs.Embed.{agree-at, agree-by, agree-clear}

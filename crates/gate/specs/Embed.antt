@@ -5,7 +5,9 @@ use Prim.Native.Nat.{ℕ, _-_, _/_, _%_, _^_}
 use lib.Dec.{eqb}
 use Rattle.algebra.specs.Ops.{Ops}
 use Rattle.algebra.specs.Lists.{allBelow}
-use Rattle.gate.specs.Gate.{elem}
+use Rattle.exact.specs.Exact.{Exact, exact}
+use Rattle.gate.specs.Gate.{Gate, elem, qubits}
+use Rattle.gate.specs.Operators.{operatorAt}
 
 -- qubit q of row or column r
 abbrev pub bit : ℕ → ℕ → ℕ → ℕ
@@ -22,3 +24,7 @@ agree n qs r c = allBelow n (λ (q : ℕ). elem q qs || eqb (bit n q r) (bit n q
 -- u on the qubits qs, and the identity on all others
 abbrev pub embed : {A : Type 0} → Ops A → ℕ → List ℕ → (List ℕ → List ℕ → A) → ℕ → ℕ → A
 embed o n qs u r c = cond (agree n qs r c) (u (bitsOf n qs r) (bitsOf n qs c)) (o .𝟘)
+
+-- entry (r, c) of the matrix of operator j of a gate, on n qubits
+abbrev pub gateEntry : ℕ → Gate → ℕ → ℕ → ℕ → Exact
+gateEntry n g j r c = embed exact n (qubits g) (operatorAt g j .small) r c

@@ -1,6 +1,6 @@
 -- Laws of matrices placed on qubits, in exact numbers, a type each.
 use mathlib.Core.Path.{_≡_}
-use mathlib.Core.Bool.{true, false}
+use mathlib.Core.Bool.{true, false, _&&_}
 use mathlib.Core.List.{List, [], _∷_, _++_, map}
 use Prim.Native.Nat.{ℕ, zero, suc, _^_, _<_}
 use lib.ListN.{length}
@@ -8,10 +8,9 @@ use Rattle.algebra.specs.Ops.{Ops}
 use Rattle.algebra.specs.Sum.{listSum, times, δ}
 use Rattle.algebra.specs.Lists.{All}
 use Rattle.exact.specs.Exact.{Exact, exact, conj}
-use Rattle.gate.specs.Gate.{Gate, distinct, meet, qubits, valid}
-use Rattle.gate.specs.Operators.{Small, Operator, operators}
+use Rattle.gate.specs.Gate.{Gate, distinct, meet, qubits, formed, placed, supported}
+use Rattle.gate.specs.Operators.{Small, Operator, operators, identity}
 use Rattle.gate.specs.Embed.{embed}
-use Rattle.gate.specs.Entries.{identity}
 
 -- ---- matrices
 -- an entry for a row and a column
@@ -64,5 +63,7 @@ Commute =
 -- Σ M†M = I over the operators of a gate
 abbrev pub Complete : Type 0
 Complete =
-    (n m : ℕ) (g : Gate) → valid n m g ≡ true
-    → Equal (2 ^ n) (λ (r c : ℕ). listSum exact (λ (o : Operator). let M = embed exact n (qubits g) (o .small) in times exact (2 ^ n) (adjoint conj M) M r c) (operators g)) (δ exact)
+    (n m : ℕ) (g : Gate) → formed g && (placed n m g && supported g) ≡ true
+    → Equal (2 ^ n)
+    (λ (r c : ℕ). listSum exact (λ (o : Operator). let M = embed exact n (qubits g) (o .small) in times exact (2 ^ n) (adjoint conj M) M r c) (operators g))
+    (δ exact)

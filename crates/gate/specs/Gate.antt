@@ -16,17 +16,21 @@ pub record Gate : Type 0 where
 abbrev pub gate : ℕ → ℕ → ℕ → ℕ → ℕ → Gate
 gate kind a b c k = record { kind = kind; a = a; b = b; c = c; k = k }
 
--- the gate in the five words from `at` on
+-- the words of a gate
+abbrev pub gateSize : ℕ
+gateSize = 5
+
+-- the gate in the words from `at` on
 abbrev pub gateAt : List ℕ → ℕ → Gate
 gateAt ws at = gate (getD ws at 0) (getD ws (at + 1) 0) (getD ws (at + 2) 0) (getD ws (at + 3) 0) (getD ws (at + 4) 0)
 
 -- gate i, gate i + 1, .., n of them
 abbrev pub gatesFrom : List ℕ → ℕ → ℕ → List Gate
 gatesFrom ws i zero = []
-gatesFrom ws i (suc n) = gateAt ws (i * 5) ∷ gatesFrom ws (suc i) n
+gatesFrom ws i (suc n) = gateAt ws (i * gateSize) ∷ gatesFrom ws (suc i) n
 
 abbrev pub gatesOf : List ℕ → List Gate
-gatesOf ws = gatesFrom ws 0 (length ws / 5)
+gatesOf ws = gatesFrom ws 0 (length ws / gateSize)
 
 -- ---- kinds, in the order of the Rust's `GateKind`
 -- 0 h, 1 x, 2 z, 3 s, 4 sdg, 5 t, 6 tdg, 7 rz, 8 cnot, 9 cz, 10 ccx, 11 ccz, 12 measure, 13 reset, 14 p, 15 y, 16 sx,
@@ -42,6 +46,12 @@ measure = 12
 
 abbrev pub reset : ℕ
 reset = 13
+
+abbrev pub swap : ℕ
+swap = 19
+
+abbrev pub cswap : ℕ
+cswap = 26
 
 -- how many of the words a, b, c name qubits, by kind
 abbrev pub arities : List ℕ
@@ -89,13 +99,14 @@ placed n m g = every (λ (q : ℕ). ltb q n) (qubits g) && (distinct (qubits g) 
 abbrev pub supported : Gate → Bool
 supported g = not (elem (g .kind) (14 ∷ 17 ∷ 18 ∷ 21 ∷ 22 ∷ 23 ∷ 24 ∷ [])) && not (eqb (g .kind) rz && eqb (g .k) 8)
 
-abbrev pub valid : ℕ → ℕ → Gate → Bool
-valid n m g = formed g && (placed n m g && supported g)
-
 -- ---- what the limits count
 -- h, sx and ch weigh 1
 abbrev pub weight : Gate → ℕ
 weight g = cond (elem (g .kind) (0 ∷ 16 ∷ 25 ∷ [])) 1 0
+
+-- the most that the gates of a circuit may weigh
+abbrev pub maxWeight : ℕ
+maxWeight = 48
 
 -- a measure and a reset split each branch in two
 abbrev pub splits : Gate → ℕ

@@ -2,5 +2,5 @@ pub mod Gate
 pub mod Operators
 pub mod Embed
 pub mod Verdict
-pub mod Entries
 pub mod Embedding
+pub mod Inner

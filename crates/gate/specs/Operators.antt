@@ -29,11 +29,15 @@ sameBits [] (y ∷ ys) = false
 sameBits (x ∷ xs) [] = false
 sameBits (x ∷ xs) (y ∷ ys) = eqb x y && sameBits xs ys
 
+-- the identity on some qubits
+abbrev pub identity : Small
+identity xs ys = cond (sameBits xs ys) one none
+
 -- u where the first bit is 1, the identity where it is 0
 abbrev pub controlled : Small → Small
 controlled u [] ys = none
 controlled u (x ∷ xs) [] = none
-controlled u (x ∷ xs) (y ∷ ys) = cond (eqb x y) (cond (eqb x 1) (u xs ys) (cond (sameBits xs ys) one none)) none
+controlled u (x ∷ xs) (y ∷ ys) = cond (eqb x y) (cond (eqb x 1) (u xs ys) (identity xs ys)) none
 
 -- h: 1/√2 (1 1; 1 −1)
 abbrev pub hadamard : Small
@@ -120,3 +124,7 @@ operators g =
     cond (eqb (g .kind) measure) projectors
     (cond (eqb (g .kind) reset) resetters
     (operator (getD (unitaries (g .k)) (g .kind) noUnitary) 0 ∷ []))
+
+-- operator j of a gate
+abbrev pub operatorAt : Gate → ℕ → Operator
+operatorAt g j = getD (operators g) j (operator noUnitary 0)

@@ -2,3 +2,15 @@
 pub mod judge;
 pub mod rows;
 pub mod tables;
+
+// The words of a gate.
+pub const GATE: usize = 5;
+
+// Kinds.
+pub const MEASURE: u32 = 12;
+
+pub const RESET: u32 = 13;
+
+pub const SWAP: u32 = 19;
+
+pub const CSWAP: u32 = 26;

@@ -1,7 +1,10 @@
 // The rows of a gate's matrices on n qubits. Row r has entries in two columns alone: its own, r, and its partner's, which has the bits flipped that the gate may change.
+use super::CSWAP;
+use super::SWAP;
 use super::judge::GateWords;
 use super::judge::qubit_count;
 use super::tables::core_table;
+use cells::CELL;
 use cells::write_cell;
 use scalar::ONE;
 use scalar::Scalar;
@@ -9,9 +12,9 @@ use scalar::ZERO;
 ghost use mathlib.Core.Path.{_≡_};
 ghost use Prim.Native.Nat.{_+_, _-_, _*_, _/_, _^_, _≤_, _<_};
 ghost use lib.ListN.{length};
-ghost use Rattle.cells.specs.Cells.{fill};
+ghost use Rattle.cells.specs.Cells.{cellSize, fill};
 ghost use Rattle.gate.specs.Verdict.{gateOf};
-ghost use Rattle.gate.specs.Entries.{Ready, flips, controls, rowEntry, pairOf, side, rowPair};
+ghost use Rattle.gate.specs.Inner.Entries.{Ready, flips, controls, rowEntry, pairOf, side, rowPair};
 
 // The entries of a row in its own column and in its partner's.
 pub struct Pair {
@@ -32,12 +35,12 @@ pub fn flips(g: GateWords, n: u32) -> usize
     requires { ⌜ (n ≤ 5) × Ready n (gateOf g) 0 ⌝ }
     ensures { λ m. ⌜ m ≡ flips n (gateOf g) ⌝ }
 {
-    if g.kind == 19 {
+    if g.kind == SWAP {
         let a = mask(n, g.a);
         let b = mask(n, g.b);
         return a + b;
     }
-    if g.kind == 26 {
+    if g.kind == CSWAP {
         let b = mask(n, g.b);
         let c = mask(n, g.c);
         return b + c;
@@ -58,11 +61,11 @@ fn controls(g: GateWords, n: u32, j: usize) -> usize
     ensures { λ m. ⌜ m ≡ controls n (gateOf g) ⌝ }
 {
     let used = qubit_count(g.kind);
-    if (used == 1) | (g.kind == 19) {
+    if (used == 1) | (g.kind == SWAP) {
         return 0;
     }
     let a = mask(n, g.a);
-    if (used == 2) | (g.kind == 26) {
+    if (used == 2) | (g.kind == CSWAP) {
         return a;
     }
     let b = mask(n, g.b);
@@ -118,7 +121,7 @@ fn row_entry(low: Pair, high: Pair, held: usize, m: usize, i: usize) -> Scalar
 
 // Write the two entries of each row of operator j, on n qubits with d rows and columns, to `at` on; m are the bits that the gate may change.
 pub fn write_rows(buf: &mut [i64], at: usize, n: u32, d: usize, g: GateWords, j: usize, m: usize)
-    requires { ⌜ (m ≡ flips n (gateOf g)) × ((at + d * 2 * 5 ≤ length (now buf)) × ((n ≤ 5) × ((d ≡ 2 ^ n) × Ready n (gateOf g) j))) ⌝ }
+    requires { ⌜ (m ≡ flips n (gateOf g)) × ((at + d * 2 * cellSize ≤ length (now buf)) × ((n ≤ 5) × ((d ≡ 2 ^ n) × Ready n (gateOf g) j))) ⌝ }
     ensures { λ _. ⌜ now (buf .exit) ≡ fill (now (buf .entry)) at (d * 2) (rowEntry n (gateOf g) j) ⌝ }
 {
     let u = core_table(g, n, j);
@@ -129,7 +132,7 @@ pub fn write_rows(buf: &mut [i64], at: usize, n: u32, d: usize, g: GateWords, j:
     let mut i = 0;
     while i < count {
         let v = row_entry(low, high, held, m, i);
-        let to = at + i * 5;
+        let to = at + i * CELL;
         write_cell(buf, to, v);
         i += 1;
     }

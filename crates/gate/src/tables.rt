@@ -1,4 +1,8 @@
 // The two-by-two matrices of the kinds, as arrays by value.
+use super::CSWAP;
+use super::MEASURE;
+use super::RESET;
+use super::SWAP;
 use super::judge::GateWords;
 use super::judge::qubit_count;
 use scalar::ONE;
@@ -6,12 +10,12 @@ use scalar::Scalar;
 use scalar::ZERO;
 ghost use mathlib.Core.Path.{_≡_};
 ghost use mathlib.Core.Bool.{true};
-ghost use mathlib.Core.List.{[], _∷_};
 ghost use Prim.Native.Nat.{_<_};
 ghost use Rattle.gate.specs.Gate.{gate, elem};
-ghost use Rattle.gate.specs.Operators.{phase};
+ghost use Rattle.gate.specs.Operators.{phase, operatorAt, identity};
 ghost use Rattle.gate.specs.Verdict.{gateOf};
-ghost use Rattle.gate.specs.Entries.{Ready, unitaryOf, targetOf, operatorAt, tableOf, coreOf, identity};
+ghost use Rattle.gate.specs.Inner.Kinds.{constants, unitaryKinds, splitting, targeted};
+ghost use Rattle.gate.specs.Inner.Entries.{Ready, unitaryOf, targetOf, tableOf, coreOf};
 
 pub fn identity_table() -> [[Scalar; 2]; 2]
     ensures { λ r. ⌜ r ≡ tableOf identity ⌝ }
@@ -34,7 +38,7 @@ fn phase_table(k: u32) -> [[Scalar; 2]; 2]
 
 // h, x, y or sx.
 fn constant_table(kind: u32) -> [[Scalar; 2]; 2]
-    requires { ⌜ elem kind (0 ∷ 1 ∷ 15 ∷ 16 ∷ []) ≡ true ⌝ }
+    requires { ⌜ elem kind constants ≡ true ⌝ }
     ensures { λ r. ⌜ r ≡ tableOf (unitaryOf kind 0) ⌝ }
 {
     let z = ZERO;
@@ -73,7 +77,7 @@ fn constant_table(kind: u32) -> [[Scalar; 2]; 2]
 
 // The unitary of a one-qubit kind.
 fn unitary_table(kind: u32, k: u32) -> [[Scalar; 2]; 2]
-    requires { ⌜ elem kind (2 ∷ 3 ∷ 4 ∷ 5 ∷ 6 ∷ 7 ∷ 0 ∷ 1 ∷ 15 ∷ 16 ∷ []) ≡ true ⌝ }
+    requires { ⌜ elem kind unitaryKinds ≡ true ⌝ }
     ensures { λ r. ⌜ r ≡ tableOf (unitaryOf kind k) ⌝ }
 {
     match kind {
@@ -89,7 +93,7 @@ fn unitary_table(kind: u32, k: u32) -> [[Scalar; 2]; 2]
 
 // Operator j of measure or reset.
 fn split_table(kind: u32, j: usize) -> [[Scalar; 2]; 2]
-    requires { ⌜ (elem kind (12 ∷ 13 ∷ []) ≡ true) × (j < 2) ⌝ }
+    requires { ⌜ (elem kind splitting ≡ true) × (j < 2) ⌝ }
     ensures { λ r. ⌜ r ≡ tableOf (operatorAt (gate kind 0 0 0 0) j .small) ⌝ }
 {
     let z = ZERO;
@@ -97,7 +101,7 @@ fn split_table(kind: u32, j: usize) -> [[Scalar; 2]; 2]
     if j == 0 {
         return [[o, z], [z, z]];
     }
-    if kind == 12 {
+    if kind == MEASURE {
         return [[z, z], [z, o]];
     }
     [[z, o], [z, z]]
@@ -105,7 +109,7 @@ fn split_table(kind: u32, j: usize) -> [[Scalar; 2]; 2]
 
 // The unitary on the target of a controlled kind.
 fn target_table(kind: u32) -> [[Scalar; 2]; 2]
-    requires { ⌜ elem kind (8 ∷ 10 ∷ 9 ∷ 11 ∷ 20 ∷ 25 ∷ []) ≡ true ⌝ }
+    requires { ⌜ elem kind targeted ≡ true ⌝ }
     ensures { λ r. ⌜ r ≡ tableOf (targetOf kind) ⌝ }
 {
     match kind {
@@ -123,14 +127,14 @@ pub fn core_table(g: GateWords, n: u32, j: usize) -> [[Scalar; 2]; 2]
     requires { ⌜ Ready n (gateOf g) j ⌝ }
     ensures { λ r. ⌜ r ≡ coreOf (gateOf g) j ⌝ }
 {
-    if (g.kind == 12) | (g.kind == 13) {
+    if (g.kind == MEASURE) | (g.kind == RESET) {
         return split_table(g.kind, j);
     }
     let used = qubit_count(g.kind);
     if used == 1 {
         return unitary_table(g.kind, g.k);
     }
-    if (g.kind == 19) | (g.kind == 26) {
+    if (g.kind == SWAP) | (g.kind == CSWAP) {
         return identity_table();
     }
     target_table(g.kind)

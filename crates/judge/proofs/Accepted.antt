@@ -15,12 +15,13 @@ use Rattle.algebra.specs.Lists.{All, every, total, marks}
 use Rattle.algebra.proofs.Tests.{and-split, exhaust, holds-true}
 use Rattle.algebra.proofs.Totals.{sub-whole, sub-filter}
 use Rattle.exact.specs.Exact as scalar
-use Rattle.gate.specs.Gate.{Gate, gatesOf, valid, splits, weight}
+use Rattle.gate.specs.Gate.{Gate, gatesOf, splits, weight, maxWeight}
+use Rattle.gate.specs.Inner.Entries.{valid}
 use Rattle.gate.proofs.Bits.{Word}
 use Rattle.kraus.specs.Branch.{Store, Branch, branches}
 use Rattle.kraus.specs.Blocks.{alive, survivors, stores, block}
 use Rattle.kraus.proofs.Counting.{stores-bits, store-count}
-use Rattle.kraus.proofs.Limits.{Enough, never-48, block-fits}
+use Rattle.kraus.proofs.Limits.{Enough, krausExponent, circuit-enough, block-fits}
 use Rattle.circuit.specs.declared.limits.Limits.{Limits}
 use Rattle.circuit.specs.declared.footprint.Footprint.{Footprint}
 use Rattle.circuit.specs.declared.sizes.Sizes.{Sizes}
@@ -49,7 +50,7 @@ pub record Sound (n m : ℕ) (σ : List ℕ) (gs : List Gate) (result work : ℕ
   pub bit-count : m ≤ 64
   pub bytes : All (λ (v : ℕ). v < 2) σ
   pub byte-count : length σ ≡ m
-  pub light : total weight gs ≤ 48
+  pub light : total weight gs ≤ maxWeight
   pub branch-count : 2 ^ total splits gs ≤ 64
   pub room : resultWords (2 ^ min (total splits gs) (marks m writes gs)) (2 ^ n) ≤ result
   pub workRoom : workWords (2 ^ total splits gs) (2 ^ n) ≤ work
@@ -84,7 +85,7 @@ module _ (n m : ℕ) (σ : List ℕ) (l : Limits) (ws : List ℕ) (r w : List �
       let late = and-split (every (valid n m) gs) _ (sym (gates-every n m (numberQuestions n m σ l ws (length r) (length w)) 0 gs) ∙ q3 .1) in
       let q7 = and-split (storeFits m σ) _ (late .1) in
       let q8 = and-split (withinLimits foot n m l) _ (q7 .1) in
-      let q9 = and-split (leb (total weight gs) 48) _ (q8 .1) in
+      let q9 = and-split (leb (total weight gs) maxWeight) _ (q8 .1) in
       let q10 = and-split (roomFor sizes (length r) (length w)) _ (q9 .1) in
       let bytes = fits-word m σ (q7 .0) in
       let room = and-split (leb (resultWords (sizes .stores) (sizes .rows)) (length r)) _ (q10 .0) in
@@ -105,7 +106,7 @@ module _ (n m : ℕ) (σ : List ℕ) (l : Limits) (ws : List ℕ) (r w : List �
         bit-count = omega (arith, leb-true m (l .«max_classical_bits») (in1 .0), leb-true (l .«max_classical_bits») 64 (low3 .1));
         bytes = bytes .1;
         byte-count = bytes .0;
-        light = leb-true (total weight gs) 48 (q9 .0);
+        light = leb-true (total weight gs) maxWeight (q9 .0);
         branch-count = omega (arith, leb-true (sizes .branches) (l .«max_branches») (in2 .0), leb-true (l .«max_branches») 64 (low3 .0));
         room = leb-true _ _ (room .0);
         workRoom = leb-true _ _ (room .1);
@@ -122,11 +123,11 @@ module _ {n m : ℕ} {σ : List ℕ} {gs : List Gate} {result work : ℕ} (s : S
   abbrev count : ℕ
   count = length (stores (survivors (branches n σ gs)))
 
-  pub enough : (k : ℕ) → Enough 25 n (branches n σ (take k gs))
-  enough = never-48 n m σ gs (s .valid-gates) (s .light)
+  pub enough : (k : ℕ) → Enough krausExponent n (branches n σ (take k gs))
+  enough = circuit-enough n m σ gs (s .valid-gates) (s .light)
 
   pub block-fine : (τ : Store) (i j : ℕ) → i < side (2 ^ n) → j < side (2 ^ n) → scalar.wellFormed (block (survivors (branches n σ gs)) τ i j) ≡ true
-  block-fine τ i j p q = block-fits (subst (λ (hs : List Gate). Enough 25 n (branches n σ hs)) (take-length gs) (enough (length gs)))
+  block-fine τ i j p q = block-fits (subst (λ (hs : List Gate). Enough krausExponent n (branches n σ hs)) (take-length gs) (enough (length gs)))
       (sub-filter alive (sub-whole (branches n σ gs))) τ i j p q .well-formed
 
   entry-fine : (j k : ℕ) → j < count → k < side d * side d → scalar.wellFormed (blockNo d bs j .entry k) ≡ true

@@ -12,11 +12,12 @@ use lib.IntN.{ℤ, pos}
 use Rattle.algebra.specs.Lists.{every, total}
 use Rattle.algebra.specs.Words.{fillWords}
 use Rattle.algebra.proofs.Blocks.{written-over}
-use Rattle.gate.specs.Gate.{Gate, gatesOf, valid, splits}
+use Rattle.gate.specs.Gate.{Gate, gatesOf, splits}
+use Rattle.gate.specs.Inner.Entries.{valid}
 use Rattle.kraus.specs.Branch.{Branch, branches}
 use Rattle.kraus.specs.Blocks.{survivors, stores}
-use Rattle.branches.specs.Bank.{branchSize, bankWords, Holds}
-use Rattle.branches.specs.Run.{workSize, Runs, Ran}
+use Rattle.branches.specs.Inner.Bank.{branchSize, bankWords, Holds}
+use Rattle.branches.specs.Inner.Run.{workSize, Runs, Ran}
 use Rattle.circuit.specs.declared.limits.Limits.{Limits}
 use Rattle.circuit.specs.Sizes.{workWords}
 use Rattle.circuit.proofs.Products.{square-is}

@@ -1,4 +1,4 @@
--- Completeness of a circuit: after every gate the branches' K†K add up to the identity.
+-- Completeness: a step by complete operators keeps the sum of the branches' K†K, so that it is the identity after every gate of a circuit.
 use mathlib.Core.Path.{_≡_, refl, _∙_}
 use mathlib.Core.Bool.{true}
 use mathlib.Core.List.{List, [], _∷_, map, foldl}
@@ -10,12 +10,12 @@ use Rattle.algebra.proofs.Sum.{listSum-same, listSum-map, listSum-concat, zero-
 use Rattle.algebra.proofs.Adjoint.{dot, dot-same, dot-one, keep-dot}
 use Rattle.exact.specs.Exact.{Exact, exact}
 use Rattle.exact.proofs.Exact.{exacts}
-use Rattle.gate.specs.Gate.{Gate, qubits, valid}
-use Rattle.gate.specs.Operators.{Operator, operators}
-use Rattle.gate.specs.Embed.{embed}
+use Rattle.gate.specs.Gate.{Gate}
+use Rattle.gate.specs.Operators.{operators}
+use Rattle.gate.specs.Inner.Entries.{valid}
 use Rattle.gate.proofs.Complete.{conjugation, gate-complete}
 use Rattle.kraus.specs.Dense.{table, cell, left}
-use Rattle.kraus.specs.Branch.{Store, Branch, apply, step, start, branches}
+use Rattle.kraus.specs.Branch.{Store, Branch, KrausOperator, apply, step, start, krausOperator, operatorsOf, gateStep, branches}
 use Rattle.kraus.proofs.Dense.{cell-table}
 
 module _ (n : ℕ) where
@@ -36,30 +36,32 @@ module _ (n : ℕ) where
       ∙ dot-same exacts conjugation d (cell exact d (table d (δ exact))) (δ exact) c c′ (λ r k. cell-table exact d (δ exact) r c k l) (λ r k. cell-table exact d (δ exact) r c′ k m)
       ∙ dot-one exacts conjugation d c c′ l
 
-  module _ (g : Gate) (complete : (k l : ℕ) → k < 2 ^ n → l < 2 ^ n
-      → listSum exact (λ (o : Operator). dot exacts conjugation (2 ^ n) (embed exact n (qubits g) (o .small)) k l) (operators g) ≡ δ exact k l) where
-    abbrev E : Operator → ℕ → ℕ → Exact
-    E o = embed exact n (qubits g) (o .small)
+  -- a step by operators whose M†M add up to the identity
+  abbrev pub Complete : List KrausOperator → Type 0
+  Complete Ks = (k l : ℕ) → k < 2 ^ n → l < 2 ^ n → listSum exact (λ (K : KrausOperator). dot exacts conjugation (2 ^ n) (K .entry) k l) Ks ≡ δ exact k l
 
-    one-branch : (b : Branch) (c c′ : ℕ) → c < d → c′ < d → gram (map (apply n g b) (operators g)) c c′ ≡ norm c c′ b
+  module _ (Ks : List KrausOperator) (complete : Complete Ks) where
+    one-branch : (b : Branch) (c c′ : ℕ) → c < d → c′ < d → gram (map (apply n b) Ks) c c′ ≡ norm c c′ b
     one-branch b c c′ l m =
-        listSum-map exacts (norm c c′) (apply n g b) (operators g)
-        ∙ listSum-same exacts _ _ (operators g) (λ o.
-        dot-same exacts conjugation d (cell exact d (left exact d (E o) (b .matrix))) (times exact d (E o) (cell exact d (b .matrix))) c c′
-        (λ r k. cell-table exact d (times exact d (E o) (cell exact d (b .matrix))) r c k l)
-        (λ r k. cell-table exact d (times exact d (E o) (cell exact d (b .matrix))) r c′ k m))
-        ∙ keep-dot exacts conjugation d (operators g) E complete (cell exact d (b .matrix)) c c′
+        listSum-map exacts (norm c c′) (apply n b) Ks
+        ∙ listSum-same exacts _ _ Ks (λ K.
+        dot-same exacts conjugation d (cell exact d (left exact d (K .entry) (b .matrix))) (times exact d (K .entry) (cell exact d (b .matrix))) c c′
+        (λ r k. cell-table exact d (times exact d (K .entry) (cell exact d (b .matrix))) r c k l)
+        (λ r k. cell-table exact d (times exact d (K .entry) (cell exact d (b .matrix))) r c′ k m))
+        ∙ keep-dot exacts conjugation d Ks (λ (K : KrausOperator). K .entry) complete (cell exact d (b .matrix)) c c′
 
-    step-gram : (bs : List Branch) (c c′ : ℕ) → c < d → c′ < d → gram (step n bs g) c c′ ≡ gram bs c c′
-    step-gram bs c c′ l m =
-        listSum-concat exacts (norm c c′) (λ (b : Branch). map (apply n g b) (operators g)) bs
-        ∙ listSum-same exacts _ _ bs (λ b. one-branch b c c′ l m)
+    pub step-gram : (bs : List Branch) (c c′ : ℕ) → c < d → c′ < d → gram (step n bs Ks) c c′ ≡ gram bs c c′
+    step-gram bs c c′ l m = listSum-concat exacts (norm c c′) (λ (b : Branch). map (apply n b) Ks) bs ∙ listSum-same exacts _ _ bs (λ b. one-branch b c c′ l m)
+
+  pub operators-complete : (m : ℕ) (g : Gate) → valid n m g ≡ true → Complete (operatorsOf n g)
+  operators-complete m g ok k l hk hl =
+      listSum-map exacts (λ (K : KrausOperator). dot exacts conjugation d (K .entry) k l) (krausOperator n g) (operators g) ∙ gate-complete n m g ok k l hk hl
 
   module _ (m : ℕ) where
     steps-gram : (gs : List Gate) → All (λ (g : Gate). valid n m g ≡ true) gs → (bs : List Branch) (c c′ : ℕ) → c < d → c′ < d
-        → gram (foldl (step n) bs gs) c c′ ≡ gram bs c c′
+        → gram (foldl (gateStep n) bs gs) c c′ ≡ gram bs c c′
     steps-gram [] h bs c c′ l k = refl
-    steps-gram (g ∷ gs) h bs c c′ l k = steps-gram gs (h .1) (step n bs g) c c′ l k ∙ step-gram g (gate-complete n m g (h .0)) bs c c′ l k
+    steps-gram (g ∷ gs) h bs c c′ l k = steps-gram gs (h .1) (gateStep n bs g) c c′ l k ∙ step-gram (operatorsOf n g) (operators-complete m g (h .0)) bs c c′ l k
 
     -- COMPLETENESS: Σ K†K = I over the branches
     pub completeness : (σ : Store) (gs : List Gate) → every (valid n m) gs ≡ true → (c c′ : ℕ) → c < 2 ^ n → c′ < 2 ^ n

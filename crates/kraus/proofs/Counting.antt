@@ -16,7 +16,7 @@ use Rattle.gate.specs.Gate.{Gate, bits, splits, measure, reset}
 use Rattle.gate.specs.Operators.{Operator, operators, sameBits}
 use Rattle.gate.proofs.Gate.{elem-all}
 use Rattle.gate.proofs.Bits.{Word, same-true, same-refl}
-use Rattle.kraus.specs.Branch.{Store, Branch, write, apply, step, start, branches}
+use Rattle.kraus.specs.Branch.{Store, Branch, KrausOperator, write, apply, step, start, krausOperator, operatorsOf, gateStep, branches}
 use Rattle.kraus.specs.Blocks.{alive, survivors, stores}
 use Rattle.kraus.proofs.Counts.{writes}
 use Rattle.kraus.proofs.Stores.{other, Distinct, distinct-filter, stores-distinct, stores-length, stores-all}
@@ -30,12 +30,14 @@ by-kind false false ps qs us p q u = u
 pub operators-length : (g : Gate) → length (operators g) ≡ 2 ^ splits g
 operators-length g = by-kind (eqb (g .kind) measure) (eqb (g .kind) reset) _ _ _ refl refl refl
 
-run-length : (n : ℕ) (gs : List Gate) (bs : List Branch) → length (foldl (step n) bs gs) ≡ length bs * 2 ^ total splits gs
+pub step-length : (n : ℕ) (Ks : List KrausOperator) (bs : List Branch) → length (step n bs Ks) ≡ length bs * length Ks
+step-length n Ks = concat-length (λ (b : Branch). map (apply n b) Ks) (length Ks) (λ b. length-map Ks (apply n b))
+
+run-length : (n : ℕ) (gs : List Gate) (bs : List Branch) → length (foldl (gateStep n) bs gs) ≡ length bs * 2 ^ total splits gs
 run-length n [] bs = omega arith
 run-length n (g ∷ gs) bs =
-    run-length n gs (step n bs g)
-    ∙ ap (λ (l : ℕ). l * 2 ^ total splits gs)
-    (concat-length (λ (b : Branch). map (apply n g b) (operators g)) (2 ^ splits g) (λ b. length-map (operators g) (apply n g b) ∙ operators-length g) bs)
+    run-length n gs (gateStep n bs g)
+    ∙ ap (λ (l : ℕ). l * 2 ^ total splits gs) (step-length n (operatorsOf n g) bs ∙ ap (λ (l : ℕ). length bs * l) (length-map (operators g) (krausOperator n g) ∙ operators-length g))
     ∙ mul-assoc (length bs) (2 ^ splits g) (2 ^ total splits gs)
     ∙ ap (λ (l : ℕ). length bs * l) (sym (pow-add 2 (splits g) (total splits gs)))
 
@@ -196,12 +198,17 @@ module _ (mark : ℕ → Bool) (n : ℕ) (σ : Store) where
       go false true ps qs us p q u = q
       go false false ps qs us p q u = u
 
-  fit-run : (gs : List Gate) → All (λ (g : Gate). All (λ (i : ℕ). mark i ≡ true) (bits g)) gs → (bs : List Branch) → All Fits bs → All Fits (foldl (step n) bs gs)
+  fit-run : (gs : List Gate) → All (λ (g : Gate). All (λ (i : ℕ). mark i ≡ true) (bits g)) gs → (bs : List Branch) → All Fits bs → All Fits (foldl (gateStep n) bs gs)
   fit-run [] m bs h = h
   fit-run (g ∷ gs) m bs h =
-      fit-run gs (m .1) (step n bs g)
-      (all-concat Fits Fits (λ (b : Branch). map (apply n g b) (operators g))
-      (λ b f. all-map Out Fits (apply n g b) (λ o x. fit-write (b .store) (bits g) (o .out) f (m .0) x) (operators g) (outs g)) bs h)
+      fit-run gs (m .1) (gateStep n bs g)
+      (all-concat Fits Fits (λ (b : Branch). map (apply n b) (operatorsOf n g)) (λ b f. all-map (Keeping b) Fits (apply n b) (λ K k. k) (operatorsOf n g) (keeping g (m .0) b f)) bs h)
+    where
+      Keeping : Branch → KrausOperator → Type 0
+      Keeping b K = Fit mark σ (K .writes (b .store))
+
+      keeping : (g : Gate) → All (λ (i : ℕ). mark i ≡ true) (bits g) → (b : Branch) → Fits b → All (Keeping b) (operatorsOf n g)
+      keeping g k b f = all-map Out (Keeping b) (krausOperator n g) (λ o x. fit-write (b .store) (bits g) (o .out) f k x) (operators g) (outs g)
 
 -- ---- the marks are the bits that some gate writes
 abbrev written : List Gate → ℕ → Bool

@@ -8,7 +8,8 @@ use Rattle.algebra.specs.Lists.{every, total, marks}
 use Rattle.algebra.specs.Schedule.{Schedule}
 use Rattle.algebra.proofs.Trace.{Trace, every-of, total-of, marks-of, length-of}
 use Rattle.algebra.proofs.Schedule.{schedule-trace}
-use Rattle.gate.specs.Gate.{Gate, elem, bits, share, valid, splits, weight}
+use Rattle.gate.specs.Gate.{Gate, elem, bits, share, splits, weight}
+use Rattle.gate.specs.Inner.Entries.{valid}
 
 -- a gate writes the classical bit
 abbrev pub writes : Gate → ℕ → Bool

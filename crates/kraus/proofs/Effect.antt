@@ -18,8 +18,9 @@ use Rattle.algebra.proofs.Dyadic.{low-zero}
 use Rattle.exact.specs.Exact.{Exact, exact, conj, Number, numbers, lowest, isZero}
 use Rattle.exact.proofs.Exact.{exactHalving, exacts}
 use Rattle.exact.proofs.IsZero.{zero-is}
-use Rattle.gate.specs.Gate.{Gate, valid}
+use Rattle.gate.specs.Gate.{Gate}
 use Rattle.gate.specs.Operators.{sameBits}
+use Rattle.gate.specs.Inner.Entries.{valid}
 use Rattle.gate.proofs.Bits.{same-true, same-refl}
 use Rattle.gate.proofs.Complete.{conjugation}
 use Rattle.kraus.specs.Dense.{cell}

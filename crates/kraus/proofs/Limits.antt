@@ -22,9 +22,10 @@ use Rattle.exact.specs.Inner.Sizes.{Within, scaled, Coords, Room, roomNumerator
 use Rattle.exact.proofs.Exact.{exactHalving, exacts}
 use Rattle.exact.proofs.Sizes.{of-within}
 use Rattle.exact.proofs.Align.{widen, power-within, scaled-none}
-use Rattle.gate.specs.Gate.{Gate, qubits, valid, weight}
+use Rattle.gate.specs.Gate.{Gate, qubits, weight, maxWeight}
 use Rattle.gate.specs.Operators.{Operator, operators}
 use Rattle.gate.specs.Embed.{embed}
+use Rattle.gate.specs.Inner.Entries.{valid}
 use Rattle.gate.proofs.Complete.{conjugation, gate-complete}
 use Rattle.kraus.specs.Branch.{Store, Branch, branches}
 use Rattle.kraus.specs.Blocks.{having, overlap, block}
@@ -155,6 +156,9 @@ pub never-too-large : (W : ℕ) → Suits (exponentOf W) → (n m : ℕ) (σ : S
 never-too-large W suits n m σ gs ok light k =
     enough (exponentOf W) n (branches n σ (take k gs)) suits (circuit-whole W n m σ (take k gs) (first n m gs k ok) (omega (arith, lighter gs k)))
 
--- with the weight of question 9
-pub never-48 : (n m : ℕ) (σ : Store) (gs : List Gate) → every (valid n m) gs ≡ true → total weight gs ≤ 48 → (k : ℕ) → Enough 25 n (branches n σ (take k gs))
-never-48 = never-too-large 48 (record { narrow-exponent = omega arith; narrow-numerator = omega arith; exponent = omega arith; numerator = omega arith })
+-- the exponent of a Kraus entry of a circuit whose weight is accepted
+abbrev pub krausExponent : ℕ
+krausExponent = exponentOf maxWeight
+
+pub circuit-enough : (n m : ℕ) (σ : Store) (gs : List Gate) → every (valid n m) gs ≡ true → total weight gs ≤ maxWeight → (k : ℕ) → Enough krausExponent n (branches n σ (take k gs))
+circuit-enough = never-too-large maxWeight (record { narrow-exponent = omega arith; narrow-numerator = omega arith; exponent = omega arith; numerator = omega arith })

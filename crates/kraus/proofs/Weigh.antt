@@ -13,7 +13,7 @@ use Rattle.gate.specs.Gate.{Gate, qubits, weight}
 use Rattle.gate.specs.Operators.{Small, Operator, operators}
 use Rattle.gate.specs.Embed.{agree, bitsOf, embed}
 use Rattle.kraus.specs.Dense.{tabulate, cell}
-use Rattle.kraus.specs.Branch.{Branch, apply, step}
+use Rattle.kraus.specs.Branch.{Branch, KrausOperator, apply, step, krausOperator, operatorsOf, gateStep}
 
 pub record Graded : Type 1 where
   pub Part : ℕ → Exact → Type 0
@@ -51,22 +51,27 @@ module _ (𝓖 : Graded) where
         go true = h (bitsOf n qs r) (bitsOf n qs c)
         go false = 𝓖 .zero w
 
-    apply-entries : (g : Gate) (w : ℕ) (b : Branch) → Entries w b → (o : Operator) → Light (weight g) (o .small) → Entries (weight g + w) (apply n g b o)
-    apply-entries g w b e o u i =
-        tabulate-all (Part (weight g + w)) (2 ^ n * 2 ^ n) 0 _ (exact .𝟘)
-        (λ p. sum-part (weight g + w) (2 ^ n) _ (λ q.
-        𝓖 .mul (weight g) w (embed exact n (qubits g) (o .small) (p / 2 ^ n) q) (cell exact (2 ^ n) (b .matrix) q (p % 2 ^ n))
-        (embed-part (weight g) (qubits g) (o .small) u (p / 2 ^ n) q) (e (q * 2 ^ n + p % 2 ^ n))))
-        (𝓖 .zero (weight g + w)) i
+    -- operators whose entries all have weight v
+    abbrev pub Weighing : ℕ → List KrausOperator → Type 0
+    Weighing v = All (λ (K : KrausOperator). (r c : ℕ) → Part v (K .entry r c))
 
-    step-entries : (g : Gate) → Weighs g → (w : ℕ) (bs : List Branch) → All (Entries w) bs → All (Entries (weight g + w)) (step n bs g)
-    step-entries g h w bs k =
-        all-concat (Entries w) (Entries (weight g + w)) (λ (b : Branch). map (apply n g b) (operators g))
-        (λ b e. all-map (λ (o : Operator). Light (weight g) (o .small)) (Entries (weight g + w)) (apply n g b) (apply-entries g w b e) (operators g) h) bs k
+    apply-entries : (v w : ℕ) (b : Branch) → Entries w b → (K : KrausOperator) → ((r c : ℕ) → Part v (K .entry r c)) → Entries (v + w) (apply n b K)
+    apply-entries v w b e K u i =
+        tabulate-all (Part (v + w)) (2 ^ n * 2 ^ n) 0 _ (exact .𝟘)
+        (λ p. sum-part (v + w) (2 ^ n) _ (λ q. 𝓖 .mul v w (K .entry (p / 2 ^ n) q) (cell exact (2 ^ n) (b .matrix) q (p % 2 ^ n)) (u (p / 2 ^ n) q) (e (q * 2 ^ n + p % 2 ^ n))))
+        (𝓖 .zero (v + w)) i
 
-    pub steps-entries : (gs : List Gate) → All Weighs gs → (w : ℕ) (bs : List Branch) → All (Entries w) bs → All (Entries (total weight gs + w)) (foldl (step n) bs gs)
+    pub step-entries : (v : ℕ) (Ks : List KrausOperator) → Weighing v Ks → (w : ℕ) (bs : List Branch) → All (Entries w) bs → All (Entries (v + w)) (step n bs Ks)
+    step-entries v Ks h w bs k =
+        all-concat (Entries w) (Entries (v + w)) (λ (b : Branch). map (apply n b) Ks)
+        (λ b e. all-map (λ (K : KrausOperator). (r c : ℕ) → Part v (K .entry r c)) (Entries (v + w)) (apply n b) (apply-entries v w b e) Ks h) bs k
+
+    operators-weigh : (g : Gate) → Weighs g → Weighing (weight g) (operatorsOf n g)
+    operators-weigh g = all-map (λ (o : Operator). Light (weight g) (o .small)) (λ (K : KrausOperator). (r c : ℕ) → Part (weight g) (K .entry r c)) (krausOperator n g) (λ o h. embed-part (weight g) (qubits g) (o .small) h) (operators g)
+
+    pub steps-entries : (gs : List Gate) → All Weighs gs → (w : ℕ) (bs : List Branch) → All (Entries w) bs → All (Entries (total weight gs + w)) (foldl (gateStep n) bs gs)
     steps-entries [] h w bs k = let e : w ≡ 0 + w = omega arith in subst (λ (v : ℕ). All (Entries v) bs) e k
     steps-entries (g ∷ gs) h w bs k =
         let e : total weight gs + (weight g + w) ≡ weight g + total weight gs + w = omega arith in
-        subst (λ (v : ℕ). All (Entries v) (foldl (step n) (step n bs g) gs)) e
-        (steps-entries gs (h .1) (weight g + w) (step n bs g) (step-entries g (h .0) w bs k))
+        subst (λ (v : ℕ). All (Entries v) (foldl (gateStep n) (gateStep n bs g) gs)) e
+        (steps-entries gs (h .1) (weight g + w) (gateStep n bs g) (step-entries (weight g) (operatorsOf n g) (operators-weigh g (h .0)) w bs k))

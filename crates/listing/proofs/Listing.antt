@@ -17,9 +17,8 @@ use Rattle.cells.specs.Cells.{cellWords}
 use Rattle.algebra.proofs.Tests.{and-split}
 use Rattle.store.specs.Store.{maxWord, bits}
 use Rattle.channel.specs.Layout.{side, word, storeAt, chain, dimAt, bitsAt, readBack, blockAt}
-use Rattle.channel.specs.WellFormed.{storeOk, rises, entriesOk, wellFormed, shapeAt}
+use Rattle.channel.specs.WellFormed.{storeOk, rises, entriesOk, wellFormed, shapeAt, Onward}
 use Rattle.channel.specs.declared.Shape.{Shape}
-use Rattle.channel.specs.WellFormed.{Onward}
 use Rattle.channel.proofs.Chain.{on-record}
 use Rattle.listing.specs.Page.{Page, Written, decimal}
 use Rattle.listing.specs.Listing.{newline, spaced, firstLine, storeBits, entryLine, entryLines, blockLines, listing, listingOf}

@@ -15,12 +15,13 @@ use Rattle.algebra.specs.Words.{fillWords}
 use Rattle.algebra.proofs.Tests.{and-split}
 use Rattle.algebra.proofs.Blocks.{written-over}
 use Rattle.exact.specs.Exact.{exact}
-use Rattle.cells.specs.Cells.{fill, cells}
+use Rattle.cells.specs.Cells.{fill, cells, cellSize}
 use Rattle.gate.specs.declared.judge.GateVerdict.{GateVerdict}
 use Rattle.gate.specs.declared.judge.GateVerdict.the-variants.{Fine, Malformed, Operand, Unsupported}
 use Rattle.gate.specs.declared.judge.Asking.the-variants.{Unitary}
-use Rattle.gate.specs.Gate.{Gate, gatesOf, formed, placed, supported, splits, weight, valid}
+use Rattle.gate.specs.Gate.{Gate, gatesOf, formed, placed, supported, splits, weight, maxWeight, gateSize, measure}
 use Rattle.gate.specs.Verdict.{firstFault, onQubits, faultOf}
+use Rattle.gate.specs.Inner.Entries.{valid}
 use Rattle.gate.proofs.Questions.{placed-other}
 use Rattle.kraus.specs.Branch.{branches}
 use Rattle.circuit.specs.declared.limits.Limits.{Limits}
@@ -32,11 +33,11 @@ use Rattle.verdict.specs.Verdict.{accepted}
 use Rattle.circuit.specs.Questions.{ask, after, atGate, gatesVerdict, unitaryWithin, matrixVerdict, unitaryVerdict}
 use Rattle.circuit.proofs.Numbers.{matrix-low}
 use Rattle.circuit.proofs.Products.{square-is}
-use Rattle.branches.specs.Store.{storeWords}
-use Rattle.branches.specs.Bank.{bankWords}
-use Rattle.branches.specs.Run.{Runs, Ran}
+use Rattle.branches.specs.Inner.Store.{storeWords}
+use Rattle.branches.specs.Inner.Bank.{bankWords}
+use Rattle.branches.specs.Inner.Run.{Runs, Ran}
 use Rattle.unitary.specs.Unitary.{circuitUnitary, verdictOf, resultAfter, workAfter}
-use Rattle.unitary.specs.Accepted.{Accepted}
+use Rattle.unitary.specs.Inner.Accepted.{Accepted}
 use Rattle.unitary.proofs.Branch.{one-branch, all-valid, none-split}
 use Rattle.unitary.proofs.Words.{copied}
 
@@ -64,7 +65,7 @@ gate-fine i Unsupported rest e = absurd (refuted e refl)
 fine-unitary : (n : ℕ) (g : Gate) → faultOf Unitary n g ≡ Fine → (valid n 0 g && eqb (splits g) 0) ≡ true
 fine-unitary n g e = go (formed g) refl (onQubits n g) refl (supported g) refl (eqb (splits g) 0) refl e
   where
-    not-measure : eqb (splits g) 0 ≡ true → g .kind ≢ 12
+    not-measure : eqb (splits g) 0 ≡ true → g .kind ≢ measure
     not-measure s k = refuted s (ap (λ (m : ℕ). eqb (splits (record { kind = m; a = g .a; b = g .b; c = g .c; k = g .k })) 0) k)
 
     go : (a : Bool) → formed g ≡ a → (b : Bool) → onQubits n g ≡ b → (c : Bool) → supported g ≡ c → (d : Bool) → eqb (splits g) 0 ≡ d
@@ -85,9 +86,9 @@ gates-unitary n i (g ∷ gs) e =
 
 pub unitary-accepted : (n : ℕ) (l : Limits) (ws : List ℕ) (result work : ℕ) → accepted (unitaryVerdict n l ws result work) ≡ true → Accepted n (gatesOf ws) result work
 unitary-accepted n l ws result work e =
-    let a = ask-yes (matrixCeilings l) OverCeiling (ask (eqb (length ws % 5) 0) (MalformedAt 0) (matrixVerdict n l ws result work)) refl e in
-    let b = ask-yes (eqb (length ws % 5) 0) (MalformedAt 0) (matrixVerdict n l ws result work) refl (a .1) in
-    let c = ask-yes (unitaryWithin n (length ws / 5) l) OverLimit
+    let a = ask-yes (matrixCeilings l) OverCeiling (ask (eqb (length ws % gateSize) 0) (MalformedAt 0) (matrixVerdict n l ws result work)) refl e in
+    let b = ask-yes (eqb (length ws % gateSize) 0) (MalformedAt 0) (matrixVerdict n l ws result work) refl (a .1) in
+    let c = ask-yes (unitaryWithin n (length ws / gateSize) l) OverLimit
     (after (gatesVerdict (faultOf Unitary n) 0 (gatesOf ws)) (ask light TooHeavy (ask room ShortBuffer Yes))) refl (b .1) in
     let d = after-both (gatesVerdict (faultOf Unitary n) 0 (gatesOf ws)) (ask light TooHeavy (ask room ShortBuffer Yes)) (c .1) in
     let f = ask-yes light TooHeavy (ask room ShortBuffer Yes) refl (d .1) in
@@ -97,13 +98,13 @@ unitary-accepted n l ws result work e =
     record {
       few = omega (arith, matrix-low l (a .0) .0);
       unitary = gates-unitary n 0 (gatesOf ws) (d .0);
-      light = leb-true (total weight (gatesOf ws)) 48 (f .0);
+      light = leb-true (total weight (gatesOf ws)) maxWeight (f .0);
       result-room = leb-true (unitaryResult (2 ^ n)) result (h .0);
       work-room = leb-true (unitaryWork (2 ^ n)) work (h .1);
     }
   where
     light : Bool
-    light = leb (total weight (gatesOf ws)) 48
+    light = leb (total weight (gatesOf ws)) maxWeight
 
     room : Bool
     room = leb (unitaryResult (2 ^ n)) result && leb (unitaryWork (2 ^ n)) work
@@ -111,7 +112,7 @@ unitary-accepted n l ws result work e =
 -- ---- the run
 module _ (n d : ℕ) (ws : List ℕ) (r w : List ℤ) (acc : Accepted n (gatesOf ws) (length r) (length w)) (dim : d ≡ 2 ^ n) where
   -- the words of four branches
-  pub used : 4 * (d * d * 5 + 2) ≡ unitaryWork (2 ^ n)
+  pub used : 4 * (d * d * cellSize + 2) ≡ unitaryWork (2 ^ n)
   used = let e : d * d ≡ (2 ^ n) ^ 2 = square-is d ∙ ap (λ (k : ℕ). k ^ 2) dim in omega arith
 
   pub dim-small : d ≤ 32
@@ -129,11 +130,11 @@ module _ (n d : ℕ) (ws : List ℕ) (r w : List ℤ) (acc : Accepted n (gatesOf
     room = omega (arith, used, acc .work-room);
   })
 
-  pub copy-room : d * d * 5 ≤ length r
+  pub copy-room : d * d * cellSize ≤ length r
   copy-room = let e : d * d ≡ (2 ^ n) ^ 2 = square-is d ∙ ap (λ (k : ℕ). k ^ 2) dim in omega (arith, acc .result-room)
 
   module _ (σ : List ℕ) (none : σ ≡ []) (m : List ℤ) (at : ℕ) (ran : Ran w m ws σ n d 1 at) where
-    pub work-room : (at + d * d * 5 ≤ length m) × (0 + 4 * (d * d * 5 + 2) ≤ length m)
+    pub work-room : (at + d * d * cellSize ≤ length m) × (0 + 4 * (d * d * cellSize + 2) ≤ length m)
     work-room = omega (arith, ran .inside, ran .long, used, acc .work-room)
 
     held : bankWords d (branches n σ (gatesOf ws)) ≡ cells (d * d) (λ (i : ℕ). getD (circuitUnitary n (gatesOf ws)) i (exact .𝟘)) ++ (storeWords [] ++ [])
@@ -142,12 +143,12 @@ module _ (n d : ℕ) (ws : List ℕ) (r w : List ℤ) (acc : Accepted n (gatesOf
         ∙ ap (bankWords d) (one-branch n (gatesOf ws) (acc .unitary))
         ∙ append-assoc (cells (d * d) (λ (i : ℕ). getD (circuitUnitary n (gatesOf ws)) i (exact .𝟘))) (storeWords []) []
 
-    pub written : {q : List ℤ} → q ≡ fillWords r 0 (d * d * 5) (λ (i : ℕ). getD m (at + i) (pos 0)) → q ≡ fill r 0 (2 ^ n * 2 ^ n) (λ (i : ℕ). getD (circuitUnitary n (gatesOf ws)) i (exact .𝟘))
+    pub written : {q : List ℤ} → q ≡ fillWords r 0 (d * d * cellSize) (λ (i : ℕ). getD m (at + i) (pos 0)) → q ≡ fill r 0 (2 ^ n * 2 ^ n) (λ (i : ℕ). getD (circuitUnitary n (gatesOf ws)) i (exact .𝟘))
     written e =
         e ∙ copied r m (bankWords d (branches n σ (gatesOf ws))) (storeWords [] ++ []) at (d * d) (λ (i : ℕ). getD (circuitUnitary n (gatesOf ws)) i (exact .𝟘)) held (ran .held)
         ∙ ap (λ (k : ℕ). fill r 0 (k * k) (λ (i : ℕ). getD (circuitUnitary n (gatesOf ws)) i (exact .𝟘))) dim
 
-    pub zeroed : {q : List ℤ} (k : ℕ) → k ≡ 4 * (d * d * 5 + 2) → q ≡ fillWords m 0 k (λ (i : ℕ). pos 0) → q ≡ fillWords w 0 (unitaryWork (2 ^ n)) (λ (i : ℕ). pos 0)
+    pub zeroed : {q : List ℤ} (k : ℕ) → k ≡ 4 * (d * d * cellSize + 2) → q ≡ fillWords m 0 k (λ (i : ℕ). pos 0) → q ≡ fillWords w 0 (unitaryWork (2 ^ n)) (λ (i : ℕ). pos 0)
     zeroed k h e =
         e ∙ ap (λ (k : ℕ). fillWords m 0 k (λ (i : ℕ). pos 0)) (h ∙ used)
         ∙ written-over w m (unitaryWork (2 ^ n)) (λ (i : ℕ). pos 0) (acc .work-room)

@@ -12,17 +12,18 @@ use Rattle.algebra.specs.Lists.{every}
 use Rattle.algebra.proofs.Sum.{times-same, zero-sum}
 use Rattle.exact.specs.Exact.{exact, conj}
 use Rattle.exact.proofs.Exact.{exacts}
-use Rattle.cells.specs.Cells.{fill}
+use Rattle.cells.specs.Cells.{fill, cellSize}
 use Rattle.cells.proofs.Cell.{cell-filled}
 use Rattle.matrix.specs.Matrix as words
-use Rattle.gate.specs.Gate.{Gate, gatesOf, splits, valid}
+use Rattle.gate.specs.Gate.{Gate, gatesOf, splits}
 use Rattle.gate.specs.Embedding.{Matrix, Equal, adjoint}
+use Rattle.gate.specs.Inner.Entries.{valid}
 use Rattle.kraus.specs.Branch.{Branch}
 use Rattle.kraus.specs.Dense.{cell}
 use Rattle.kraus.proofs.Complete.{norm, gram, completeness}
 use Rattle.circuit.proofs.Products.{square-is}
 use Rattle.unitary.specs.Unitary.{circuitUnitary}
-use Rattle.unitary.specs.Accepted.{Accepted}
+use Rattle.unitary.specs.Inner.Accepted.{Accepted}
 use Rattle.unitary.specs.IsUnitary.{IsUnitary, Delivers, DeliversUnitary}
 use Rattle.unitary.proofs.Branch.{branch, one-branch, all-valid}
 use Rattle.unitary.proofs.Accepting.{unitary-accepted}
@@ -43,7 +44,7 @@ delivers n ws r work acc = record { unitary = unitary; entries = entries; readBa
     unitary : IsUnitary (2 ^ n) (cell exact (2 ^ n) (circuitUnitary n (gatesOf ws)))
     unitary = is-unitary n (gatesOf ws) (acc .unitary)
 
-    room : 0 + 2 ^ n * 2 ^ n * 5 ≤ length r
+    room : 0 + 2 ^ n * 2 ^ n * cellSize ≤ length r
     room = omega (arith, square-is (2 ^ n), acc .result-room)
 
     entries : Equal (2 ^ n) (words.cell (fill r 0 (2 ^ n * 2 ^ n) (λ (i : ℕ). getD (circuitUnitary n (gatesOf ws)) i (exact .𝟘))) 0 (2 ^ n)) (cell exact (2 ^ n) (circuitUnitary n (gatesOf ws)))

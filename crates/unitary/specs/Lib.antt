@@ -1,3 +1,3 @@
 pub mod Unitary
-pub mod Accepted
+pub mod Inner
 pub mod IsUnitary

@@ -9,7 +9,7 @@ use Rattle.algebra.specs.Words.{fillWords}
 use Rattle.exact.specs.Exact.{Exact, exact}
 use Rattle.cells.specs.Cells.{fill}
 use Rattle.gate.specs.Gate.{Gate, gatesOf}
-use Rattle.gate.specs.Entries.{gateEntry}
+use Rattle.gate.specs.Embed.{gateEntry}
 use Rattle.kraus.specs.Dense.{table, left}
 use Rattle.circuit.specs.declared.limits.Limits.{Limits}
 use Rattle.verdict.specs.declared.Verdict.{Verdict}

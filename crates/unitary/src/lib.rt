@@ -1,6 +1,7 @@
 // circuit_unitary: its questions, then the circuit run from the identity with no classical bits.
 use branches::bank::branch_size;
 use branches::run::run_gates;
+use cells::CELL;
 use circuit::limits::Limits;
 use circuit::questions::judge_unitary;
 use circuit::sizes::power;
@@ -15,7 +16,7 @@ ghost use Rattle.exact.specs.Exact.{exact};
 ghost use Rattle.cells.specs.Cells.{fill};
 ghost use Rattle.gate.specs.Gate.{gatesOf};
 ghost use Rattle.circuit.specs.Sizes.{unitaryWork};
-ghost use Rattle.unitary.specs.Accepted.{Accepted};
+ghost use Rattle.unitary.specs.Inner.Accepted.{Accepted};
 ghost use Rattle.unitary.specs.Unitary.{circuitUnitary, verdictOf, resultAfter, workAfter};
 
 // Copy n words of `work`, from `from` on, to the start of `result`.
@@ -39,7 +40,7 @@ fn run_unitary(qubits: u32, gates: &[u32], result: &mut [i64], work: &mut [i64])
     let d = power(qubits as u64) as usize;
     let bytes = [0u8; 1];
     let at = run_gates(work, gates, &bytes[0..0], qubits, d, 1);
-    copy_out(result, work, at, d * d * 5);
+    copy_out(result, work, at, d * d * CELL);
     clear(work, 0, 4 * branch_size(d));
 }
 

@@ -5,10 +5,12 @@ use native.Mathlib.Nat.{mul-le-mul, le-refl}
 use native.Mathlib.Omega.{arith}
 use lib.Bits.{bitXor}
 use lib.ListN.{length}
+use Rattle.branches.specs.Inner.Bank.{rowSize}
+use Rattle.exact.specs.Exact.{narrowExponent}
 use Rattle.algebra.proofs.Blocks.{done, long, block-in}
 use Rattle.exact.specs.Inner.Sizes.{Coords}
 use Rattle.scalar.specs.Calls.{value}
-use Rattle.cells.specs.Cells.{cellAt}
+use Rattle.cells.specs.Cells.{cellAt, cellSize}
 use Rattle.cells.proofs.Cell.{cell-same, exponent-same}
 use Rattle.branches.proofs.Products.{Applied, none-applied, own-same, other-same, scaling, applied-more}
 use Rattle.branches.proofs.apply.apply_rows.Statement.{statement}
@@ -31,16 +33,16 @@ module _ (t : tie.In-loop Inv-loop μ-loop) where
   abbrev r : ℕ
   r = t .before .loop .r
 
-  row-in : (k : ℕ) → k < s .args .d → s .args .old + k * s .args .d * 5 + s .args .d * 5 ≤ length (s .args .work .now)
+  row-in : (k : ℕ) → k < s .args .d → s .args .old + k * s .args .d * cellSize + s .args .d * cellSize ≤ length (s .args .work .now)
   row-in k h = omega (arith, s .pre .old-room, block-in h (s .args .d))
 
   other-lt : bitXor r (s .args .m) < s .args .d
   other-lt = s .pre .below r (t .loop-test .taken)
 
-  new-in : s .args .new + r * s .args .d * 5 + s .args .d * 5 ≤ length (s .args .work .now)
+  new-in : s .args .new + r * s .args .d * cellSize + s .args .d * cellSize ≤ length (s .args .work .now)
   new-in = omega (arith, s .pre .new-room, block-in (t .loop-test .taken) (s .args .d))
 
-  entries-in : s .args .op + r * 10 + 10 ≤ length (s .args .work .now)
+  entries-in : s .args .op + r * rowSize + rowSize ≤ length (s .args .work .now)
   entries-in = omega (arith, s .pre .op-room, t .loop-test .taken)
 
   same-size : length (t .before .loop .work) ≡ length (s .args .work .now)
@@ -98,10 +100,10 @@ module _ (y : tie.After-read-cell2 Inv-loop μ-loop) where
   abbrev t : tie.In-loop Inv-loop μ-loop
   t = x .before .before
 
-  own-is : value (x .read-cell .result) ≡ cellAt (s t .args .work .now) (s t .args .op + r t * 10)
+  own-is : value (x .read-cell .result) ≡ cellAt (s t .args .work .now) (s t .args .op + r t * rowSize)
   own-is = ap value (x .read-cell .ensures) ∙ cell-same (own-same (s t .pre) (t .loop-test .taken) (t .before .loop .inv))
 
-  partner-is : value (y .read-cell2 .result) ≡ cellAt (s t .args .work .now) (s t .args .op + r t * 10 + 5)
+  partner-is : value (y .read-cell2 .result) ≡ cellAt (s t .args .work .now) (s t .args .op + r t * rowSize + cellSize)
   partner-is = ap value (y .read-cell2 .ensures) ∙ cell-same (other-same (s t .pre) (t .loop-test .taken) (t .before .loop .inv))
 
 combine-rows-requires : tie.Need-combine-rows-requires Inv-loop μ-loop
@@ -110,8 +112,8 @@ combine-rows-requires c κs =
     let u = t y in
     let p = s u .pre in
     let h = u .loop-test .taken in (
-      scaling p h (u .before .loop .inv) (r u) h (subst (Coords 1 28) (sym (own-is y)) (p .own (r u) h .coords)),
-      scaling p h (u .before .loop .inv) (bitXor (r u) (s u .args .m)) (other-lt u) (subst (Coords 1 28) (sym (partner-is y)) (p .other (r u) h .coords)),
+      scaling p h (u .before .loop .inv) (r u) h (subst (Coords 1 narrowExponent) (sym (own-is y)) (p .own (r u) h .coords)),
+      scaling p h (u .before .loop .inv) (bitXor (r u) (s u .args .m)) (other-lt u) (subst (Coords 1 narrowExponent) (sym (partner-is y)) (p .other (r u) h .coords)),
     )
 
 add-r : tie.Need-add-r Inv-loop μ-loop

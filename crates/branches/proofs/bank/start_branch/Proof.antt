@@ -8,7 +8,7 @@ use lib.IntN.{pos}
 use mir.Syntax.{w64}
 use mir.Facts.{toZ-pos}
 use Rattle.algebra.specs.Words.{fromBits}
-use Rattle.branches.specs.Bank.{matrixSize}
+use Rattle.branches.specs.Inner.Bank.{matrixSize}
 use Rattle.branches.proofs.Stores.{cut-low, cut-high, low-below, high-below}
 use Rattle.branches.proofs.Banks.{started}
 use borrow.Author.Needs.{needs}

@@ -11,9 +11,9 @@ use lib.IntN.{ℤ}
 use Rattle.algebra.proofs.Blocks.{Writing, begin, done, long}
 use Rattle.matrix.specs.Inner.Written.{written}
 use Rattle.store.specs.Inner.Held.{StoreAt}
-use Rattle.branches.specs.Store.{outcomeWords}
-use Rattle.branches.specs.Bank.{matrixSize, branchSize}
-use Rattle.branches.specs.Step.{rowSum, Applying, stepWords}
+use Rattle.branches.specs.Inner.Store.{outcomeWords}
+use Rattle.branches.specs.Inner.Bank.{matrixSize, branchSize, rowSize}
+use Rattle.branches.specs.Inner.Step.{rowSum, Applying, stepWords}
 use Rattle.branches.proofs.Steps.{step-square, total-le, length-product, number-is, branch-is, op-at, old-in, new-in, turn-applying, turn-store, turn-room, turn-more}
 use Rattle.branches.proofs.bank.step.Statement.{statement}
 use Rattle.branches.proofs.bank.step.Tie as tie
@@ -53,8 +53,8 @@ module _ (t : tie.In-loop Inv-loop μ-loop) where
   old-at : s .args .from + j / 2 ^ (s .args .ops - 1) * branchSize (s .args .d) + branchSize (s .args .d) ≤ length (s .args .work .now)
   old-at = subst (λ (k : ℕ). s .args .from + k * branchSize (s .args .d) + branchSize (s .args .d) ≤ length (s .args .work .now)) (sym (branch-is (s .pre) j)) (omega (arith, old-in (s .pre) (t .loop-test .taken), s .pre .from-room))
 
-  slot-at : s .args .slots + bitAnd j (s .args .ops - 1) * branchSize (s .args .d) + s .args .d * 10 ≤ length (s .args .work .now)
-  slot-at = subst (λ (k : ℕ). s .args .slots + k * branchSize (s .args .d) + s .args .d * 10 ≤ length (s .args .work .now)) (sym (number-is (s .pre) j)) (op-at (s .pre) (t .loop-test .taken))
+  slot-at : s .args .slots + bitAnd j (s .args .ops - 1) * branchSize (s .args .d) + s .args .d * rowSize ≤ length (s .args .work .now)
+  slot-at = subst (λ (k : ℕ). s .args .slots + k * branchSize (s .args .d) + s .args .d * rowSize ≤ length (s .args .work .now)) (sym (number-is (s .pre) j)) (op-at (s .pre) (t .loop-test .taken))
 
   new-at : s .args .to + j * branchSize (s .args .d) + branchSize (s .args .d) ≤ length (s .args .work .now)
   new-at = omega (arith, new-in (s .pre) (t .loop-test .taken), s .pre .to-room)

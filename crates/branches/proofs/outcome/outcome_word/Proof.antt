@@ -10,7 +10,7 @@ use mir.Val.{Fits, toZ, ofZ}
 use mir.Facts.{toZ-pos}
 use Rattle.algebra.proofs.Signed.{back, word-is, cast-ok}
 use Rattle.store.specs.Store.{maxWord}
-use Rattle.branches.specs.Store.{withBit}
+use Rattle.branches.specs.Inner.Store.{withBit}
 use Rattle.branches.proofs.Stores.{outcome-below, outcome-above, outcome-in, with-bit-below}
 use Rattle.branches.proofs.outcome.outcome_word.Statement.{statement}
 use Rattle.branches.proofs.outcome.outcome_word.Tie as tie

@@ -6,7 +6,7 @@ use native.Mathlib.Omega.{arith}
 use lib.ListN.{getD, set, length-set}
 use lib.IntN.{pos}
 use Rattle.algebra.proofs.Signed.{reads}
-use Rattle.branches.specs.Store.{outcomeWord}
+use Rattle.branches.specs.Inner.Store.{outcomeWord}
 use borrow.Author.Needs.{needs}
 use Rattle.branches.proofs.outcome.write_store.Statement.{statement}
 use Rattle.branches.proofs.outcome.write_store.Tie as tie

@@ -2,15 +2,17 @@
 use mathlib.Core.Path.{sym, ap}
 use mathlib.Core.Bool.{Bool, cond}
 use borrow.Author.Tests.{eq-eqb, ne-eqb}
+use Rattle.gate.specs.Gate.{measure}
 use Rattle.gate.specs.Verdict.{gateOf}
+use Rattle.branches.specs.Inner.Store.{noBit}
 use Rattle.branches.proofs.run.outcome_bit.Statement.{statement}
 use Rattle.branches.proofs.run.outcome_bit.Tie as tie
 
 returns : tie.Need-returns
-returns c = let g = gateOf (c .before .before .args .g) in ap (λ (t : Bool). cond t (g .b) 64) (sym (eq-eqb (g .kind) 12 (c .if1 .taken)))
+returns c = let g = gateOf (c .before .before .args .g) in ap (λ (t : Bool). cond t (g .b) noBit) (sym (eq-eqb (g .kind) measure (c .if1 .taken)))
 
 returns-2 : tie.Need-returns-2
-returns-2 c = let g = gateOf (c .before .before .args .g) in ap (λ (t : Bool). cond t (g .b) 64) (sym (ne-eqb (g .kind) 12 (c .if1 .left)))
+returns-2 c = let g = gateOf (c .before .before .args .g) in ap (λ (t : Bool). cond t (g .b) noBit) (sym (ne-eqb (g .kind) measure (c .if1 .left)))
 
 pub outcome-bit-spec : {M : Type 1} → statement M
 outcome-bit-spec = tie.close (tie.spec returns returns-2)

@@ -4,8 +4,9 @@ use Prim.Native.Nat.{ℕ, _+_, _*_, _-_, _/_, _≤_}
 use native.Mathlib.Omega.{arith}
 use lib.Pow.{pow-mono}
 use lib.ListN.{length}
-use Rattle.branches.specs.Bank.{branchSize}
-use Rattle.branches.specs.Run.{Ran}
+use Rattle.gate.specs.Gate.{gateSize}
+use Rattle.branches.specs.Inner.Bank.{branchSize}
+use Rattle.branches.specs.Inner.Run.{Ran}
 use Rattle.branches.proofs.Runs.{Running, work-is, begins, place-le, ready, more, ends}
 use Rattle.branches.proofs.run.run_gates.Statement.{statement}
 use Rattle.branches.proofs.run.run_gates.Tie as tie
@@ -14,7 +15,7 @@ abbrev Inv-loop : tie.InvT-loop
 Inv-loop work₀ gates store n d banks bank slots total from₀ count₀ i₀ work from count i = Running work₀ gates store n d banks work from count i
 
 abbrev μ-loop : tie.MeasureT-loop
-μ-loop work₀ gates store n d banks bank slots total from₀ count₀ i₀ work from count i = length gates / 5 - i
+μ-loop work₀ gates store n d banks bank slots total from₀ count₀ i₀ work from count i = length gates / gateSize - i
 
 -- the places before the loop
 module _ (a : tie.At-loop Inv-loop μ-loop) where

@@ -3,8 +3,8 @@ use mathlib.Core.Path.{sym, ap, subst}
 use Prim.Native.Nat.{ℕ, _*_}
 use native.Mathlib.Omega.{arith}
 use Rattle.gate.specs.Gate.{Gate}
-use Rattle.gate.specs.Entries.{Ready}
-use Rattle.branches.specs.Run.{Slots}
+use Rattle.gate.specs.Inner.Entries.{Ready}
+use Rattle.branches.specs.Inner.Run.{Slots}
 use Rattle.branches.proofs.Gates.{ops-are, gate-ready, gate-done}
 use Rattle.branches.proofs.Steps.{total-le}
 use borrow.Author.Needs.{needs}

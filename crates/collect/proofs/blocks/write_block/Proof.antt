@@ -5,7 +5,7 @@ use Prim.Native.Nat.{ℕ, _+_, _-_, _<_, _≤_}
 use native.Mathlib.Omega.{arith}
 use lib.ListN.{length}
 use Rattle.channel.proofs.Words.{square-small}
-use Rattle.branches.specs.Bank.{branchSize}
+use Rattle.branches.specs.Inner.Bank.{branchSize}
 use Rattle.collect.specs.Bank.{place, storeOf, has, Found}
 use Rattle.collect.proofs.Summing.{bank-branch, Summed, First, first-summed, first-room, summed-more, summed-past, all-summed, summed-long, writable, addable}
 use Rattle.collect.proofs.blocks.write_block.Statement.{statement}

@@ -6,6 +6,7 @@ use lib.Dec.{eqb}
 use borrow.Author.Needs.{needs}
 use borrow.Author.Tests.{eqb-false}
 use Rattle.algebra.proofs.Tests.{or-no}
+use Rattle.gate.specs.Gate.{swap}
 use Rattle.gate.proofs.Masks.{controls-by, weight-small, first-on, second-on}
 use Rattle.gate.proofs.rows.controls.Statement.{statement}
 use Rattle.gate.proofs.rows.controls.Tie as tie
@@ -42,7 +43,7 @@ mask-requires-2 c κs =
     let q = count2 c in
     let s = q .before in
     let u = q .qubit-count .result in
-    (s .pre .0, second-on (s .pre .1) (λ e. eqb-false u 1 (or-no (eqb u 1) (eqb (s .args .g .kind) 19) (c .before .before .before .if1 .left) .0) (q .qubit-count .ensures ∙ e)))
+    (s .pre .0, second-on (s .pre .1) (λ e. eqb-false u 1 (or-no (eqb u 1) (eqb (s .args .g .kind) swap) (c .before .before .before .if1 .left) .0) (q .qubit-count .ensures ∙ e)))
 
 add-result : tie.Need-add-result
 add-result c =

@@ -7,7 +7,7 @@ use borrow.Author.Needs.{needs}
 use borrow.Author.Tests.{eq-eqb, ne-eqb}
 use Rattle.scalar.specs.declared.Scalar.{Scalar}
 use Rattle.gate.specs.declared.rows.Pair.{Pair}
-use Rattle.gate.specs.Entries.{side, rowPair}
+use Rattle.gate.specs.Inner.Entries.{side, rowPair}
 use Rattle.gate.proofs.Masks.{pair-by}
 use Rattle.gate.proofs.rows.row_entry.Statement.{statement}
 use Rattle.gate.proofs.rows.row_entry.Tie as tie

@@ -10,7 +10,7 @@ use Rattle.scalar.specs.declared.Scalar.{Scalar}
 use Rattle.scalar.specs.Calls.{value}
 use Rattle.gate.specs.declared.rows.Pair.{Pair}
 use Rattle.cells.specs.Cells.{cellSize, cellWords}
-use Rattle.gate.specs.Entries.{Table, pairOf, side, rowPair}
+use Rattle.gate.specs.Inner.Entries.{Table, pairOf, side, rowPair}
 use Rattle.gate.proofs.Masks.{row-entry}
 use Rattle.gate.proofs.rows.write_rows.Statement.{statement}
 use Rattle.gate.proofs.rows.write_rows.Tie as tie

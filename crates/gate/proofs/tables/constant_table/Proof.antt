@@ -2,8 +2,8 @@
 use mathlib.Core.Path.{sym, ap}
 use mathlib.Core.List.{[], _∷_}
 use Prim.Native.Nat.{ℕ}
-use Rattle.gate.specs.Entries.{tableOf, unitaryOf}
-use Rattle.gate.proofs.Kind.{elem-tail, elem-last}
+use Rattle.gate.specs.Inner.Entries.{tableOf, unitaryOf}
+use Rattle.gate.proofs.Kind.{elem-after, elem-last}
 use Rattle.gate.proofs.tables.constant_table.Statement.{statement}
 use Rattle.gate.proofs.tables.constant_table.Tie as tie
 
@@ -17,7 +17,9 @@ returns-3 : tie.Need-returns-3
 returns-3 c = sym (ap (λ (m : ℕ). tableOf (unitaryOf m 0)) (c .match .keys3))
 
 returns-4 : tie.Need-returns-4
-returns-4 c = sym (ap (λ (m : ℕ). tableOf (unitaryOf m 0)) (elem-last (c .before .args .kind) 16 (elem-tail (c .before .args .kind) 15 (16 ∷ []) (c .match .rest .1) (elem-tail (c .before .args .kind) 1 (15 ∷ 16 ∷ []) (c .match .rest .0 .1) (elem-tail (c .before .args .kind) 0 (1 ∷ 15 ∷ 16 ∷ []) (c .match .rest .0 .0 .1) (c .before .pre))))))
+returns-4 c =
+    let r = c .match .rest in
+    sym (ap (λ (m : ℕ). tableOf (unitaryOf m 0)) (elem-last (c .before .args .kind) 16 (elem-after (c .before .args .kind) (0 ∷ 1 ∷ 15 ∷ []) (16 ∷ []) (r .0 .0 .1, (r .0 .1, (r .1, tt))) (c .before .pre))))
 
 pub constant-table-spec : {M : Type 1} → statement M
 constant-table-spec = tie.close (tie.spec returns returns-2 returns-3 returns-4)

@@ -3,8 +3,8 @@ use mathlib.Core.Path.{refl, sym, ap, _∙_}
 use mathlib.Core.List.{[], _∷_}
 use Prim.Native.Nat.{ℕ}
 use borrow.Author.Needs.{needs}
-use Rattle.gate.specs.Entries.{tableOf, targetOf}
-use Rattle.gate.proofs.Kind.{elem-tail, elem-last}
+use Rattle.gate.specs.Inner.Entries.{tableOf, targetOf}
+use Rattle.gate.proofs.Kind.{elem-after, elem-last}
 use Rattle.gate.proofs.tables.target_table.Statement.{statement}
 use Rattle.gate.proofs.tables.target_table.Tie as tie
 
@@ -42,7 +42,11 @@ returns-5 : tie.Need-returns-5
 returns-5 c = c .constant-table3 .ensures ∙ sym (ap (λ (m : ℕ). tableOf (targetOf m)) (c .before .match .keys5))
 
 returns-6 : tie.Need-returns-6
-returns-6 c = c .constant-table4 .ensures ∙ sym (ap (λ (m : ℕ). tableOf (targetOf m)) (elem-last (c .before .before .args .kind) 25 (elem-tail (c .before .before .args .kind) 20 (25 ∷ []) (c .before .match .rest .1) (elem-tail (c .before .before .args .kind) 11 (20 ∷ 25 ∷ []) (c .before .match .rest .0 .1) (elem-tail (c .before .before .args .kind) 9 (11 ∷ 20 ∷ 25 ∷ []) (c .before .match .rest .0 .0 .1) (elem-tail (c .before .before .args .kind) 10 (9 ∷ 11 ∷ 20 ∷ 25 ∷ []) (c .before .match .rest .0 .0 .0 .1) (elem-tail (c .before .before .args .kind) 8 (10 ∷ 9 ∷ 11 ∷ 20 ∷ 25 ∷ []) (c .before .match .rest .0 .0 .0 .0 .1) (c .before .before .pre))))))))
+returns-6 c =
+    let r = c .before .match .rest in
+    let s = c .before .before in
+    let k = elem-last (s .args .kind) 25 (elem-after (s .args .kind) (8 ∷ 10 ∷ 9 ∷ 11 ∷ 20 ∷ []) (25 ∷ []) (r .0 .0 .0 .0 .1, (r .0 .0 .0 .1, (r .0 .0 .1, (r .0 .1, (r .1, tt))))) (s .pre)) in
+    c .constant-table4 .ensures ∙ sym (ap (λ (m : ℕ). tableOf (targetOf m)) k)
 
 pub target-table-spec : {M : Type 1} → statement M
 target-table-spec =

@@ -1,12 +1,17 @@
 -- Each phase has its power, and the other kinds their table.
 use mathlib.Core.Path.{sym, ap, _∙_}
-use mathlib.Core.List.{[], _∷_}
+use mathlib.Core.List.{List, [], _∷_}
 use Prim.Native.Nat.{ℕ}
 use borrow.Author.Needs.{needs}
-use Rattle.gate.specs.Entries.{tableOf, unitaryOf}
-use Rattle.gate.proofs.Kind.{elem-tail, constant-kind}
+use Rattle.gate.specs.Gate.{rz}
+use Rattle.gate.specs.Inner.Kinds.{constants}
+use Rattle.gate.specs.Inner.Entries.{tableOf, unitaryOf}
+use Rattle.gate.proofs.Kind.{elem-after, constant-kind}
 use Rattle.gate.proofs.tables.unitary_table.Statement.{statement}
 use Rattle.gate.proofs.tables.unitary_table.Tie as tie
+
+abbrev phases : List ℕ
+phases = 2 ∷ 3 ∷ 4 ∷ 5 ∷ 6 ∷ rz ∷ []
 
 phase-table-requires : tie.Need-phase-table-requires
 phase-table-requires c κs = search needs
@@ -27,7 +32,9 @@ phase-table-requires-6 : tie.Need-phase-table-requires-6
 phase-table-requires-6 c κs = search needs
 
 constant-table-requires : tie.Need-constant-table-requires
-constant-table-requires c κs = elem-tail (c .before .args .kind) 7 (0 ∷ 1 ∷ 15 ∷ 16 ∷ []) (c .match .rest .1) (elem-tail (c .before .args .kind) 6 (7 ∷ 0 ∷ 1 ∷ 15 ∷ 16 ∷ []) (c .match .rest .0 .1) (elem-tail (c .before .args .kind) 5 (6 ∷ 7 ∷ 0 ∷ 1 ∷ 15 ∷ 16 ∷ []) (c .match .rest .0 .0 .1) (elem-tail (c .before .args .kind) 4 (5 ∷ 6 ∷ 7 ∷ 0 ∷ 1 ∷ 15 ∷ 16 ∷ []) (c .match .rest .0 .0 .0 .1) (elem-tail (c .before .args .kind) 3 (4 ∷ 5 ∷ 6 ∷ 7 ∷ 0 ∷ 1 ∷ 15 ∷ 16 ∷ []) (c .match .rest .0 .0 .0 .0 .1) (elem-tail (c .before .args .kind) 2 (3 ∷ 4 ∷ 5 ∷ 6 ∷ 7 ∷ 0 ∷ 1 ∷ 15 ∷ 16 ∷ []) (c .match .rest .0 .0 .0 .0 .0 .1) (c .before .pre))))))
+constant-table-requires c κs =
+    let r = c .match .rest in
+    elem-after (c .before .args .kind) phases constants (r .0 .0 .0 .0 .0 .1, (r .0 .0 .0 .0 .1, (r .0 .0 .0 .1, (r .0 .0 .1, (r .0 .1, (r .1, tt)))))) (c .before .pre)
 
 returns : tie.Need-returns
 returns c = c .phase-table .ensures ∙ sym (ap (λ (m : ℕ). tableOf (unitaryOf m (c .before .before .args .k))) (c .before .match .keys1))
@@ -48,7 +55,11 @@ returns-6 : tie.Need-returns-6
 returns-6 c = c .phase-table6 .ensures ∙ sym (ap (λ (m : ℕ). tableOf (unitaryOf m (c .before .before .args .k))) (c .before .match .keys6))
 
 returns-7 : tie.Need-returns-7
-returns-7 c = c .constant-table .ensures ∙ constant-kind (c .before .before .args .k) (c .before .before .args .kind) (elem-tail (c .before .before .args .kind) 7 (0 ∷ 1 ∷ 15 ∷ 16 ∷ []) (c .before .match .rest .1) (elem-tail (c .before .before .args .kind) 6 (7 ∷ 0 ∷ 1 ∷ 15 ∷ 16 ∷ []) (c .before .match .rest .0 .1) (elem-tail (c .before .before .args .kind) 5 (6 ∷ 7 ∷ 0 ∷ 1 ∷ 15 ∷ 16 ∷ []) (c .before .match .rest .0 .0 .1) (elem-tail (c .before .before .args .kind) 4 (5 ∷ 6 ∷ 7 ∷ 0 ∷ 1 ∷ 15 ∷ 16 ∷ []) (c .before .match .rest .0 .0 .0 .1) (elem-tail (c .before .before .args .kind) 3 (4 ∷ 5 ∷ 6 ∷ 7 ∷ 0 ∷ 1 ∷ 15 ∷ 16 ∷ []) (c .before .match .rest .0 .0 .0 .0 .1) (elem-tail (c .before .before .args .kind) 2 (3 ∷ 4 ∷ 5 ∷ 6 ∷ 7 ∷ 0 ∷ 1 ∷ 15 ∷ 16 ∷ []) (c .before .match .rest .0 .0 .0 .0 .0 .1) (c .before .before .pre)))))))
+returns-7 c =
+    let r = c .before .match .rest in
+    let s = c .before .before in
+    let e = elem-after (s .args .kind) phases constants (r .0 .0 .0 .0 .0 .1, (r .0 .0 .0 .0 .1, (r .0 .0 .0 .1, (r .0 .0 .1, (r .0 .1, (r .1, tt)))))) (s .pre) in
+    c .constant-table .ensures ∙ constant-kind (s .args .k) (s .args .kind) e
 
 pub unitary-table-spec : {M : Type 1} → statement M
 unitary-table-spec =

@@ -10,7 +10,11 @@ use Rattle.exact.specs.Exact.{exact}
 use Rattle.cells.specs.Cells.{cellSize, cells}
 use Rattle.kraus.specs.Dense.{table}
 use Rattle.kraus.specs.Branch.{Store, Branch}
-use Rattle.branches.specs.Store.{storeWords}
+use Rattle.branches.specs.Inner.Store.{storeWords}
+
+-- the words of a row of an operator: its two entries
+abbrev pub rowSize : ℕ
+rowSize = 2 * cellSize
 
 -- the words of a matrix, and of a branch, with d rows and columns
 abbrev pub matrixSize : ℕ → ℕ

@@ -1,19 +1,20 @@
 -- Entries of a gate's matrix as the code finds them: qubits by their masks, and two-by-two matrices as arrays.
 use mathlib.Core.Path.{_≡_}
-use mathlib.Core.Bool.{cond, true, false, _||_}
+use mathlib.Core.Bool.{Bool, cond, true, false, _&&_, _||_}
 use mathlib.Core.List.{List, [], _∷_}
 use Prim.Native.Nat.{ℕ, _+_, _-_, _*_, _/_, _%_, _^_, _<_}
 use lib.Bits.{bitAnd, bitXor}
 use lib.Dec.{eqb}
 use lib.ListN.{length, getD}
-use Rattle.exact.specs.Exact.{Exact, exact}
+use Rattle.exact.specs.Exact.{Exact}
 use Rattle.scalar.specs.declared.Scalar.{Scalar}
 use Rattle.scalar.specs.Calls.{value, scalarOf}
-use Rattle.gate.specs.Gate.{Gate, gate, arity, elem, qubits, formed, supported}
 use Rattle.gate.specs.declared.rows.Pair.{Pair}
+use Rattle.gate.specs.Gate.{Gate, gate, arity, elem, swap, cswap, formed, placed, supported}
 use Rattle.gate.specs.Verdict.{onQubits}
-use Rattle.gate.specs.Operators.{Small, Operator, operator, operators, unitaries, noUnitary, one, none, sameBits}
-use Rattle.gate.specs.Embed.{embed}
+use Rattle.gate.specs.Operators.{Small, operators, operatorAt, unitaries, noUnitary, one, none, identity}
+use Rattle.gate.specs.Embed.{gateEntry}
+use Rattle.gate.specs.Inner.Kinds.{splitting, swapping}
 
 -- ---- two-by-two matrices as arrays, indexed by the row's and the column's bit
 abbrev pub Table : Type 0
@@ -34,10 +35,6 @@ pick t x y = getD (getD t x []) y noScalar
 abbrev pub smallOf : Table → Small
 smallOf t xs ys = value (pick t (getD xs 0 0) (getD ys 0 0))
 
--- the identity on some qubits
-abbrev pub identity : Small
-identity xs ys = cond (sameBits xs ys) one none
-
 -- the unitary of a kind; rz is given its k
 abbrev pub unitaryOf : ℕ → ℕ → Small
 unitaryOf kind k = getD (unitaries k) kind noUnitary
@@ -46,21 +43,12 @@ unitaryOf kind k = getD (unitaries k) kind noUnitary
 abbrev pub targetOf : ℕ → Small
 targetOf kind = unitaryOf (cond (elem kind (8 ∷ 10 ∷ [])) 1 (cond (elem kind (9 ∷ 11 ∷ [])) 2 (cond (eqb kind 20) 15 0))) 0
 
--- ---- the entries
--- operator j of a gate
-abbrev pub operatorAt : Gate → ℕ → Operator
-operatorAt g j = getD (operators g) j (operator noUnitary 0)
-
--- entry (r, c) of the matrix of operator j, on n qubits
-abbrev pub gateEntry : ℕ → Gate → ℕ → ℕ → ℕ → Exact
-gateEntry n g j r c = embed exact n (qubits g) (operatorAt g j .small) r c
-
 -- ---- the columns of a row
 -- the bits of a row number that a gate may change: its target's, or those of the two qubits that change places
 abbrev pub flips : ℕ → Gate → ℕ
 flips n g =
-    cond (eqb (g .kind) 19) (2 ^ (n - 1 - g .a) + 2 ^ (n - 1 - g .b))
-    (cond (eqb (g .kind) 26) (2 ^ (n - 1 - g .b) + 2 ^ (n - 1 - g .c))
+    cond (eqb (g .kind) swap) (2 ^ (n - 1 - g .a) + 2 ^ (n - 1 - g .b))
+    (cond (eqb (g .kind) cswap) (2 ^ (n - 1 - g .b) + 2 ^ (n - 1 - g .c))
     (2 ^ (n - 1 - getD (g .a ∷ g .b ∷ g .c ∷ []) (arity (g .kind) - 1) 0)))
 
 -- row r has entries in column r and in this one, and zeros in all others
@@ -75,8 +63,8 @@ rowEntry n g j i = gateEntry n g j (i / 2) (cond (eqb (i % 2) 0) (i / 2) (partne
 -- the bits of a row number that are a gate's controls
 abbrev pub controls : ℕ → Gate → ℕ
 controls n g =
-    cond (eqb (arity (g .kind)) 1 || eqb (g .kind) 19) 0
-    (cond (eqb (arity (g .kind)) 2 || eqb (g .kind) 26) (2 ^ (n - 1 - g .a)) (2 ^ (n - 1 - g .a) + 2 ^ (n - 1 - g .b)))
+    cond (eqb (arity (g .kind)) 1 || eqb (g .kind) swap) 0
+    (cond (eqb (arity (g .kind)) 2 || eqb (g .kind) cswap) (2 ^ (n - 1 - g .a)) (2 ^ (n - 1 - g .a) + 2 ^ (n - 1 - g .b)))
 
 -- the entries of a row in its own column and in its partner's: where the target's bit is x
 abbrev pub pairOf : Table → ℕ → Pair
@@ -102,10 +90,15 @@ rowPair low high held m r = cond (eqb (bitAnd r held) held) (cond (eqb (bitAnd r
 -- the two-by-two matrix of operator j: on the only qubit, or on the target; the identity for a swap, which has none
 abbrev pub coreOf : Gate → ℕ → Table
 coreOf g j =
-    cond (elem (g .kind) (12 ∷ 13 ∷ [])) (tableOf (operatorAt (gate (g .kind) 0 0 0 0) j .small))
-    (cond (eqb (arity (g .kind)) 1) (tableOf (unitaryOf (g .kind) (g .k))) (cond (elem (g .kind) (19 ∷ 26 ∷ [])) (tableOf identity) (tableOf (targetOf (g .kind)))))
+    cond (elem (g .kind) splitting) (tableOf (operatorAt (gate (g .kind) 0 0 0 0) j .small))
+    (cond (eqb (arity (g .kind)) 1) (tableOf (unitaryOf (g .kind) (g .k)))
+    (cond (elem (g .kind) swapping) (tableOf identity) (tableOf (targetOf (g .kind)))))
 
--- a gate that passes the questions, with one of its operators
+-- a gate that passes the questions, on n qubits with m classical bits
+abbrev pub valid : ℕ → ℕ → Gate → Bool
+valid n m g = formed g && (placed n m g && supported g)
+
+-- and one of its operators
 pub record Ready (n : ℕ) (g : Gate) (j : ℕ) : Type 0 where
   pub known : formed g ≡ true
   pub on : onQubits n g ≡ true

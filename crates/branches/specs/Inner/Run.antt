@@ -8,14 +8,14 @@ use lib.IntN.{ℤ, pos}
 use Rattle.algebra.specs.Lists.{every, total}
 use Rattle.algebra.specs.Words.{blocks}
 use Rattle.cells.specs.Cells.{cells}
-use Rattle.gate.specs.Gate.{Gate, gateAt, gatesOf, valid, weight, splits}
+use Rattle.gate.specs.Gate.{Gate, gateAt, gatesOf, weight, splits, maxWeight, gateSize}
 use Rattle.gate.specs.Operators.{operators}
-use Rattle.gate.specs.Entries.{flips, rowEntry, Ready}
+use Rattle.gate.specs.Inner.Entries.{valid, flips, rowEntry, Ready}
 use Rattle.kraus.specs.Branch.{Store, branches}
 use Rattle.store.specs.Inner.Held.{Bits}
-use Rattle.branches.specs.Store.{outcomeBit}
-use Rattle.branches.specs.Bank.{branchSize, bankWords, Holds}
-use Rattle.branches.specs.Step.{Step, stepWords}
+use Rattle.branches.specs.Inner.Store.{outcomeBit}
+use Rattle.branches.specs.Inner.Bank.{branchSize, bankWords, Holds, rowSize}
+use Rattle.branches.specs.Inner.Step.{Step, stepWords}
 
 abbrev pub operatorsAt : ℕ → ℕ → ℕ
 operatorsAt d banks = 2 * (banks * branchSize d)
@@ -43,12 +43,12 @@ pub record Slots (l : List ℤ) (slots n d : ℕ) (g : Gate) : Type 0 where
   pub few : n ≤ 5
   pub dim : d ≡ 2 ^ n
   pub ready : Ready n g 0
-  pub wide : d * 10 ≤ branchSize d
+  pub wide : d * rowSize ≤ branchSize d
   pub room : slots + 2 * branchSize d ≤ length l
 
 -- what a gate asks of its words
 pub record GateStep (l : List ℤ) (ws : List ℕ) (at slots n d from to count : ℕ) : Type 0 where
-  pub gate-room : at + 5 ≤ length ws
+  pub gate-room : at + gateSize ≤ length ws
   pub slots-ready : Slots l slots n d (gateAt ws at)
   pub ready : Step (withOperators l slots n d (gateAt ws at)) (flips n (gateAt ws at)) slots (length (operators (gateAt ws at))) from to d count
 
@@ -58,7 +58,7 @@ pub record Runs (l : List ℤ) (ws : List ℕ) (σ : Store) (n d banks : ℕ) : 
   pub few : n ≤ 5
   pub dim : d ≡ 2 ^ n
   pub accepted : every (valid n (length σ)) (gatesOf ws) ≡ true
-  pub light : total weight (gatesOf ws) ≤ 48
+  pub light : total weight (gatesOf ws) ≤ maxWeight
   pub short : length σ ≤ 64
   pub bits : Bits σ
   pub banked : banks ≡ 2 ^ total splits (gatesOf ws)
