@@ -1,0 +1,5 @@
+// The archive for programs in C and Rust: each call under its name of include/foreituka.h, in one line. The bodies are the c_ crates'.
+pub mod channels;
+pub mod circuits;
+pub mod matrices;
+pub mod scalars;
