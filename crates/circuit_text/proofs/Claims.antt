@@ -1,6 +1,7 @@
 -- Which texts are an input, by computation.
 use mathlib.Core.Path.{refl}
-use Rattle.circuit_text.specs.Text.{bodyLength, pieces, value, isNumber}
+use Rattle.text.specs.Decimal.{value, isNumber}
+use Rattle.circuit_text.specs.Text.{bodyLength, pieces}
 use Rattle.circuit_text.specs.Input.{isInput, isInputText}
 use Rattle.circuit_text.specs.Claims.{Answers}
 

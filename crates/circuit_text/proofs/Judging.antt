@@ -6,13 +6,15 @@ use Prim.Native.Nat.{ℕ, _<_}
 use native.Mathlib.Omega.{arith}
 use lib.ListN.{length, length-map}
 use Rattle.algebra.specs.Lists.{every}
-use Rattle.circuit_text.specs.declared.text.Number.{Number}
+use Rattle.text.specs.declared.number.Number.{Number}
 use Rattle.circuit_text.specs.declared.input.Input.{Input}
 use Rattle.circuit_text.specs.declared.input.Seen.{Seen}
-use Rattle.circuit_text.specs.Text.{pieces, value, isNumber}
+use Rattle.text.specs.Decimal.{value, isNumber}
+use Rattle.circuit_text.specs.Text.{pieces}
 use Rattle.circuit_text.specs.Input.{circuitIn, isInput}
-use Rattle.circuit_text.specs.Inner.Reading.{numberOf, noneSeen, seenWith, seenInput, inputIn}
-use Rattle.circuit_text.proofs.Digits.{number-test, number-value}
+use Rattle.text.specs.Number.{numberOf}
+use Rattle.circuit_text.specs.Inner.Reading.{noneSeen, seenWith, seenInput, inputIn}
+use Rattle.text.proofs.Read.{number-test, number-value}
 use Rattle.circuit_text.proofs.Pieces.{from, Along, along-none, along-all, along-count, along-bad, along-value, along-more}
 use Rattle.circuit_text.proofs.Shapes.{Seeing, seeing-none, seeing-more, seen-input}
 

@@ -11,7 +11,8 @@ use lib.Seq.{drop-cons, drop-drop, sets}
 use borrow.Author.Tests.{eq-eqb, ne-eqb, le-leb, lt-leb}
 use Rattle.algebra.specs.Lists.{every}
 use Rattle.algebra.proofs.Tests.{and-split, leb-same}
-use Rattle.circuit_text.specs.Text.{isBlank, bodyLength, onto, pieces, value, isNumber}
+use Rattle.text.specs.Decimal.{isBlank, value, isNumber}
+use Rattle.circuit_text.specs.Text.{bodyLength, onto, pieces}
 use Rattle.circuit_text.specs.Inner.Reading.{run}
 
 -- ---- the text without its last newline

@@ -15,7 +15,8 @@ use Rattle.algebra.proofs.Tests.{and-split, and-no, or-right}
 use Rattle.circuit_text.specs.declared.input.Input.{Input}
 use Rattle.circuit_text.specs.declared.input.Circuit.{Circuit}
 use Rattle.circuit_text.specs.declared.input.Seen.{Seen}
-use Rattle.circuit_text.specs.Text.{maxBytes, bodyLength, body, pieces, value, isNumber}
+use Rattle.text.specs.Decimal.{value, isNumber}
+use Rattle.circuit_text.specs.Text.{maxBytes, bodyLength, body, pieces}
 use Rattle.circuit_text.specs.Input.{maxBits, maxGates, maxNumbers, bitsIn, gatesIn, storeIn, circuitIn, bytes, isInput, numbersOf, isInputText, inputOf, filled, stored}
 use Rattle.circuit_text.specs.Inner.Reading.{noneSeen, seenWith, seenOk, seenInput, inputIn}
 

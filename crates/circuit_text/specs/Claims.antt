@@ -4,7 +4,7 @@ use mathlib.Core.List.{List, [], _∷_}
 use Prim.Native.Nat.{ℕ}
 use Rattle.algebra.specs.Lists.{All}
 use Rattle.circuit_text.specs.declared.input.Input.{Input}
-use Rattle.circuit_text.specs.Text.{ascii}
+use Rattle.text.specs.Ascii.{ascii}
 use Rattle.circuit_text.specs.Input.{inputOf}
 
 pub record Row : Type 0 where

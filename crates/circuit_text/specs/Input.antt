@@ -8,7 +8,8 @@ use lib.Seq.{sets}
 use Rattle.algebra.specs.Lists.{every, allBelow}
 use Rattle.circuit_text.specs.declared.input.Circuit.{Circuit}
 use Rattle.circuit_text.specs.declared.input.Input.{Input}
-use Rattle.circuit_text.specs.Text.{maxBytes, body, pieces, value, isNumber}
+use Rattle.text.specs.Decimal.{value, isNumber}
+use Rattle.circuit_text.specs.Text.{maxBytes, body, pieces}
 
 abbrev pub maxBits : ℕ
 maxBits = 64

@@ -1,8 +1,8 @@
 // The program's input: a circuit, in the numbers of a text.
-use super::text::body_length;
-use super::text::next_blank;
-use super::text::number_in;
-use super::text::read_numbers;
+use super::numbers::body_length;
+use super::numbers::next_blank;
+use super::numbers::read_numbers;
+use text::number::number_in;
 ghost use mathlib.Core.Path.{_≡_};
 ghost use mathlib.Core.Bool.{true, cond};
 ghost use Prim.Native.Nat.{_+_, _≤_};

@@ -1,3 +1,3 @@
 // The text of a circuit: decimal numbers, read as a program's input.
 pub mod input;
-mod text;
+mod numbers;

@@ -7,7 +7,7 @@ use lib.ListN.{length, drop}
 use lib.IntN.{ℤ}
 use Rattle.circuit.specs.Limits.{ceilings}
 use Rattle.judge.specs.Call.{accepts, resultAfter}
-use Rattle.listing.specs.Page.{page, write}
+use Rattle.text.specs.Page.{page, write}
 use Rattle.listing.specs.Listing.{listing}
 use Rattle.listing.specs.Claims.{maxListing}
 use Rattle.list_text.specs.Answer.{linesOf, answerOf}

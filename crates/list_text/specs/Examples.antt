@@ -10,7 +10,7 @@ use Rattle.algebra.specs.Lists.{every}
 use Rattle.scalar.specs.Claims as scalars
 use Rattle.circuit.specs.Claims as circuits
 use Rattle.gate.specs.Operators.{sameBits}
-use Rattle.circuit_text.specs.Text.{ascii}
+use Rattle.text.specs.Ascii.{ascii}
 use Rattle.list_text.specs.Answer.{answerOf}
 
 pub data Row : Type 0 where

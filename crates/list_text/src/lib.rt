@@ -11,7 +11,7 @@ use listing::lines::write_refusal;
 ghost use mathlib.Core.Path.{_≡_};
 ghost use Rattle.circuit.specs.Limits.{ceilings};
 ghost use Rattle.judge.specs.Call.{resultAfter, workAfter};
-ghost use Rattle.listing.specs.Page.{page, write};
+ghost use Rattle.text.specs.Page.{page, write};
 ghost use Rattle.list_text.specs.Answer.{linesOf, answerOf, resultOf, workOf};
 
 // The listing of a circuit's channel, or the line of its refusal.

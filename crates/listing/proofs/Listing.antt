@@ -20,9 +20,11 @@ use Rattle.channel.specs.Layout.{side, word, storeAt, chain, dimAt, bitsAt, rea
 use Rattle.channel.specs.WellFormed.{storeOk, rises, entriesOk, wellFormed, shapeAt, Onward}
 use Rattle.channel.specs.declared.Shape.{Shape}
 use Rattle.channel.proofs.Chain.{on-record}
-use Rattle.listing.specs.Page.{Page, Written, decimal}
+use Rattle.text.specs.Decimal.{decimal}
+use Rattle.text.specs.Page.{Page}
+use Rattle.text.specs.Inner.Written.{Written}
 use Rattle.listing.specs.Listing.{newline, spaced, firstLine, storeBits, entryLine, entryLines, blockLines, listing, listingOf}
-use Rattle.listing.proofs.Writing.{text}
+use Rattle.text.proofs.Put.{text}
 
 -- ---- bits
 abbrev pub bitBytes : ℕ → ℕ → List ℕ

@@ -17,11 +17,13 @@ use Rattle.store.specs.Store.{bits}
 use Rattle.channel.specs.Layout.{Block, recordSize, side, word, dimAt, bitsAt, countAt, chain, blockAt}
 use Rattle.channel.specs.WellFormed.{wellFormed}
 use Rattle.channel.proofs.Judging.{formed}
-use Rattle.circuit_text.specs.Text.{ascii}
-use Rattle.listing.specs.Page.{page, write, digits, decimal, signed}
+use Rattle.text.specs.Ascii.{ascii}
+use Rattle.text.specs.Decimal.{digits, decimal, signed}
+use Rattle.text.specs.Page.{page, write}
 use Rattle.listing.specs.Listing.{newline, spaced, firstLine, storeBits, entryLine, entryLines, blockLines, listing}
 use Rattle.listing.specs.Claims.{Whole, Short, ShortRefusal, maxListing}
-use Rattle.listing.proofs.Writing.{put-in}
+use Rattle.text.proofs.Put.{put-in}
+use Rattle.text.proofs.RoundTrip.{digits-most}
 
 -- ---- enough room
 write-from : (bs l : List ℕ) (at : ℕ) → at + length bs ≤ length l → write (page l at) bs ≡ page (sets l at bs) (at + length bs)
@@ -51,18 +53,12 @@ more h p = record { le = le-trans (p .le) h }
 known : (xs : List ℕ) → AtMost xs (length xs)
 known xs = record { le = le-refl (length xs) }
 
-digits-most : (k n : ℕ) → AtMost (digits k n) k
-unfolding digits
-digits-most zero n = known []
-digits-most (suc k) n = by (ltb n 10) (digits-most k (n / 10))
-  where
-    by : (t : Bool) → AtMost (digits k (n / 10)) k → AtMost (cond t ((48 + n) ∷ []) (digits k (n / 10) ++ ((48 + n % 10) ∷ []))) (suc k)
-    by true h = record { le = omega arith }
-    by false h = more (omega arith) (plus h (known ((48 + n % 10) ∷ [])))
+decimal-most : (n : ℕ) → AtMost (decimal n) 20
+decimal-most n = record { le = digits-most 20 n }
 
 signed-most : (z : ℤ) → AtMost (signed z) 21
-signed-most (pos n) = more (omega arith) (digits-most 20 n)
-signed-most (negsuc n) = plus (known (ascii "-")) (digits-most 20 (suc n))
+signed-most (pos n) = more (omega arith) (decimal-most n)
+signed-most (negsuc n) = plus (known (ascii "-")) (decimal-most (suc n))
 
 spaced-most : (z : ℤ) → AtMost (spaced z) 22
 spaced-most z = plus (known (ascii " ")) (signed-most z)
@@ -76,7 +72,7 @@ entry-most r c x = by (isZero (x .num))
   where
     by : (t : Bool) → AtMost (cond t [] (decimal r ++ concatMap spaced (pos c ∷ cellWords x) ++ newline)) 153
     by true = record { le = omega arith }
-    by false = plus (plus (digits-most 20 r) (words-most (pos c ∷ cellWords x))) (known newline)
+    by false = plus (plus (decimal-most r) (words-most (pos c ∷ cellWords x))) (known newline)
 
 entries-most : (w n : ℕ) (f : ℕ → Exact) → AtMost (entryLines w n f) (n * 153)
 unfolding entryLines

@@ -4,7 +4,7 @@ use mathlib.Core.List.{List, _++_}
 use Prim.Native.Nat.{ℕ, _≤_}
 use lib.ListN.{length, drop}
 use lib.IntN.{ℤ}
-use Rattle.listing.specs.Page.{page, write}
+use Rattle.text.specs.Page.{page, write}
 use Rattle.listing.specs.Listing.{listingOf, refusalLine}
 
 -- a text for which there is room is written whole

@@ -1,6 +1,7 @@
 -- The listing of a channel, and the line of a refusal.
 use mathlib.Core.Bool.{cond}
 use mathlib.Core.List.{List, [], _∷_, _++_, map}
+use Prim.Native.Char.{code}
 use Prim.Native.Nat.{ℕ, zero, suc, _+_, _*_, _/_, _%_}
 use lib.IntN.{ℤ, pos}
 use Rattle.algebra.specs.Lists.{concatMap}
@@ -9,8 +10,8 @@ use Rattle.cells.specs.Cells.{cellWords}
 use Rattle.store.specs.Store.{bits}
 use Rattle.channel.specs.Layout.{Block, side, dimAt, bitsAt, countAt, readBack}
 use Rattle.channel.specs.WellFormed.{wellFormed}
-use Rattle.circuit_text.specs.Text.{ascii}
-use Rattle.listing.specs.Page.{decimal, signed}
+use Rattle.text.specs.Ascii.{ascii}
+use Rattle.text.specs.Decimal.{decimal, signed}
 
 abbrev pub newline : List ℕ
 newline = ascii "\n"
@@ -25,7 +26,7 @@ firstLine d m n = ascii "dim" ++ spaced (pos d) ++ ascii " cbits" ++ spaced (pos
 -- the bits of a store from bit 0 on, or "-" where there are none
 unfoldable pub storeBits : ℕ → ℕ → List ℕ
 storeBits zero s = ascii "-"
-storeBits (suc m) s = map (λ b. 48 + b) (bits (suc m) s)
+storeBits (suc m) s = map (λ b. code "0" + b) (bits (suc m) s)
 
 abbrev pub storeLine : ℕ → ℕ → List ℕ
 storeLine m s = ascii "store " ++ storeBits m s ++ newline

@@ -1,3 +1,3 @@
 // The lines of a program's answer: a channel's listing, or a refusal.
 pub mod lines;
-mod page;
+mod spaced;

@@ -1,14 +1,14 @@
 // The lines of a channel's listing, and of a refusal.
-use super::page::put;
-use super::page::put_all;
-use super::page::put_decimal;
-use super::page::put_natural;
-use super::page::put_spaced;
+use super::spaced::put_natural;
+use super::spaced::put_spaced;
 use cells::zero_at;
 use channel::layout::entry_place;
 use channel::layout::follow;
 use channel::layout::read_store;
 use channel::well_formed::judge;
+use text::page::put;
+use text::page::put_all;
+use text::page::put_decimal;
 ghost use mathlib.Core.Path.{_≡_};
 ghost use mathlib.Core.Bool.{true};
 ghost use Prim.Native.Nat.{_+_, _*_, _≤_};
@@ -17,7 +17,8 @@ ghost use Rattle.algebra.specs.Lists.{concatMap};
 ghost use Rattle.cells.specs.Cells.{cellSize, cellAt, cellWords, exponentAt, wellFormedAt};
 ghost use Rattle.channel.specs.Layout.{recordSize, side, entryAt, blockAt, dimAt, bitsAt, countAt, readBack};
 ghost use Rattle.channel.specs.WellFormed.{storeOk, entriesOk, wellFormed};
-ghost use Rattle.listing.specs.Page.{page, write, Written};
+ghost use Rattle.text.specs.Page.{page, write};
+ghost use Rattle.text.specs.Inner.Written.{Written};
 ghost use Rattle.listing.specs.Listing.{spaced, firstLine, storeBits, storeLine, entryLine, entryLines, blockLines, listingOf, refusalLine, inputLine};
 
 // The bits of a store from bit 0 on, or "-" where there are none.
@@ -31,7 +32,7 @@ fn put_bits(out: &mut [u8], at: usize, store: u64, m: u32) -> usize
     let mut rest = store;
     let mut left = m;
     while 0 < left {
-        p = put(out, p, 48 + (rest % 2) as u8);
+        p = put(out, p, b'0' + (rest % 2) as u8);
         rest = rest / 2;
         left -= 1;
     }

@@ -1,25 +1,18 @@
--- A text read from the left: where a piece ends, the number in it, and what the numbers so far say.
-use mathlib.Core.Bool.{Bool, true, false, cond, _&&_, _||_}
+-- A text read from the left: where a piece ends, and what the numbers so far say.
+use mathlib.Core.Bool.{Bool, true, cond, _&&_, _||_}
 use mathlib.Core.List.{List, [], _∷_, map}
 use Prim.Native.Nat.{ℕ, suc, _+_, _*_}
 use lib.Dec.{eqb, leb, ltb}
 use Rattle.algebra.specs.Lists.{every}
-use Rattle.circuit_text.specs.declared.text.Number.{Number}
 use Rattle.circuit_text.specs.declared.input.Seen.{Seen}
 use Rattle.circuit_text.specs.declared.input.Input.{Input}
-use Rattle.circuit_text.specs.Text.{isBlank, value, isNumber}
+use Rattle.text.specs.Decimal.{isBlank, value, isNumber}
 use Rattle.circuit_text.specs.Input.{maxBits, maxGates, circuitIn, isInput}
 
 -- how many bytes stand before the first blank
 unfoldable pub run : List ℕ → ℕ
 run [] = 0
 run (b ∷ bs) = cond (isBlank b) 0 (suc (run bs))
-
-abbrev pub noNumber : Number
-noNumber = record { ok = false; value = 0 }
-
-abbrev pub numberOf : List ℕ → Number
-numberOf p = cond (isNumber p) (record { ok = true; value = value p }) noNumber
 
 -- ---- the numbers so far
 abbrev pub noneSeen : Seen

@@ -2,7 +2,7 @@
 use mathlib.Core.Path.{sym}
 use lib.Seq.{length-take-le}
 use borrow.Author.Needs.{needs}
-use Rattle.listing.proofs.Writing.{inside}
+use Rattle.text.proofs.Put.{inside}
 use Rattle.list_channel.proofs.main.Statement.{statement}
 use Rattle.list_channel.proofs.main.Tie as tie
 

@@ -10,7 +10,7 @@ use lib.Seq.{length-take-le}
 use borrow.Author.Needs.{needs}
 use Rattle.circuit_text.specs.declared.input.Circuit.{Circuit}
 use Rattle.circuit_text.specs.declared.input.Input.{Input}
-use Rattle.listing.specs.Page.{page, write}
+use Rattle.text.specs.Page.{page, write}
 use Rattle.circuit_text.specs.Input.{numbersOf, circuitIn, storeIn, wordsIn, isInputText, inputOf}
 use Rattle.circuit_text.proofs.Shapes.{given-true, given-is, refused-false, sound}
 use Rattle.list_text.proofs.Inputs.{stored-long, filled-long, store-is, words-are}

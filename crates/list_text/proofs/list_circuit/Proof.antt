@@ -3,7 +3,7 @@ use mathlib.Core.Path.{_≡_, sym, ap, _∙_}
 use borrow.Author.Needs.{needs}
 use Rattle.circuit.specs.declared.limits.Limits.{Limits}
 use Rattle.judge.specs.Call.{resultAfter, workAfter}
-use Rattle.listing.specs.Page.{page, write}
+use Rattle.text.specs.Page.{page, write}
 use Rattle.listing.specs.Listing.{refusalLine}
 use Rattle.list_text.specs.Answer.{linesFor, linesOf}
 use Rattle.list_text.proofs.Answers.{listed, refused, lines-is}

@@ -9,7 +9,8 @@ use lib.Seq.{sets, length-take-le}
 use Rattle.algebra.specs.Lists.{every}
 use Rattle.circuit_text.specs.declared.input.Circuit.{Circuit}
 use Rattle.circuit_text.specs.declared.input.Input.{Input}
-use Rattle.circuit_text.specs.Text.{body, pieces, value, isNumber}
+use Rattle.text.specs.Decimal.{value, isNumber}
+use Rattle.circuit_text.specs.Text.{body, pieces}
 use Rattle.circuit_text.specs.Input.{bytes, circuitIn, numbersOf, isInputText, inputOf}
 use Rattle.circuit_text.proofs.Pieces.{body-inside}
 use Rattle.circuit_text.proofs.Shapes.{given-true, given-is, refused-false, refused-text, given-text, kept, given-numbers, given-store, too-long, judged, sound, all-numbers, few-numbers, first-words}

@@ -1,7 +1,7 @@
 -- `lines::put_bits` meets its contract.
 use borrow.Author.Needs.{needs}
-use Rattle.listing.specs.Page.{page}
-use Rattle.listing.proofs.Writing.{text, Left, left-all, left-less, left-none, left-is}
+use Rattle.text.specs.Page.{page}
+use Rattle.text.proofs.Put.{text, Left, left-all, left-less, left-none, left-is}
 use Rattle.listing.proofs.Listing.{bitBytes, bits-none, bits-some, bits-more, bits-end}
 use Rattle.listing.proofs.lines.put_bits.Statement.{statement}
 use Rattle.listing.proofs.lines.put_bits.Tie as tie

@@ -3,7 +3,7 @@ use mathlib.Core.Path.{ap}
 use native.Mathlib.Omega.{arith}
 use borrow.Author.Needs.{needs}
 use Rattle.listing.specs.Listing.{storeLine}
-use Rattle.listing.proofs.Writing.{then, text}
+use Rattle.text.proofs.Put.{then, text}
 use Rattle.listing.proofs.Listing.{store-words}
 use Rattle.listing.proofs.lines.put_block.Statement.{statement}
 use Rattle.listing.proofs.lines.put_block.Tie as tie

@@ -9,9 +9,9 @@ use Rattle.channel.specs.Layout.{chain, readBack, recordSize}
 use Rattle.channel.specs.WellFormed.{storeOk, entriesOk, Onward}
 use Rattle.channel.proofs.Judging.{Formed, formed}
 use Rattle.channel.proofs.Chain.{onward-begin, first-index, header-long, on-inside, on-store, on-next, on-index}
-use Rattle.listing.specs.Page.{page}
+use Rattle.text.specs.Page.{page}
 use Rattle.listing.specs.Listing.{blockLines}
-use Rattle.listing.proofs.Writing.{Left, left-all, left-less, left-none, left-is}
+use Rattle.text.proofs.Put.{Left, left-all, left-less, left-none, left-is}
 use Rattle.listing.proofs.Listing.{chain-more, chain-end, on-entries}
 use Rattle.listing.proofs.lines.put_blocks.Statement.{statement}
 use Rattle.listing.proofs.lines.put_blocks.Tie as tie

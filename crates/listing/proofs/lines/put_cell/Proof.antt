@@ -7,7 +7,7 @@ use borrow.Author.Needs.{needs}
 use Rattle.algebra.proofs.Signed.{word-is}
 use Rattle.exact.specs.Exact.{maxExponent}
 use Rattle.listing.specs.Listing.{spaced}
-use Rattle.listing.proofs.Writing.{then, text, none}
+use Rattle.text.proofs.Put.{then, text, none}
 use Rattle.listing.proofs.Listing.{spaced-word}
 use Rattle.listing.proofs.lines.put_cell.Statement.{statement}
 use Rattle.listing.proofs.lines.put_cell.Tie as tie

@@ -8,9 +8,10 @@ use lib.ListN.{length}
 use Rattle.algebra.proofs.Tests.{all-at}
 use Rattle.cells.specs.Cells.{cellAt, wellFormedAt}
 use Rattle.channel.specs.Layout.{entrySize, entryPlace, entryAt}
-use Rattle.listing.specs.Page.{page, Written}
+use Rattle.text.specs.Page.{page}
+use Rattle.text.specs.Inner.Written.{Written}
 use Rattle.listing.specs.Listing.{entryLine, entryLines}
-use Rattle.listing.proofs.Writing.{then, text, none, long}
+use Rattle.text.proofs.Put.{then, text, none, long}
 use Rattle.listing.proofs.Listing.{entries-none, entries-more, side-some}
 use Rattle.listing.proofs.lines.put_entries.Statement.{statement}
 use Rattle.listing.proofs.lines.put_entries.Tie as tie

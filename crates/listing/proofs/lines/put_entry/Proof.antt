@@ -3,7 +3,7 @@ use mathlib.Core.Path.{sym, _∙_}
 use borrow.Author.Needs.{needs}
 use Rattle.algebra.proofs.Tests.{and-split}
 use Rattle.cells.specs.Cells.{cellAt, exponentAt}
-use Rattle.listing.proofs.Writing.{then, text, none}
+use Rattle.text.proofs.Put.{then, text, none}
 use Rattle.listing.proofs.Listing.{entry-zero, entry-shown}
 use Rattle.listing.proofs.lines.put_entry.Statement.{statement}
 use Rattle.listing.proofs.lines.put_entry.Tie as tie

@@ -10,7 +10,7 @@ use borrow.Author.Needs.{needs}
 use Rattle.channel.specs.declared.Shape.{Shape}
 use Rattle.channel.specs.WellFormed.{wellFormed, shapeAt}
 use Rattle.channel.proofs.Judging.{formed, shape-test, shape-is}
-use Rattle.listing.proofs.Writing.{then, text, none}
+use Rattle.text.proofs.Put.{then, text, none}
 use Rattle.listing.proofs.Listing.{listed, unlisted}
 use Rattle.listing.proofs.lines.write_listing.Statement.{statement}
 use Rattle.listing.proofs.lines.write_listing.Tie as tie

@@ -1,6 +1,6 @@
 -- `lines::write_refusal` meets its contract.
 use borrow.Author.Needs.{needs}
-use Rattle.listing.proofs.Writing.{then}
+use Rattle.text.proofs.Put.{then}
 use Rattle.listing.proofs.lines.write_refusal.Statement.{statement}
 use Rattle.listing.proofs.lines.write_refusal.Tie as tie
 

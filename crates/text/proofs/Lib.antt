@@ -1,0 +1,4 @@
+pub mod Read
+pub mod Put
+pub mod Digits
+pub mod RoundTrip
