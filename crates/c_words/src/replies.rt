@@ -1,6 +1,10 @@
 // The numbers of replies that are no verdicts.
 pub const SAME: u32 = 100;
+
 pub const DIMENSIONS: u32 = 101;
+
 pub const ENTRY: u32 = 102;
+
 pub const EQUIVALENT: u32 = 103;
+
 pub const DIFFERENT: u32 = 104;

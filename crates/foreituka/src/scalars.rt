@@ -84,7 +84,11 @@ pub extern "C" fn foreituka_scalar_half(x: &[i64; CELL], out: &mut [i64; CELL]) 
 
 // x + y
 #[no_mangle]
-pub extern "C" fn foreituka_scalar_add(x: &[i64; CELL], y: &[i64; CELL], out: &mut [i64; CELL]) -> u32
+pub extern "C" fn foreituka_scalar_add(
+    x: &[i64; CELL],
+    y: &[i64; CELL],
+    out: &mut [i64; CELL],
+) -> u32
     ensures { λ r. ⌜ r ≡ verdictNumber (addAnswer (operand (now (x .entry))) (operand (now (y .entry))) .verdict) ⌝ }
     ensures { λ _. ⌜ now (out .exit) ≡ answerWords (addAnswer (operand (now (x .entry))) (operand (now (y .entry)))) ⌝ }
 {
@@ -93,7 +97,11 @@ pub extern "C" fn foreituka_scalar_add(x: &[i64; CELL], y: &[i64; CELL], out: &m
 
 // x·y
 #[no_mangle]
-pub extern "C" fn foreituka_scalar_mul(x: &[i64; CELL], y: &[i64; CELL], out: &mut [i64; CELL]) -> u32
+pub extern "C" fn foreituka_scalar_mul(
+    x: &[i64; CELL],
+    y: &[i64; CELL],
+    out: &mut [i64; CELL],
+) -> u32
     ensures { λ r. ⌜ r ≡ verdictNumber (mulAnswer (operand (now (x .entry))) (operand (now (y .entry))) .verdict) ⌝ }
     ensures { λ _. ⌜ now (out .exit) ≡ answerWords (mulAnswer (operand (now (x .entry))) (operand (now (y .entry)))) ⌝ }
 {
