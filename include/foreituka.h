@@ -1,12 +1,20 @@
 /*
- * Foreituka: a proved judge of quantum circuits. Link with libjudge_c.a (x86-64; `rt staticlib judge_c` writes it).
+ * Foreituka: a proved judge of quantum circuits. Link with libforeituka.a, which `rt staticlib foreituka` writes, for x86-64 Linux.
  *
  * All memory is the caller's: no call allocates, keeps a pointer, prints or fails other than by a number. docs/FORMATS.md has every
  * word of every layout, docs/CONTRACTS.md what each call promises.
  *
  * What the caller owes, since C cannot say it in a type: each pointer is aligned and reaches as many elements as the length behind it says,
- * or as the array in its declaration has; a pointer with length 0 may be NULL; what a call writes (pointers without const) overlaps nothing
- * else that it is given; nobody else writes to any of it during the call. Nothing is owed beyond that: contents that make no sense are refused.
+ * as the array in its declaration has, or one (index); a pointer with length 0 may be NULL, and no other; what a call writes (pointers without
+ * const) overlaps nothing else that it is given; nobody else writes to any of it during the call. Nothing is owed beyond that: contents that
+ * make no sense are refused.
+ *
+ * Out parameters are index, place, scalars and out. They must be writable, and every call writes all of them, whatever its reply: index is 0
+ * where the reply names no gate, and place, scalars and out are all zero where there is nothing to say. result and work are other: a refusal
+ * changes no word of theirs.
+ *
+ * Threads: nothing is shared between calls, and the archive has no data that a call writes. Calls on different buffers may run at once; what
+ * is only read (const) may be the same in all of them.
  *
  * Words are int64_t. A scalar is five of them, n0 n1 n2 n3 e: the number (n0 + n1·√2 + n2·i + n3·i·√2) / 2^e in lowest form (e is 0 or some
  * numerator is odd), numerators from −2^60 to 2^60, e from 0 to 60. It is narrow if they lie within 2^28 either way and e is at most 28.
@@ -18,13 +26,17 @@
 #include <stddef.h>
 #include <stdint.h>
 
+#define FOREITUKA_VERSION_MAJOR 0
+#define FOREITUKA_VERSION_MINOR 2
+#define FOREITUKA_VERSION_PATCH 0
+#define FOREITUKA_VERSION "0.2.0"
+
 #ifdef __cplusplus
 extern "C" {
 #endif
 
 /* ---- Replies ----
- * A refusal changes no word of a result or of work words. FOREITUKA_ACCEPTED is the only reply that is 0, and compare and the phase test never
- * give it, so a test for 0 cannot be read as "same". */
+ * FOREITUKA_ACCEPTED is the only reply that is 0, and compare and the phase test never give it, so a test for 0 cannot be read as "same". */
 enum {
     FOREITUKA_ACCEPTED = 0,         /* the result is written */
     FOREITUKA_LIMIT = 1,            /* a limit is exceeded */
