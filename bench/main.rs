@@ -164,6 +164,10 @@ fn show(ns: f64) -> String {
     }
 }
 
+/// How many times the Rust's speed a row asks for.
+const BAR: f64 = 150.0;
+const DEEP_BAR: f64 = 1000.0;
+
 struct Line {
     name: String,
     deep: bool,
@@ -184,7 +188,7 @@ impl Line {
     }
     fn misses(&self) -> Vec<String> {
         let mut out = Vec::new();
-        let bar = if self.deep { 1000.0 } else { 150.0 };
+        let bar = if self.deep { DEEP_BAR } else { BAR };
         if self.rust / self.archive < bar {
             let floor = self.rust / (self.floor + self.zeroing);
             let what = if self.zeroing > 0.0 { "the floor and the zeroing of the work words alone are" } else { "the floor alone is" };
@@ -226,6 +230,13 @@ fn main() {
     let only = std::env::args().skip(1).find(|a| !a.starts_with("--"));
     let (samples, budget) = if quick { (9, Duration::from_millis(300)) } else { (101, Duration::from_millis(2000)) };
     let (most, rust_budget) = if quick { (3, Duration::from_millis(500)) } else { (11, Duration::from_millis(8000)) };
+    let names = ["compare, two equal channels", "compare, two equal channels of two blocks"];
+    if let Some(o) = &only {
+        if !rows().iter().map(|r| r.family).chain(names).any(|n| n.contains(o.as_str())) {
+            eprintln!("no circuit's name has the words {o:?}");
+            std::process::exit(2);
+        }
+    }
     println!("| circuit | n | Rust | archive | plain C | Rust ÷ archive | archive ÷ plain C | floor | memcpy | archive ÷ floor |");
     println!("|---|---|---|---|---|---|---|---|---|---|");
     let mut lines = Vec::new();
@@ -256,7 +267,7 @@ fn main() {
         }
     }
     for measures in [false, true] {
-        let name = if measures { "compare, two equal channels of two blocks" } else { "compare, two equal channels" };
+        let name = names[measures as usize];
         if only.as_ref().is_some_and(|o| !name.contains(o.as_str())) {
             continue;
         }
@@ -298,12 +309,16 @@ fn main() {
     }
     let (who, how) = (if asked("--no-rust") { "the archive" } else { "the Rust, the archive" }, if asked("--minimum") { "Minima" } else { "Medians" });
     println!("\nEvery word of every row agrees between {who} and plain C. {how}{}.", if quick { " of few repeats" } else { " of repeats" });
+    let measured = if asked("--no-rust") { " that were measured" } else { "" };
     if misses.is_empty() {
-        println!("All bars are met: {} rows.", lines.len());
+        println!("All bars{measured} are met: {} rows.", lines.len());
     } else {
         println!("Bars that are not met:");
         for m in misses {
             println!("- {}", m.replace(" | ", ", n = "));
         }
+    }
+    if asked("--no-rust") {
+        println!("Bars that were not measured, by --no-rust: the Rust's speed times {BAR}, or times {DEEP_BAR} for deep circuits, in all {} rows.", lines.len());
     }
 }

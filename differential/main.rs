@@ -99,11 +99,19 @@ fn run(set: &Set, count: u64, o: &Options, before: u64, start: Instant) -> (Coun
 
 fn main() {
     let o = options();
+    let sets = cases::sets();
+    if let Some(n) = o.only.iter().find(|n| sets.iter().all(|s| s.name != n.as_str())) {
+        eprintln!("no such set: {n}. There are:");
+        for s in &sets {
+            eprintln!("  {:<20} {}", s.name, s.about);
+        }
+        std::process::exit(2);
+    }
     let start = Instant::now();
     println!("seed {}, {} threads{}", o.seed, o.jobs, if o.quick { ", a quick run" } else { "" });
     let mut counts = Counts::default();
     let mut cases = 0;
-    for set in cases::sets().iter().filter(|s| o.only.is_empty() || o.only.iter().any(|n| n == s.name)) {
+    for set in sets.iter().filter(|s| o.only.is_empty() || o.only.iter().any(|n| n == s.name)) {
         let count = if o.quick { set.quick } else { set.count };
         let (found, fault) = run(set, count, &o, counts.total(), start);
         counts.join(&found);
