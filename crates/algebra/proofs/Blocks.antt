@@ -239,7 +239,9 @@ single f k = f k ∷ []
 -- writing over the first n words forgets what stood there
 pub written-over : (l b : List ℤ) (n : ℕ) (f : ℕ → ℤ) → n ≤ length l → Same b l n (length l - n) → fillWords b 0 n f ≡ fillWords l 0 n f
 written-over l b n f h e =
-    ext-getD (pos 0) (fillWords b 0 n f) (fillWords l 0 n f) (length-blocks 1 b 0 (single f) n ∙ e .long ∙ sym (length-blocks 1 l 0 (single f) n)) (λ i p. by (decLt i n) (omega (arith, p, length-blocks 1 b 0 (single f) n, e .long)))
+    ext-getD (pos 0) (fillWords b 0 n f) (fillWords l 0 n f)
+    (length-blocks 1 b 0 (single f) n ∙ e .long ∙ sym (length-blocks 1 l 0 (single f) n))
+    (λ i p. by (decLt i n) (omega (arith, p, length-blocks 1 b 0 (single f) n, e .long)))
   where
     one : (c : List ℤ) (i : ℕ) → n ≤ length c → i < n → getD (fillWords c 0 n f) i (pos 0) ≡ f i
     one c i q p = ap (λ (w : ℕ). getD (fillWords c 0 n f) w (pos 0)) place ∙ blocks-at 1 c 0 (single f) (λ k. le-refl 1) n i 0 p (le-refl 1) (omega arith)

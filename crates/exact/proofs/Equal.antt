@@ -14,7 +14,11 @@ equal-true x y e =
     let b = and-split _ _ (a .0) in
     let c = and-split _ _ (b .0) in
     let d = and-split _ _ (b .1) in
-    λ i. frac (number (eqℤ-true (x .num .re .re) (y .num .re .re) (c .0) i) (eqℤ-true (x .num .re .im) (y .num .re .im) (c .1) i) (eqℤ-true (x .num .im .re) (y .num .im .re) (d .0) i) (eqℤ-true (x .num .im .im) (y .num .im .im) (d .1) i)) (eqb-true (x .exp) (y .exp) (a .1) i)
+    let p0 = eqℤ-true (x .num .re .re) (y .num .re .re) (c .0) in
+    let p1 = eqℤ-true (x .num .re .im) (y .num .re .im) (c .1) in
+    let p2 = eqℤ-true (x .num .im .re) (y .num .im .re) (d .0) in
+    let p3 = eqℤ-true (x .num .im .im) (y .num .im .im) (d .1) in
+    λ i. frac (number (p0 i) (p1 i) (p2 i) (p3 i)) (eqb-true (x .exp) (y .exp) (a .1) i)
 
 pub equal-of : (x y : Exact) → x ≡ y → equal x y ≡ true
 equal-of x y e = ap (equal x) (sym e) ∙ (λ i. ((eqℤ-refl (x .num .re .re) i && eqℤ-refl (x .num .re .im) i) && (eqℤ-refl (x .num .im .re) i && eqℤ-refl (x .num .im .im) i)) && eq-eqb (x .exp) (x .exp) refl i)

@@ -4,8 +4,6 @@ use mathlib.Core.Bool.{Bool, true, false, cond, _&&_}
 use mathlib.Core.Logic.{_≢_, _↔_, _⊎_, inl, inr, ⊎-elim}
 use mathlib.Core.List.{List}
 use Prim.Native.Nat.{ℕ, zero, suc, _+_, _*_, _-_, _<_, _≤_}
-use native.Mathlib.Numerals.{add-one}
-use native.Mathlib.Decide.{ℕ-discrete}
 use native.Mathlib.Omega.{arith}
 use lib.Dec.{T}
 use lib.IntN.{ℤ}
@@ -25,7 +23,8 @@ use Rattle.exact.proofs.IsZero.{zero-is}
 use Rattle.matrix.specs.declared.Phase.the-variants.{Equivalent, Different}
 use Rattle.matrix.specs.declared.PhaseAnswer.{PhaseAnswer}
 use Rattle.matrix.proofs.Terms.{zero-by}
-use Rattle.matrix.specs.Phase.{_·_, zeroMatrix, equalModulus, equalRatios, inPhaseAt, firstNot, pivot, inPhase, answered, refusedPhase, entryOf, wellFormedMatrix, narrowMatrix, phaseAnswer, GlobalPhase, Meaning}
+use Rattle.matrix.proofs.First.{first-is, first-none}
+use Rattle.matrix.specs.Phase.{_·_, zeroMatrix, equalModulus, equalRatios, inPhaseAt, pivot, inPhase, answered, refusedPhase, entryOf, wellFormedMatrix, narrowMatrix, phaseAnswer, GlobalPhase, Meaning}
 
 -- ---- with x·b = y·a and p·b = q·a
 module _ (𝓡 : Semi) (bar : 𝓡 .R → 𝓡 .R) (bar-mul : (x y : 𝓡 .R) → bar (𝓡 .ops ._⊗_ x y) ≡ 𝓡 .ops ._⊗_ (bar x) (bar y)) where
@@ -59,7 +58,9 @@ cancel-by a u v s t h e =
 
 -- a·ā is not zero
 modulus-by : (a : Exact) → isZero (a .num) ≡ false → isZero ((a · conj a) .num) ≡ false
-modulus-by a h = not-both (isZero ((a · conj a) .num)) (λ z. none (sym (is-lowest (a · conj a) (mul-lowest a (conj a))) ∙ ap (λ (w : Number). lowest w ((a · conj a) .exp)) (zero-is ((a · conj a) .num) z) ∙ low-zero ℤ√2i exactHalving ((a · conj a) .exp)))
+modulus-by a h =
+    let s = a · conj a in
+    not-both (isZero (s .num)) (λ z. none (sym (is-lowest s (mul-lowest a (conj a))) ∙ ap (λ (w : Number). lowest w (s .exp)) (zero-is (s .num) z) ∙ low-zero ℤ√2i exactHalving (s .exp)))
   where
     none : a · conj a ≡ exact .𝟘 → ⊥
     none e =
@@ -106,66 +107,15 @@ module _ (n : ℕ) (x y : ℕ → Exact) where
       }
 
 -- ---- the pivot
-pub record First (k i : ℕ) (p : ℕ → Bool) (j : ℕ) : Type 0 where
-  pub below : j < i + k
-  pub fails : p j ≡ false
+module _ (n : ℕ) (x : ℕ → Exact) where
+  abbrev zero-at : ℕ → Bool
+  zero-at i = isZero (x i .num)
 
-pub first-from : (k i : ℕ) (p : ℕ → Bool) → First k i p (firstNot k i p) ⊎ (firstNot k i p ≡ i + k) × ((j : ℕ) → i ≤ j → j < i + k → p j ≡ true)
-unfolding firstNot
-first-from zero i p = inr (omega arith, λ j g h. absurd (omega arith))
-first-from (suc k) i p = go (p i) refl (first-from k (suc i) p)
-  where
-    go : (b : Bool) → p i ≡ b → First k (suc i) p (firstNot k (suc i) p) ⊎ (firstNot k (suc i) p ≡ suc i + k) × ((j : ℕ) → suc i ≤ j → j < suc i + k → p j ≡ true)
-        → First (suc k) i p (cond b (firstNot k (suc i) p) i) ⊎ (cond b (firstNot k (suc i) p) i ≡ i + suc k) × ((j : ℕ) → i ≤ j → j < i + suc k → p j ≡ true)
-    go true e (inl f) = inl (record { below = omega (arith, f .below); fails = f .fails })
-    go true e (inr f) = inr (omega (arith, f .0), λ j g h. at (ℕ-discrete j i) (f .1 j) g h)
-      where
-        at : {j : ℕ} → Dec (j ≡ i) → (suc i ≤ j → j < suc i + k → p j ≡ true) → i ≤ j → j < i + suc k → p j ≡ true
-        at (yes q) r g h = ap p q ∙ e
-        at (no q) r g h = r (omega arith) (omega arith)
-    go false e r = inl (record { below = omega arith; fails = e })
+  pivot-is : zeroMatrix n x ≡ false → (pivot n x < n) × (isZero (x (pivot n x) .num) ≡ false)
+  pivot-is = first-is n zero-at
 
--- a search from i on, as a loop makes it
-module _ (n i : ℕ) (p : ℕ → Bool) where
-  one-step : i < n → firstNot (n - i) i p ≡ cond (p i) (firstNot (n - (i + 1)) (i + 1) p) i
-  unfolding firstNot
-  one-step h = ap (λ (k : ℕ). firstNot k i p) left ∙ ap (λ (k : ℕ). cond (p i) (firstNot (n - (i + 1)) k p) i) (sym (add-one i))
-    where
-      left : n - i ≡ suc (n - (i + 1))
-      left = omega arith
-
-  pub first-next : i < n → p i ≡ true → firstNot (n - i) i p ≡ firstNot (n - (i + 1)) (i + 1) p
-  first-next h e = one-step h ∙ ap (λ (b : Bool). cond b (firstNot (n - (i + 1)) (i + 1) p) i) e
-
-  pub first-here : i < n → p i ≡ false → firstNot (n - i) i p ≡ i
-  first-here h e = one-step h ∙ ap (λ (b : Bool). cond b (firstNot (n - (i + 1)) (i + 1) p) i) e
-
-  pub first-end : i ≤ n → n ≤ i → firstNot (n - i) i p ≡ n
-  unfolding firstNot
-  first-end h k = ap (λ (m : ℕ). firstNot m i p) none ∙ all
-    where
-      none : n - i ≡ 0
-      none = omega arith
-
-      all : i ≡ n
-      all = omega arith
-
-pub pivot-is : (n : ℕ) (x : ℕ → Exact) → zeroMatrix n x ≡ false → (pivot n x < n) × (isZero (x (pivot n x) .num) ≡ false)
-pivot-is n x z = go (first-from n 0 (λ (i : ℕ). isZero (x i .num)))
-  where
-    go : First n 0 (λ (i : ℕ). isZero (x i .num)) (pivot n x) ⊎ (pivot n x ≡ 0 + n) × ((j : ℕ) → 0 ≤ j → j < 0 + n → isZero (x j .num) ≡ true) → (pivot n x < n) × (isZero (x (pivot n x) .num) ≡ false)
-    go (inl f) = (omega (arith, f .below), f .fails)
-    go (inr f) = absurd (clash (all-by n (λ (i : ℕ). isZero (x i .num)) (λ j l. f .1 j (omega arith) (omega arith))))
-      where
-        clash : zeroMatrix n x ≡ true → ⊥
-        clash w = subst T (sym w ∙ z) tt
-
-pub pivot-none : (n : ℕ) (x : ℕ → Exact) → zeroMatrix n x ≡ true → pivot n x ≡ n
-pivot-none n x z = go (first-from n 0 (λ (i : ℕ). isZero (x i .num)))
-  where
-    go : First n 0 (λ (i : ℕ). isZero (x i .num)) (pivot n x) ⊎ (pivot n x ≡ 0 + n) × ((j : ℕ) → 0 ≤ j → j < 0 + n → isZero (x j .num) ≡ true) → pivot n x ≡ n
-    go (inl f) = absurd (subst T (sym (all-at n (λ (i : ℕ). isZero (x i .num)) z (pivot n x) (omega (arith, f .below))) ∙ f .fails) tt)
-    go (inr f) = omega (arith, f .0)
+  pivot-none : zeroMatrix n x ≡ true → pivot n x ≡ n
+  pivot-none = first-none n zero-at
 
 module _ (n : ℕ) (x y : ℕ → Exact) where
   pub phase-is : inPhase n x y ≡ true ↔ GlobalPhase n x y

@@ -1,11 +1,11 @@
 // Equality up to a global phase.
 use super::Phase;
 use super::PhaseAnswer;
+use super::words::first_nonzero;
 use super::words::is_zero;
 use cells::CELL;
 use cells::read_cell;
 use cells::well_formed_at;
-use cells::zero_at;
 use scalar::Scalar;
 use verdict::Verdict;
 ghost use mathlib.Core.Path.{_≡_};
@@ -16,7 +16,7 @@ ghost use Rattle.algebra.specs.Lists.{allBelow};
 ghost use Rattle.exact.specs.Exact.{conj, narrow};
 ghost use Rattle.scalar.specs.Calls.{value, scalarOf};
 ghost use Rattle.cells.specs.Cells.{wellFormedAt, cellSize};
-ghost use Rattle.matrix.specs.Phase.{_·_, isDim, entryOf, wellFormedMatrix, equalRatios, pivot, inPhaseAt, inPhase, answered, refusedPhase, phaseAnswer};
+ghost use Rattle.matrix.specs.Phase.{_·_, isDim, entryOf, wellFormedMatrix, equalRatios, inPhaseAt, inPhase, answered, refusedPhase, phaseAnswer};
 ghost use Rattle.matrix.specs.Inner.Operands.{Operand, Operands};
 
 // ---- the questions
@@ -120,26 +120,11 @@ fn in_phase_at(left: &[i64], right: &[i64], n: usize, i: usize) -> bool
     ratios_same(left, right, n, a, b)
 }
 
-// The first of n entries that is not zero, or n.
-fn first_nonzero(s: &[i64], n: usize) -> usize
-    requires { ⌜ n * cellSize ≤ length (now s) ⌝ }
-    ensures { λ r. ⌜ r ≡ pivot n (entryOf (now (s .entry))) ⌝ }
-{
-    let mut i = 0;
-    while i < n {
-        if !zero_at(s, i * CELL) {
-            return i;
-        }
-        i += 1;
-    }
-    n
-}
-
 fn in_phase(left: &[i64], right: &[i64], n: usize) -> bool
     requires { ⌜ Operands (now left) n × Operands (now right) n ⌝ }
     ensures { λ r. ⌜ r ≡ inPhase n (entryOf (now (left .entry))) (entryOf (now (right .entry))) ⌝ }
 {
-    let i = first_nonzero(left, n);
+    let i = first_nonzero(left, 0, n, 0);
     if i < n {
         in_phase_at(left, right, n, i)
     } else {

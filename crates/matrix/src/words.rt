@@ -1,13 +1,15 @@
-// Words cleared, copied, and tested for zero.
+// Words cleared, copied, and searched for what is not zero.
 use cells::CELL;
 use cells::zero_at;
 ghost use mathlib.Core.Path.{_≡_};
-ghost use Prim.Native.Nat.{ℕ, _+_, _*_, _≤_};
+ghost use Prim.Native.Nat.{ℕ, _+_, _*_, _-_, _≤_};
 ghost use lib.ListN.{length, getD};
 ghost use lib.IntN.{pos};
 ghost use Rattle.algebra.specs.Words.{fillWords};
 ghost use Rattle.algebra.specs.Inner.Apart.{Apart};
 ghost use Rattle.cells.specs.Cells.{cellSize};
+ghost use Rattle.cells.specs.Inner.Zero.{zeroAt};
+ghost use Rattle.matrix.specs.Phase.{firstNot};
 ghost use Rattle.matrix.specs.Inner.Written.{zeros};
 
 // Set n words from `at` on to zero.
@@ -35,17 +37,26 @@ pub fn copy(s: &mut [i64], from: usize, to: usize, n: usize)
     }
 }
 
+// Of n entries from `at` on, the first from entry r on that is not zero; n where there is none.
+pub fn first_nonzero(s: &[i64], at: usize, n: usize, r: usize) -> usize
+    requires { ⌜ (r ≤ n) × (at + n * cellSize ≤ length (now s)) ⌝ }
+    ensures { λ i. ⌜ i ≡ firstNot (n - r) r (λ (k : ℕ). zeroAt (now (s .entry)) (at + k * cellSize)) ⌝ }
+{
+    let mut i = r;
+    while i < n {
+        if !zero_at(s, at + i * CELL) {
+            return i;
+        }
+        i += 1;
+    }
+    n
+}
+
 // Whether n entries from `at` on are zero.
 pub fn is_zero(s: &[i64], at: usize, n: usize) -> bool
     requires { ⌜ at + n * cellSize ≤ length (now s) ⌝ }
     ensures { λ r. ⌜ r ≡ zeros (now (s .entry)) at n ⌝ }
 {
-    let mut i = 0;
-    while i < n {
-        if !zero_at(s, at + i * CELL) {
-            return false;
-        }
-        i += 1;
-    }
-    true
+    let i = first_nonzero(s, at, n, 0);
+    i == n
 }

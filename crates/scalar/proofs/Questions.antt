@@ -1,6 +1,7 @@
 -- The questions that a call asks, answered one way or the other.
-use mathlib.Core.Path.{_≡_, ap}
-use mathlib.Core.Bool.{Bool, true, false, cond, _&&_}
+use mathlib.Core.Path.{_≡_, ap, sym, _∙_}
+use mathlib.Core.Bool.{Bool, true, false, cond, not, _&&_}
+use borrow.Author.Tests.{not-true, not-false}
 use Rattle.exact.specs.Exact.{Exact, exact, inRange, wellFormed, narrow}
 use Rattle.scalar.specs.declared.Answer.{Answer}
 use Rattle.verdict.specs.declared.Verdict.the-variants.{TooLarge, Malformed}
@@ -12,6 +13,14 @@ module _ (x : Exact) (a : Answer) where
 
   pub asked-no : wellFormed x ≡ false → asked x a ≡ refusedWith Malformed
   asked-no h = ap (λ (b : Bool). cond b a (refusedWith Malformed)) h
+
+-- one operand, as code asks it
+module _ (x : Exact) {b : Bool} (e : b ≡ wellFormed x) where
+  pub formed : not b ≡ false → wellFormed x ≡ true
+  formed t = sym e ∙ not-false b t
+
+  pub malformed : (a : Answer) {r : Answer} → r ≡ refusedWith Malformed → not b ≡ true → r ≡ asked x a
+  malformed a u t = u ∙ sym (asked-no x a (sym e ∙ not-true b t))
 
 pub too-large : (x : Exact) → inRange x ≡ false → fitting x ≡ refusedWith TooLarge
 too-large x h = ap (λ (b : Bool). cond b (accepted x) (refusedWith TooLarge)) h

@@ -4,7 +4,7 @@ use mathlib.Core.Bool.{Bool, true, _&&_}
 use mathlib.Core.List.{List, [], _∷_}
 use Prim.Native.Nat.{ℕ, _+_, _-_, _^_}
 use lib.Dec.{eqb}
-use lib.IntN.{pos}
+use lib.IntN.{pos, negℤ}
 use Rattle.verdict.specs.Verdict.{verdictNumber}
 use Rattle.algebra.specs.Dyadic.{frac}
 use Rattle.algebra.specs.Lists.{every}
@@ -47,10 +47,15 @@ rows =
     ∷ refuses (mulAnswer (ratio (2 ^ 28 + 1) 0) (ratio 2 1)) 10
     ∷ refuses (addAnswer (ratio 1 0) (minus (2 ^ 60 + 1) 0)) 10
     ∷ refuses (negAnswer (ratio 1 61)) 10
+    ∷ refuses (negAnswer (ratio 2 1)) 10
+    ∷ refuses (conjAnswer (ratio 2 1)) 10
+    ∷ refuses (halfAnswer (ratio 2 1)) 10
+    ∷ refuses (addAnswer (ratio 1 0) (ratio 2 1)) 10
     -- sums at equal and at unequal exponents
     ∷ accepts (addAnswer (ratio 1 1) (ratio 1 1)) (ratio 1 0)
     ∷ accepts (addAnswer (ratio 1 1) (ratio 1 2)) (ratio 3 2)
     ∷ accepts (addAnswer (ratio 1 0) (minus 1 60)) (ratio (2 ^ 60 - 1) 60)
+    ∷ accepts (addAnswer (ratio 2 0) (frac (number (negℤ (pos (2 ^ 60))) (pos 1) (pos 0) (pos 0)) 60)) (frac (number (pos (2 ^ 60)) (pos 1) (pos 0) (pos 0)) 60)
     ∷ refuses (addAnswer (ratio 1 0) (ratio 1 60)) 9
     ∷ refuses (addAnswer (ratio (2 ^ 60) 0) (ratio 1 60)) 9
     ∷ refuses (addAnswer (ratio (2 ^ 60) 0) (ratio 1 0)) 9

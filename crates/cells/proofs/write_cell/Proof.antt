@@ -78,7 +78,11 @@ returns : tie.Need-returns
 returns c =
     let a = c .before .before .before in
     let n = a .before .args .t3 .n in
-    simp (add-one, add-two, add-three, add-four, reads (getD n 0 (pos 0)) (a .a .given), reads (getD n 1 (pos 0)) (c .before .before .b .given), reads (getD n 2 (pos 0)) (c .before .c .given), reads (getD n 3 (pos 0)) (c .d .given), toZ-pos w64 (small a))
+    let p0 = reads (getD n 0 (pos 0)) (a .a .given) in
+    let p1 = reads (getD n 1 (pos 0)) (c .before .before .b .given) in
+    let p2 = reads (getD n 2 (pos 0)) (c .before .c .given) in
+    let p3 = reads (getD n 3 (pos 0)) (c .d .given) in
+    simp (add-one, add-two, add-three, add-four, p0, p1, p2, p3, toZ-pos w64 (small a))
 
 pub write-cell-spec : {M : Type 1} → statement M
 write-cell-spec =

@@ -21,6 +21,10 @@ module _ (x y : ℤ) (h : natAbs x ≤ roomNumerator) (k : natAbs y ≤ roomNume
   is : toZ w64 (ofZ w64 (toZ w64 (ofZ w64 x) +ℤ toZ w64 (ofZ w64 y))) ≡ x +ℤ y
   is = machine-is w64 (x ∷ y ∷ []) (roomNumerator ∷ roomNumerator ∷ []) (h, (k, tt)) (var 0 ⊞ var 1) tt
 
+-- where all eight are read
+abbrev start : tie.After-t31 → tie.Start
+start c = c .before .before .before .before .before .before .before .before
+
 array-copy-out-t7 : tie.Need-array-copy-out-t7
 array-copy-out-t7 c = search needs
 
@@ -55,11 +59,11 @@ array-copy-out-t31 : tie.Need-array-copy-out-t31
 array-copy-out-t31 c = search needs
 
 add-t32 : tie.Need-add-t32
-add-t32 c = let s = c .before .before .before .before .before .before .before .before in fits (numberOf (s .args .t1) .im .im) (numberOf (s .args .t2) .im .im) (s .pre .0 .w3) (s .pre .1 .w3)
+add-t32 c = let s = start c in fits (numberOf (s .args .t1) .im .im) (numberOf (s .args .t2) .im .im) (s .pre .0 .w3) (s .pre .1 .w3)
 
 returns : tie.Need-returns
 returns c =
-    let s = c .before .before .before .before .before .before .before .before in
+    let s = start c in
     let p0 = is (numberOf (s .args .t1) .re .re) (numberOf (s .args .t2) .re .re) (s .pre .0 .w0) (s .pre .1 .w0) in
     let p1 = is (numberOf (s .args .t1) .re .im) (numberOf (s .args .t2) .re .im) (s .pre .0 .w1) (s .pre .1 .w1) in
     let p2 = is (numberOf (s .args .t1) .im .re) (numberOf (s .args .t2) .im .re) (s .pre .0 .w2) (s .pre .1 .w2) in

@@ -1,7 +1,6 @@
 -- `are_within` meets its contract.
 use mathlib.Core.Path.{_∙_}
-use lib.ListN.{getD}
-use lib.IntN.{pos}
+use Rattle.exact.specs.Exact.{numberOf}
 use borrow.Author.Needs.{needs}
 use Rattle.exact.proofs.Sizes.{and4, read-test}
 use Rattle.exact.proofs.ranges.are_within.Statement.{statement}
@@ -32,12 +31,17 @@ at-most-requires-4 : tie.Need-at-most-requires-4
 at-most-requires-4 c κs = search needs
 
 returns : tie.Need-returns
-returns c = let s = c .before .before .before .before .before .before .before .before in
+returns c =
+    let third = c .before .before in
+    let second = third .before .before in
+    let first = second .before .before in
+    let s = first .before .before in
+    let x = numberOf (s .args .t1) in
     and4
-    (c .before .before .before .before .before .before .at-most .ensures ∙ read-test (getD (s .args .t1) 0 (pos 0)) (s .args .m) (c .before .before .before .before .before .before .before .at-most-arg .given) (s .fits .m))
-    (c .before .before .before .before .at-most2 .ensures ∙ read-test (getD (s .args .t1) 1 (pos 0)) (s .args .m) (c .before .before .before .before .before .at-most-arg2 .given) (s .fits .m))
-    (c .before .before .at-most3 .ensures ∙ read-test (getD (s .args .t1) 2 (pos 0)) (s .args .m) (c .before .before .before .at-most-arg3 .given) (s .fits .m))
-    (c .at-most4 .ensures ∙ read-test (getD (s .args .t1) 3 (pos 0)) (s .args .m) (c .before .at-most-arg4 .given) (s .fits .m))
+    (first .at-most .ensures ∙ read-test (x .re .re) (s .args .m) (first .before .at-most-arg .given) (s .fits .m))
+    (second .at-most2 .ensures ∙ read-test (x .re .im) (s .args .m) (second .before .at-most-arg2 .given) (s .fits .m))
+    (third .at-most3 .ensures ∙ read-test (x .im .re) (s .args .m) (third .before .at-most-arg3 .given) (s .fits .m))
+    (c .at-most4 .ensures ∙ read-test (x .im .im) (s .args .m) (c .before .at-most-arg4 .given) (s .fits .m))
 
 pub are-within-spec : {M : Type 1} → statement M
 are-within-spec =

@@ -21,7 +21,10 @@ is-dim-requires : tie.Need-is-dim-requires
 is-dim-requires c κs = search needs
 
 returns : tie.Need-returns
-returns c = let s = c .before .before .args in sym (ap (λ (b : Bool). b && (eqb (length (s .s .now)) (s .d * s .d * cellSize) && allBelow (s .d * s .d) (λ (i : ℕ). wellFormedAt (s .s .now) (i * cellSize)))) (sym (c .before .is-dim .ensures) ∙ not-true _ (c .if1 .taken)))
+returns c =
+    let s = c .before .before .args in
+    sym (ap (λ (b : Bool). b && (eqb (length (s .s .now)) (s .d * s .d * cellSize) && allBelow (s .d * s .d) (λ (i : ℕ). wellFormedAt (s .s .now) (i * cellSize))))
+    (sym (c .before .is-dim .ensures) ∙ not-true _ (c .if1 .taken)))
 
 mul-if2 : tie.Need-mul-if2
 mul-if2 c = omega (arith, square-small (c .before .before .args .d) (is-dim c))

@@ -23,11 +23,16 @@ abbrev μ-loop : tie.MeasureT-loop
 loop-holds : tie.Need-loop-holds Inv-loop μ-loop
 loop-holds c = (omega arith, refl)
 
+-- the turn in which two products are compared
+abbrev turn : tie.After-equals Inv-loop μ-loop → tie.In-loop Inv-loop μ-loop
+turn c = c .before .before .before .before .before
+
 -- the test's answer
 equal-is : (c : tie.After-equals Inv-loop μ-loop)
-    → c .equals .result
-    ≡ equal (entryOf (c .before .before .before .before .before .before .before .args .left .now) (c .before .before .before .before .before .before .loop .j) · value (c .before .before .before .before .before .before .before .args .b))
-    (entryOf (c .before .before .before .before .before .before .before .args .right .now) (c .before .before .before .before .before .before .loop .j) · value (c .before .before .before .before .before .before .before .args .a))
+    → (let t = turn c in
+    let s = t .before .before .args in
+    let j = t .before .loop .j in
+    c .equals .result ≡ equal (entryOf (s .left .now) j · value (s .b)) (entryOf (s .right .now) j · value (s .a)))
 equal-is c =
     let q = c .before in
     let p = q .before in
@@ -74,7 +79,7 @@ equals-requires c κs = search needs
 
 returns : tie.Need-returns Inv-loop μ-loop
 returns c =
-    let t = c .before .before .before .before .before .before in
+    let t = turn (c .before) in
     let l = t .before in
     sym (all-no (l .before .args .n) (l .loop .j) _ (t .loop-test .taken) (sym (equal-is (c .before)) ∙ not-true _ (c .if1 .taken)))
 
@@ -86,7 +91,7 @@ loop-less c = omega arith
 
 loop-again : tie.Need-loop-again Inv-loop μ-loop
 loop-again c =
-    let l = c .before .before .before .before .before .before .before in
+    let l = turn (c .before) .before in
     (omega arith, all-step (l .loop .j) _ (l .loop .inv .1) (sym (equal-is (c .before)) ∙ not-false _ (c .if1 .left)))
 
 returns-2 : tie.Need-returns-2 Inv-loop μ-loop

@@ -54,7 +54,11 @@ returns c =
     let s = c1 .before .before .before .args in
     let x = numberOf (s .self .n) in
     let y = numberOf (s .other .n) in
-    λ i. ((eq-word (x .re .re) (y .re .re) (c1 .result .given) (c2 .result2 .given) i && eq-word (x .re .im) (y .re .im) (c3 .result3 .given) (c4 .result4 .given) i) && (eq-word (x .im .re) (y .im .re) (c5 .result5 .given) (c6 .result6 .given) i && eq-word (x .im .im) (y .im .im) (c7 .result7 .given) (c .result8 .given) i)) && eqb (s .self .e) (s .other .e)
+    let p0 = eq-word (x .re .re) (y .re .re) (c1 .result .given) (c2 .result2 .given) in
+    let p1 = eq-word (x .re .im) (y .re .im) (c3 .result3 .given) (c4 .result4 .given) in
+    let p2 = eq-word (x .im .re) (y .im .re) (c5 .result5 .given) (c6 .result6 .given) in
+    let p3 = eq-word (x .im .im) (y .im .im) (c7 .result7 .given) (c .result8 .given) in
+    λ i. ((p0 i && p1 i) && (p2 i && p3 i)) && eqb (s .self .e) (s .other .e)
 
 pub equals-spec : {M : Type 1} → statement M
 equals-spec =

@@ -3,18 +3,19 @@ use mathlib.Core.Path.{_≡_, ap, sym, _∙_}
 use mathlib.Core.Bool.{true}
 use mathlib.Core.List.{List}
 use lib.IntN.{ℤ}
-use borrow.Author.Tests.{not-true, not-false}
 use borrow.Author.Needs.{needs}
-use Rattle.exact.specs.Exact.{exact, wellFormed}
+use Rattle.exact.specs.Exact.{Exact, exact, wellFormed}
 use Rattle.exact.proofs.Sizes.{well-within}
 use Rattle.scalar.specs.Calls.{value, accepted, acceptedAs}
-use Rattle.scalar.proofs.Questions.{asked-yes, asked-no}
+use Rattle.scalar.proofs.Questions.{asked-yes, formed, malformed}
 use Rattle.scalar.proofs.Scalar.neg.Statement.{statement}
 use Rattle.scalar.proofs.Scalar.neg.Tie as tie
 
--- the operand is well formed
-formed : (c : tie.Else1) → wellFormed (value (c .before .before .args .self)) ≡ true
-formed c = sym (c .before .is-well-formed .ensures) ∙ not-false _ (c .if1 .left)
+abbrev operand : tie.Start → Exact
+operand s = value (s .args .self)
+
+well : (c : tie.Else1) → wellFormed (operand (c .before .before)) ≡ true
+well c = formed (operand (c .before .before)) (c .before .is-well-formed .ensures) (c .if1 .left)
 
 is-well-formed-requires : tie.Need-is-well-formed-requires
 is-well-formed-requires c κs = search needs
@@ -23,10 +24,13 @@ refused-requires : tie.Need-refused-requires
 refused-requires c κs = search needs
 
 returns : tie.Need-returns
-returns c = c .refused .ensures ∙ sym (asked-no (value (c .before .before .before .args .self)) (accepted (exact .neg (value (c .before .before .before .args .self)))) (sym (c .before .before .is-well-formed .ensures) ∙ not-true _ (c .before .if1 .taken)))
+returns c =
+    let w = c .before .before in
+    let s = w .before in
+    malformed (operand s) (w .is-well-formed .ensures) (accepted (exact .neg (operand s))) (c .refused .ensures) (c .before .if1 .taken)
 
 neg4-requires : tie.Need-neg4-requires
-neg4-requires c κs = well-within (value (c .before .before .before .args .self)) (formed (c .before))
+neg4-requires c κs = well-within (value (c .before .before .before .args .self)) (well (c .before))
 
 accept-requires : tie.Need-accept-requires
 accept-requires c κs = search needs
@@ -36,7 +40,7 @@ returns-2 c =
     let k = c .before .before .before in
     let s = k .before .before .args .self in
     c .accept .ensures ∙ ap (λ (l : List ℤ). acceptedAs (record { n = l; e = s .e })) (c .before .neg4 .ensures)
-    ∙ sym (asked-yes (value s) (accepted (exact .neg (value s))) (formed k))
+    ∙ sym (asked-yes (value s) (accepted (exact .neg (value s))) (well k))
 
 pub neg-spec : {M : Type 1} → statement M
 neg-spec =

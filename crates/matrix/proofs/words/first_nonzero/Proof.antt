@@ -1,27 +1,36 @@
--- `matrix::global_phase::first_nonzero` meets its contract.
-use mathlib.Core.Path.{_≡_, sym, ap, _∙_}
-use Prim.Native.Nat.{ℕ, _-_, _≤_}
+-- `matrix::words::first_nonzero` meets its contract.
+use mathlib.Core.Path.{_≡_, refl, sym, _∙_}
+use mathlib.Core.Bool.{Bool}
+use mathlib.Core.List.{List}
+use Prim.Native.Nat.{ℕ, _+_, _*_, _-_, _≤_}
 use native.Mathlib.Omega.{arith}
+use lib.IntN.{ℤ}
 use borrow.Author.Tests.{not-true, not-false}
-use Rattle.exact.specs.Exact.{isZero}
-use Rattle.matrix.specs.Phase.{entryOf, firstNot, pivot}
-use Rattle.matrix.proofs.GlobalPhase.{first-next, first-here, first-end}
-use Rattle.matrix.proofs.global_phase.first_nonzero.Statement.{statement}
-use Rattle.matrix.proofs.global_phase.first_nonzero.Tie as tie
+use Rattle.cells.specs.Cells.{cellSize}
+use Rattle.cells.specs.Inner.Zero.{zeroAt}
+use Rattle.matrix.specs.Phase.{firstNot}
+use Rattle.matrix.proofs.First.{first-next, first-here, first-end}
+use Rattle.matrix.proofs.words.first_nonzero.Statement.{statement}
+use Rattle.matrix.proofs.words.first_nonzero.Tie as tie
+
+-- the test that is made
+abbrev test : List ℤ → ℕ → ℕ → Bool
+test s at k = zeroAt s (at + k * cellSize)
 
 abbrev Inv-loop : tie.InvT-loop
-Inv-loop s n i₀ i = (i ≤ n) × (pivot n (entryOf s) ≡ firstNot (n - i) i (λ (k : ℕ). isZero (entryOf s k .num)))
+Inv-loop s at n r i₀ i = (i ≤ n) × (firstNot (n - r) r (test s at) ≡ firstNot (n - i) i (test s at))
 
 abbrev μ-loop : tie.MeasureT-loop
-μ-loop s n i₀ i = n - i
+μ-loop s at n r i₀ i = n - i
 
 loop-holds : tie.Need-loop-holds Inv-loop μ-loop
-loop-holds c =
-    let e : c .args .n ≡ c .args .n - 0 = omega arith in
-    (omega arith, ap (λ (k : ℕ). firstNot k 0 (λ (i : ℕ). isZero (entryOf (c .args .s .now) i .num))) e)
+loop-holds c = (c .pre .0, refl)
 
 mul-zero-at : tie.Need-mul-zero-at Inv-loop μ-loop
 mul-zero-at c = omega arith
+
+add-zero-at : tie.Need-add-zero-at Inv-loop μ-loop
+add-zero-at c = omega arith
 
 zero-at-requires : tie.Need-zero-at-requires Inv-loop μ-loop
 zero-at-requires c κs = omega arith
@@ -57,6 +66,7 @@ first-nonzero-spec =
     μ-loop
     loop-holds
     mul-zero-at
+    add-zero-at
     zero-at-requires
     returns
     add-i
