@@ -154,7 +154,8 @@ held-blocks l at d f z bs {b} is sized room e =
 -- ---- matrices given by their entries
 pub table-cells : (d : ℕ) (f : ℕ → ℕ → Exact) → cells (d * d) (λ (i : ℕ). f (i / d) (i % d)) ≡ cells (d * d) (λ (i : ℕ). getD (table d f) i (exact .𝟘))
 table-cells d f =
-    cells-same (d * d) (λ (i : ℕ). f (i / d) (i % d)) (λ (i : ℕ). getD (table d f) i (exact .𝟘)) (λ i h. ap (λ (k : ℕ). f (k / d) (k % d)) (sym (zero-add i)) ∙ sym (tabulate-at (d * d) 0 (λ (k : ℕ). f (k / d) (k % d)) (exact .𝟘) i h))
+    cells-same (d * d) (λ (i : ℕ). f (i / d) (i % d)) (λ (i : ℕ). getD (table d f) i (exact .𝟘))
+    (λ i h. ap (λ (k : ℕ). f (k / d) (k % d)) (sym (zero-add i)) ∙ sym (tabulate-at (d * d) 0 (λ (k : ℕ). f (k / d) (k % d)) (exact .𝟘) i h))
 
 -- the identity, then its store
 pub started : (l : List ℤ) (at d : ℕ) (σ : Store) {m b : List ℤ} → m ≡ identified l at d → b ≡ sets m (at + matrixSize d) (storeWords σ) → b ≡ sets l at (branchWords d (identityBranch d σ))

@@ -58,7 +58,8 @@ module _ (l : List ℤ) (slots n d : ℕ) (g : Gate) where
   pub one-operator : {b : List ℤ} → b ≡ fill l slots (d * 2) (rowEntry n g 0) → length (operators g) ≡ 1 → b ≡ withOperators l slots n d g
   one-operator e h = one-written e ∙ ap (λ (k : ℕ). blocks (branchSize d) l slots k (operatorWords n d g)) (sym h)
 
-  pub more-operators : {b c : List ℤ} {size : ℕ} → b ≡ fill l slots (d * 2) (rowEntry n g 0) → size ≡ branchSize d → c ≡ fill b (slots + size) (d * 2) (rowEntry n g 1) → length (operators g) ≡ 2 → c ≡ withOperators l slots n d g
+  pub more-operators : {b c : List ℤ} {size : ℕ} → b ≡ fill l slots (d * 2) (rowEntry n g 0) → size ≡ branchSize d → c ≡ fill b (slots + size) (d * 2) (rowEntry n g 1) → length (operators g) ≡ 2
+      → c ≡ withOperators l slots n d g
   more-operators {b} e q f h =
       f ∙ ap (λ (s : ℕ). fill b (slots + s) (d * 2) (rowEntry n g 1)) (q ∙ sym (one-mul (branchSize d)))
       ∙ fill-block (rowEntry n g 1) b (slots + 1 * branchSize d) (d * 2)
@@ -79,5 +80,6 @@ module _ {l m : List ℤ} {ws : List ℕ} {at slots n d from to count ops : ℕ}
       subst (λ (m : List ℤ). Step m f slots ops from to d count) (sym words-are)
       (subst₂ (λ (f ops : ℕ). Step (withOperators l slots n d (gateAt ws at)) f slots ops from to d count) (sym (h ∙ ap (flips n) e)) (sym ops-are) (p .ready))
 
-  pub gate-done : {f : ℕ} → f ≡ flips n g → {q : List ℤ} {bit : ℕ} → bit ≡ outcomeBit g → q ≡ blocks (branchSize d) m to (count * ops) (stepWords m f slots ops from d bit) → q ≡ gateStepped l slots n d from to count (gateAt ws at)
+  pub gate-done : {f : ℕ} → f ≡ flips n g → {q : List ℤ} {bit : ℕ} → bit ≡ outcomeBit g → q ≡ blocks (branchSize d) m to (count * ops) (stepWords m f slots ops from d bit)
+      → q ≡ gateStepped l slots n d from to count (gateAt ws at)
   gate-done k f h = h ∙ (λ i. blocks (branchSize d) (words-are i) to (count * ops-are i) (stepWords (words-are i) ((k ∙ ap (flips n) e) i) slots (ops-are i) from d ((f ∙ ap outcomeBit e) i)))

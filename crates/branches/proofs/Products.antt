@@ -56,7 +56,8 @@ rows-at {l} {at} {n} {g} {j} {d} room cells exponents small below = record {
   own = λ r hr. ap (cellAt l) (own-place r) ∙ cells (r * 2) (omega arith) ∙ rows-own n g j r;
   own-exponent = λ r hr. ap (exponentAt l) (own-place r) ∙ exponents (r * 2) (omega arith) ∙ ap (λ (x : Exact). leb (x .exp) maxExponent) (rows-own n g j r) ∙ le-leb (gateEntry n g j r r .exp) maxExponent (omega (arith, small r r hr hr));
   other = λ r hr. ap (cellAt l) (other-place r) ∙ cells (r * 2 + 1) (omega arith) ∙ rows-other n g j r;
-  other-exponent = λ r hr. ap (exponentAt l) (other-place r) ∙ exponents (r * 2 + 1) (omega arith) ∙ ap (λ (x : Exact). leb (x .exp) maxExponent) (rows-other n g j r) ∙ le-leb (gateEntry n g j r (partner n g r) .exp) maxExponent (omega (arith, small r (partner n g r) hr (below r hr)));
+  other-exponent = λ r hr. ap (exponentAt l) (other-place r) ∙ exponents (r * 2 + 1) (omega arith) ∙ ap (λ (x : Exact). leb (x .exp) maxExponent) (rows-other n g j r)
+      ∙ le-leb (gateEntry n g j r (partner n g r) .exp) maxExponent (omega (arith, small r (partner n g r) hr (below r hr)));
 }
   where
     own-place : (r : ℕ) → at + r * rowSize ≡ at + r * 2 * cellSize
@@ -190,5 +191,6 @@ module _ {l : List ℤ} {n : ℕ} {g : Gate} {j d m op : ℕ} (ready : Ready n g
   -- the sum of two rows is the row of the product
   pub sum-is : (old r c : ℕ) → r < d → rowSum l m op old d r c ≡ product l n g j old d r c
   sum-is old r c hr =
-      (λ i. exact ._⊕_ (exact ._⊗_ (rows .own r hr i) (cellAt l (row-place old d r c i))) (exact ._⊗_ (rows .other r hr i) (cellAt l ((ap (λ (k : ℕ). old + k * d * cellSize + c * cellSize) (other-is r) ∙ row-place old d (partner n g r) c) i))))
+      (λ i. exact ._⊕_ (exact ._⊗_ (rows .own r hr i) (cellAt l (row-place old d r c i)))
+      (exact ._⊗_ (rows .other r hr i) (cellAt l ((ap (λ (k : ℕ). old + k * d * cellSize + c * cellSize) (other-is r) ∙ row-place old d (partner n g r) c) i))))
       ∙ sym (row-is ready few dim hr (cell l old d) c)

@@ -10,8 +10,8 @@ use borrow.Author.Tests.{leb-true, ltb-true, eqb-true, eq-eqb, not-true}
 use Rattle.algebra.specs.Lists.{allBelow, every}
 use Rattle.algebra.proofs.Tests.{exhaust, and-split, holds-true}
 use Rattle.exact.specs.Exact.{Exact, exact}
-use Rattle.gate.specs.Gate.{Gate, gate, arity, qubits, bits, elem, distinct, lastKind, rz, measure, reset, swap, cswap, formed, placed, supported}
-use Rattle.gate.specs.Inner.Kinds.{oneQubit, splitting, controlledOnce, controlledTwice, targeted, swapping}
+use Rattle.gate.specs.Gate.{Gate, gate, arity, qubits, bits, elem, distinct, lastKind, rz, measure, reset, formed, placed, supported}
+use Rattle.gate.specs.Inner.Kinds.{oneQubit, splitting, controlledOnce, controlledTwice, targeted, swapping, swap, cswap}
 use Rattle.gate.specs.Operators.{Small, operator, operators, noUnitary, controlled, swapped, identity, operatorAt}
 use Rattle.gate.specs.Embed.{embed, gateEntry}
 use Rattle.gate.specs.Verdict.{onQubits}
@@ -163,7 +163,9 @@ module _ (n j r s₀ : ℕ) where
     swap-entry m e = subst (Entry (a ∷ b ∷ []) swapped) (sym e) (only-one (a ∷ b ∷ []) swapped)
 
     pub twice-controlled-core : (m : ℕ) → elem m controlledTwice ≡ true → At (a ∷ b ∷ c ∷ []) (controlled (controlled (smallOf (coreOf (gate m a b c k) j)))) ≡ At (a ∷ b ∷ c ∷ []) (controlled (controlled (targetOf m)))
-    twice-controlled-core = elem-in (λ (m : ℕ). At (a ∷ b ∷ c ∷ []) (controlled (controlled (smallOf (coreOf (gate m a b c k) j)))) ≡ At (a ∷ b ∷ c ∷ []) (controlled (controlled (targetOf m)))) controlledTwice (three-table (targetOf 10) n a b c r s₀, (three-table (targetOf 11) n a b c r s₀, tt))
+    twice-controlled-core =
+        elem-in (λ (m : ℕ). At (a ∷ b ∷ c ∷ []) (controlled (controlled (smallOf (coreOf (gate m a b c k) j)))) ≡ At (a ∷ b ∷ c ∷ []) (controlled (controlled (targetOf m)))) controlledTwice
+        (three-table (targetOf 10) n a b c r s₀, (three-table (targetOf 11) n a b c r s₀, tt))
 
     pub twice-controlled-entry : (m : ℕ) → elem m controlledTwice ≡ true → Entry (a ∷ b ∷ c ∷ []) (controlled (controlled (targetOf m))) m
     twice-controlled-entry = elem-in (λ (m : ℕ). Entry (a ∷ b ∷ c ∷ []) (controlled (controlled (targetOf m))) m) controlledTwice

@@ -8,8 +8,8 @@ use lib.Dec.{eqb}
 use borrow.Author.Tests.{eqb-true, ne-eqb}
 use Rattle.algebra.specs.Lists.{All}
 use Rattle.algebra.proofs.Tests.{exhaust, holds-true}
-use Rattle.gate.specs.Gate.{arity, elem, lastKind, swap, cswap}
-use Rattle.gate.specs.Inner.Kinds.{constants}
+use Rattle.gate.specs.Gate.{arity, elem, lastKind}
+use Rattle.gate.specs.Inner.Kinds.{constants, swap, cswap}
 use Rattle.gate.specs.Inner.Entries.{tableOf, unitaryOf}
 use Rattle.gate.proofs.Gate.{elem-in}
 

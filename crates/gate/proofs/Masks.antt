@@ -17,8 +17,8 @@ use Rattle.algebra.proofs.Tests.{exhaust, equal1, equal2, or-no}
 use Rattle.exact.specs.Exact.{Exact, exact}
 use Rattle.scalar.specs.Calls.{value}
 use Rattle.gate.specs.declared.rows.Pair.{Pair}
-use Rattle.gate.specs.Gate.{Gate, gate, arity, elem, swap, cswap}
-use Rattle.gate.specs.Inner.Kinds.{oneQubit, controlledOnce, controlledTwice}
+use Rattle.gate.specs.Gate.{Gate, gate, arity, elem}
+use Rattle.gate.specs.Inner.Kinds.{oneQubit, controlledOnce, controlledTwice, swap, cswap}
 use Rattle.gate.specs.Operators.{Small, one, none, operators, controlled, swapped, identity}
 use Rattle.gate.specs.Embed.{bit, embed, gateEntry}
 use Rattle.gate.specs.Inner.Entries.{Table, tableOf, smallOf, coreOf, flips, partner, rowEntry, controls, pairOf, kept, exchanged, side, rowPair, Ready, Apart2, Apart3}

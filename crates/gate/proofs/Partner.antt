@@ -14,8 +14,8 @@ use borrow.Author.Tests.{ltb-true, eqb-true, eqb-false, eq-eqb, ne-eqb, not-true
 use Rattle.algebra.specs.Lists.{allBelow}
 use Rattle.algebra.proofs.Tests.{exhaust, and-split, holds-true}
 use Rattle.exact.specs.Exact.{Exact, exact}
-use Rattle.gate.specs.Gate.{Gate, gate, arity, elem, measure, reset, swap, cswap}
-use Rattle.gate.specs.Inner.Kinds.{oneQubit, controlledOnce, controlledTwice}
+use Rattle.gate.specs.Gate.{Gate, gate, arity, elem, measure, reset}
+use Rattle.gate.specs.Inner.Kinds.{oneQubit, controlledOnce, controlledTwice, swap, cswap}
 use Rattle.gate.specs.Operators.{Small, one, none, operators, controlled, swapped, operatorAt}
 use Rattle.gate.specs.Embed.{bit, bitsOf, embed, gateEntry}
 use Rattle.gate.specs.Inner.Entries.{targetOf, partner, Ready, Apart2, Apart3}
@@ -42,6 +42,12 @@ ruled false false c h p q = not-true c h
 pub small : {n : ℕ} → n ≤ 5 → (r : ℕ) → r < 2 ^ n → r < 32
 small few r h = omega (arith, pow-mono {i = _} {j = 5} few)
 
+exhaust2 : (p : ℕ → ℕ → Bool) (m n : ℕ) → T (allBelow m (λ (a : ℕ). allBelow n (p a))) → (a b : ℕ) → a < m → b < n → p a b ≡ true
+exhaust2 p m n t a b ha hb = holds-true (exhaust (p a) n (exhaust (λ (a : ℕ). allBelow n (p a)) m t a ha) b hb)
+
+exhaust3 : (p : ℕ → ℕ → ℕ → Bool) (m n k : ℕ) → T (allBelow m (λ (a : ℕ). allBelow n (λ (b : ℕ). allBelow k (p a b)))) → (a b c : ℕ) → a < m → b < n → c < k → p a b c ≡ true
+exhaust3 p m n k t a b c ha hb hc = exhaust2 (p a) n k (exhaust (λ (a : ℕ). allBelow n (λ (b : ℕ). allBelow k (p a b))) m t a ha) b c hb hc
+
 -- ---- one bit
 abbrev one-below : ℕ → ℕ → ℕ → Bool
 one-below n w r = ltb (bitXor r (2 ^ w)) (2 ^ n)
@@ -64,12 +70,14 @@ alone-computed = tt
 pub one-two : (n q r : ℕ) → n ≤ 5 → q < n → r < 2 ^ n → (u : Small) → Two (2 ^ n) (embed exact n (q ∷ []) u r) r (bitXor r (2 ^ (n - 1 - q)))
 one-two n q r few l hr u =
     record {
-      below = ltb-true (bitXor r (2 ^ w)) (2 ^ n) (holds-true (exhaust (one-below n w) (2 ^ n) (exhaust (λ (w : ℕ). allBelow (2 ^ n) (one-below n w)) n (exhaust (λ (n : ℕ). allBelow n (λ (w : ℕ). allBelow (2 ^ n) (one-below n w))) 6 one-computed n (omega arith)) w lw) r hr));
-      other = eqb-false (bitXor r (2 ^ w)) r (not-true _ (holds-true (exhaust (one-other w) 32 (exhaust (λ (w : ℕ). allBelow 32 (one-other w)) 5 other-computed w lw5) r (small few r hr))));
+      below = ltb-true (bitXor r (2 ^ w)) (2 ^ n) (holds-true
+          (exhaust (one-below n w) (2 ^ n)
+          (exhaust (λ (w : ℕ). allBelow (2 ^ n) (one-below n w)) n (exhaust (λ (n : ℕ). allBelow n (λ (w : ℕ). allBelow (2 ^ n) (one-below n w))) 6 one-computed n (omega arith)) w lw) r hr));
+      other = eqb-false (bitXor r (2 ^ w)) r (not-true _ (exhaust2 one-other 5 32 other-computed w r lw5 (small few r hr)));
       zeros = λ c hc p e.
           ap (λ (t : Bool). cond t (u (bitsOf n (q ∷ []) r) (bitsOf n (q ∷ []) c)) none)
           (agree-one n q r c l hr hc ∙ ruled (eqb c r) (eqb c (bitXor r (2 ^ w))) (eqb (clear w r) (clear w c))
-          (holds-true (exhaust (one-alone w r) 32 (exhaust (λ (r : ℕ). allBelow 32 (one-alone w r)) 32 (exhaust (λ (w : ℕ). allBelow 32 (λ (r : ℕ). allBelow 32 (one-alone w r))) 5 alone-computed w lw5) r (small few r hr)) c (small few c hc)))
+          (exhaust3 one-alone 5 32 32 alone-computed w r c lw5 (small few r hr) (small few c hc))
           (ne-eqb c r p) (ne-eqb c (bitXor r (2 ^ w)) e));
     }
   where
@@ -106,7 +114,7 @@ module _ (n q r : ℕ) (few : n ≤ 5) (l : q < n) (hr : r < 2 ^ n) (u : Small) 
       s = bitXor r (2 ^ w)
 
       tests : (eqb (clear w r) (clear w s) ≡ true) × (eqb (1 - r / 2 ^ w % 2) (s / 2 ^ w % 2) ≡ true)
-      tests = and-split _ _ (holds-true (exhaust (one-flipped w) 32 (exhaust (λ (w : ℕ). allBelow 32 (one-flipped w)) 5 flipped-computed w (omega arith)) r (small few r hr)))
+      tests = and-split _ _ (exhaust2 one-flipped 5 32 flipped-computed w r (omega arith) (small few r hr))
 
 -- ---- a control
 pub control-two : (n q : ℕ) (qs : List ℕ) (u : Small) {r s : ℕ} → r < 2 ^ n → q < n → elem q qs ≡ false → Two (2 ^ n) (embed exact n qs u r) r s → Two (2 ^ n) (embed exact n (q ∷ qs) (controlled u) r) r s
@@ -153,15 +161,12 @@ swap-two n a b r few h hr =
           (exhaust (λ (v : ℕ). allBelow (2 ^ n) (both-below n w v)) n
           (exhaust (λ (w : ℕ). allBelow n (λ (v : ℕ). allBelow (2 ^ n) (both-below n w v))) n
           (exhaust (λ (n : ℕ). allBelow n (λ (w : ℕ). allBelow n (λ (v : ℕ). allBelow (2 ^ n) (both-below n w v)))) 6 both-computed n (omega arith)) w lw) v lv) r hr)) (ne-eqb w v apart));
-      other = eqb-false s r (not-true (eqb s r) (holds-true
-          (exhaust (both-other w v) 32 (exhaust (λ (v : ℕ). allBelow 32 (both-other w v)) 5 (exhaust (λ (w : ℕ). allBelow 5 (λ (v : ℕ). allBelow 32 (both-other w v))) 5 differ-computed w (omega arith)) v (omega arith)) r (small few r hr))));
+      other = eqb-false s r (not-true (eqb s r) (exhaust3 both-other 5 5 32 differ-computed w v r (omega arith) (omega arith) (small few r hr)));
       zeros = λ c hc p e.
           embed-swap n a b r c (h .first) (h .second) hr hc
-          ∙ ap (λ (t : Bool). cond t one none) (ruled (eqb c r) (eqb c s) (changed w v r c) (holds-true
-          (exhaust (both-alone w v r) 32
-          (exhaust (λ (r : ℕ). allBelow 32 (both-alone w v r)) 32
-          (exhaust (λ (v : ℕ). allBelow 32 (λ (r : ℕ). allBelow 32 (both-alone w v r))) 5
-          (exhaust (λ (w : ℕ). allBelow 5 (λ (v : ℕ). allBelow 32 (λ (r : ℕ). allBelow 32 (both-alone w v r)))) 5 swap-computed w (omega arith)) v (omega arith)) r (small few r hr)) c (small few c hc)))
+          ∙ ap (λ (t : Bool). cond t one none) (ruled (eqb c r) (eqb c s) (changed w v r c)
+          (exhaust3 (both-alone w) 5 32 32 (exhaust (λ (w : ℕ). allBelow 5 (λ (v : ℕ). allBelow 32 (λ (r : ℕ). allBelow 32 (both-alone w v r)))) 5 swap-computed w (omega arith)) v r c (omega arith)
+          (small few r hr) (small few c hc))
           (ne-eqb c r p) (ne-eqb c s e));
     }
   where

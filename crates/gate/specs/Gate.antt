@@ -47,12 +47,6 @@ measure = 12
 abbrev pub reset : ℕ
 reset = 13
 
-abbrev pub swap : ℕ
-swap = 19
-
-abbrev pub cswap : ℕ
-cswap = 26
-
 -- how many of the words a, b, c name qubits, by kind
 abbrev pub arities : List ℕ
 arities = 1 ∷ 1 ∷ 1 ∷ 1 ∷ 1 ∷ 1 ∷ 1 ∷ 1 ∷ 2 ∷ 2 ∷ 3 ∷ 3 ∷ 1 ∷ 1 ∷ 1 ∷ 1 ∷ 1 ∷ 1 ∷ 1 ∷ 2 ∷ 2 ∷ 2 ∷ 2 ∷ 2 ∷ 2 ∷ 2 ∷ 3 ∷ []

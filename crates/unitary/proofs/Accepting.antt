@@ -36,7 +36,7 @@ use Rattle.circuit.proofs.Products.{square-is}
 use Rattle.branches.specs.Inner.Store.{storeWords}
 use Rattle.branches.specs.Inner.Bank.{bankWords}
 use Rattle.branches.specs.Inner.Run.{Runs, Ran}
-use Rattle.unitary.specs.Unitary.{circuitUnitary, verdictOf, resultAfter, workAfter}
+use Rattle.unitary.specs.Unitary.{circuitUnitary, verdictOf, resultAfter, workAfter, withUnitary, withZeros}
 use Rattle.unitary.specs.Inner.Accepted.{Accepted}
 use Rattle.unitary.proofs.Branch.{one-branch, all-valid, none-split}
 use Rattle.unitary.proofs.Words.{copied}
@@ -143,12 +143,12 @@ module _ (n d : ℕ) (ws : List ℕ) (r w : List ℤ) (acc : Accepted n (gatesOf
         ∙ ap (bankWords d) (one-branch n (gatesOf ws) (acc .unitary))
         ∙ append-assoc (cells (d * d) (λ (i : ℕ). getD (circuitUnitary n (gatesOf ws)) i (exact .𝟘))) (storeWords []) []
 
-    pub written : {q : List ℤ} → q ≡ fillWords r 0 (d * d * cellSize) (λ (i : ℕ). getD m (at + i) (pos 0)) → q ≡ fill r 0 (2 ^ n * 2 ^ n) (λ (i : ℕ). getD (circuitUnitary n (gatesOf ws)) i (exact .𝟘))
+    pub written : {q : List ℤ} → q ≡ fillWords r 0 (d * d * cellSize) (λ (i : ℕ). getD m (at + i) (pos 0)) → q ≡ withUnitary n ws r
     written e =
         e ∙ copied r m (bankWords d (branches n σ (gatesOf ws))) (storeWords [] ++ []) at (d * d) (λ (i : ℕ). getD (circuitUnitary n (gatesOf ws)) i (exact .𝟘)) held (ran .held)
         ∙ ap (λ (k : ℕ). fill r 0 (k * k) (λ (i : ℕ). getD (circuitUnitary n (gatesOf ws)) i (exact .𝟘))) dim
 
-    pub zeroed : {q : List ℤ} (k : ℕ) → k ≡ 4 * (d * d * cellSize + 2) → q ≡ fillWords m 0 k (λ (i : ℕ). pos 0) → q ≡ fillWords w 0 (unitaryWork (2 ^ n)) (λ (i : ℕ). pos 0)
+    pub zeroed : {q : List ℤ} (k : ℕ) → k ≡ 4 * (d * d * cellSize + 2) → q ≡ fillWords m 0 k (λ (i : ℕ). pos 0) → q ≡ withZeros n w
     zeroed k h e =
         e ∙ ap (λ (k : ℕ). fillWords m 0 k (λ (i : ℕ). pos 0)) (h ∙ used)
         ∙ written-over w m (unitaryWork (2 ^ n)) (λ (i : ℕ). pos 0) (acc .work-room)
@@ -156,14 +156,8 @@ module _ (n d : ℕ) (ws : List ℕ) (r w : List ℤ) (acc : Accepted n (gatesOf
 
 -- ---- the buffers after the call
 module _ (n : ℕ) (l : Limits) (ws : List ℕ) (r w : List ℤ) where
-  abbrev entries : List ℤ
-  entries = fill r 0 (2 ^ n * 2 ^ n) (λ (i : ℕ). getD (circuitUnitary n (gatesOf ws)) i (exact .𝟘))
-
-  abbrev zeros : List ℤ
-  zeros = fillWords w 0 (unitaryWork (2 ^ n)) (λ (i : ℕ). pos 0)
-
-  pub after-yes : accepted (verdictOf n l ws r w) ≡ true → {q v : List ℤ} → q ≡ entries → v ≡ zeros → (q ≡ resultAfter n l ws r w) × (v ≡ workAfter n l ws r w)
-  after-yes e p q = (p ∙ sym (ap (λ (t : Bool). cond t entries r) e), q ∙ sym (ap (λ (t : Bool). cond t zeros w) e))
+  pub after-yes : accepted (verdictOf n l ws r w) ≡ true → {q v : List ℤ} → q ≡ withUnitary n ws r → v ≡ withZeros n w → (q ≡ resultAfter n l ws r w) × (v ≡ workAfter n l ws r w)
+  after-yes e p q = (p ∙ sym (ap (λ (t : Bool). cond t (withUnitary n ws r) r) e), q ∙ sym (ap (λ (t : Bool). cond t (withZeros n w) w) e))
 
   pub after-no : accepted (verdictOf n l ws r w) ≡ false → (r ≡ resultAfter n l ws r w) × (w ≡ workAfter n l ws r w)
-  after-no e = (sym (ap (λ (t : Bool). cond t entries r) e), sym (ap (λ (t : Bool). cond t zeros w) e))
+  after-no e = (sym (ap (λ (t : Bool). cond t (withUnitary n ws r) r) e), sym (ap (λ (t : Bool). cond t (withZeros n w) w) e))

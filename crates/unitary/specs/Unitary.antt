@@ -24,15 +24,21 @@ unitaryStep n m g = left exact (2 ^ n) (gateEntry n g 0) m
 abbrev pub circuitUnitary : ℕ → List Gate → List Exact
 circuitUnitary n gs = foldl (unitaryStep n) (table (2 ^ n) (δ exact)) gs
 
--- n qubits, the gates' words ws, the limits l, the result r and the work buffer w
+-- its entries written to the result r, then what the buffer held
+abbrev pub withUnitary : ℕ → List ℕ → List ℤ → List ℤ
+withUnitary n ws r = fill r 0 (2 ^ n * 2 ^ n) (λ (i : ℕ). getD (circuitUnitary n (gatesOf ws)) i (exact .𝟘))
+
+-- zeros in the words that the call asks of the work buffer w, then what it held
+abbrev pub withZeros : ℕ → List ℤ → List ℤ
+withZeros n w = fillWords w 0 (unitaryWork (2 ^ n)) (λ (i : ℕ). pos 0)
+
+-- n qubits, the gates' words ws, the limits l, the result r and the work buffer w; a refusal leaves both as they were
 module _ (n : ℕ) (l : Limits) (ws : List ℕ) (r w : List ℤ) where
   abbrev pub verdictOf : Verdict
   verdictOf = unitaryVerdict n l ws (length r) (length w)
 
-  -- accepted: the entries of the unitary, then what the buffer held; refused: as it was
   abbrev pub resultAfter : List ℤ
-  resultAfter = cond (accepted verdictOf) (fill r 0 (2 ^ n * 2 ^ n) (λ (i : ℕ). getD (circuitUnitary n (gatesOf ws)) i (exact .𝟘))) r
+  resultAfter = cond (accepted verdictOf) (withUnitary n ws r) r
 
-  -- accepted: zeros in the words that the call asks for, then what the buffer held; refused: as it was
   abbrev pub workAfter : List ℤ
-  workAfter = cond (accepted verdictOf) (fillWords w 0 (unitaryWork (2 ^ n)) (λ (i : ℕ). pos 0)) w
+  workAfter = cond (accepted verdictOf) (withZeros n w) w

@@ -8,16 +8,13 @@ use circuit::sizes::power;
 use matrix::words::clear;
 use verdict::Verdict;
 ghost use mathlib.Core.Path.{_≡_};
-ghost use Prim.Native.Nat.{ℕ, _+_, _*_, _^_, _≤_};
+ghost use Prim.Native.Nat.{ℕ, _+_, _≤_};
 ghost use lib.ListN.{length, getD};
 ghost use lib.IntN.{pos};
 ghost use Rattle.algebra.specs.Words.{fillWords};
-ghost use Rattle.exact.specs.Exact.{exact};
-ghost use Rattle.cells.specs.Cells.{fill};
 ghost use Rattle.gate.specs.Gate.{gatesOf};
-ghost use Rattle.circuit.specs.Sizes.{unitaryWork};
 ghost use Rattle.unitary.specs.Inner.Accepted.{Accepted};
-ghost use Rattle.unitary.specs.Unitary.{circuitUnitary, verdictOf, resultAfter, workAfter};
+ghost use Rattle.unitary.specs.Unitary.{withUnitary, withZeros, verdictOf, resultAfter, workAfter};
 
 // Copy n words of `work`, from `from` on, to the start of `result`.
 fn copy_out(result: &mut [i64], work: &[i64], from: usize, n: usize)
@@ -35,7 +32,7 @@ fn copy_out(result: &mut [i64], work: &[i64], from: usize, n: usize)
 // Run an accepted circuit and write its unitary; the words of `work` that it takes end as zero.
 fn run_unitary(qubits: u32, gates: &[u32], result: &mut [i64], work: &mut [i64])
     requires { ⌜ Accepted qubits (gatesOf (now gates)) (length (now result)) (length (now work)) ⌝ }
-    ensures { λ _. ⌜ (now (result .exit) ≡ fill (now (result .entry)) 0 (2 ^ qubits * 2 ^ qubits) (λ (i : ℕ). getD (circuitUnitary qubits (gatesOf (now (gates .entry)))) i (exact .𝟘))) × (now (work .exit) ≡ fillWords (now (work .entry)) 0 (unitaryWork (2 ^ qubits)) (λ (i : ℕ). pos 0)) ⌝ }
+    ensures { λ _. ⌜ (now (result .exit) ≡ withUnitary qubits (now (gates .entry)) (now (result .entry))) × (now (work .exit) ≡ withZeros qubits (now (work .entry))) ⌝ }
 {
     let d = power(qubits as u64) as usize;
     let bytes = [0u8; 1];

@@ -1,7 +1,13 @@
 -- Kinds by what their matrices are made of.
 use mathlib.Core.List.{List, [], _∷_}
 use Prim.Native.Nat.{ℕ}
-use Rattle.gate.specs.Gate.{rz, measure, reset, swap, cswap}
+use Rattle.gate.specs.Gate.{rz, measure, reset}
+
+abbrev pub swap : ℕ
+swap = 19
+
+abbrev pub cswap : ℕ
+cswap = 26
 
 -- unitaries on one qubit: h, x, y and sx, and with them the phases
 abbrev pub constants : List ℕ

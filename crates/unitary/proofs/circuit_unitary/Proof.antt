@@ -14,7 +14,13 @@ is-accepted-requires : tie.Need-is-accepted-requires
 is-accepted-requires c κs = search needs
 
 run-unitary-requires : tie.Need-run-unitary-requires
-run-unitary-requires c κs = unitary-accepted (c .before .before .before .before .before .before .args .qubits) (c .before .before .before .before .before .before .args .limits) (c .before .before .before .before .before .before .args .gates .now) (length (c .before .before .before .before .before .before .args .result .now)) (length (c .before .before .before .before .before .before .args .work .now)) (ap accepted (sym (c .before .before .before .before .judge-unitary .ensures)) ∙ sym (c .before .before .before .is-accepted .ensures) ∙ c .before .before .if1 .taken)
+run-unitary-requires c κs =
+    let t = c .before .before in
+    let a = t .before in
+    let j = a .before in
+    let s = j .before .before in
+    unitary-accepted (s .args .qubits) (s .args .limits) (s .args .gates .now) (length (s .args .result .now)) (length (s .args .work .now))
+    (ap accepted (sym (j .judge-unitary .ensures)) ∙ sym (a .is-accepted .ensures) ∙ t .if1 .taken)
 
 same-length : tie.Need-same-length
 same-length c = search needs
@@ -23,10 +29,25 @@ same-length-2 : tie.Need-same-length-2
 same-length-2 c = search needs
 
 returns : tie.Need-returns
-returns c = (c .before .before .before .before .before .before .before .judge-unitary .ensures, after-yes (c .before .before .before .before .before .before .before .before .before .args .qubits) (c .before .before .before .before .before .before .before .before .before .args .limits) (c .before .before .before .before .before .before .before .before .before .args .gates .now) (c .before .before .before .before .before .before .before .before .before .args .result .now) (c .before .before .before .before .before .before .before .before .before .args .work .now) (ap accepted (sym (c .before .before .before .before .before .before .before .judge-unitary .ensures)) ∙ sym (c .before .before .before .before .before .before .is-accepted .ensures) ∙ c .before .before .before .before .before .if1 .taken) (c .before .before .run-unitary .ensures .0) (c .before .before .run-unitary .ensures .1))
+returns c =
+    let t = c .before .before .before .before .before in
+    let a = t .before in
+    let j = a .before in
+    let s = j .before .before in
+    let u = c .before .before in (
+      j .judge-unitary .ensures,
+      after-yes (s .args .qubits) (s .args .limits) (s .args .gates .now) (s .args .result .now) (s .args .work .now)
+          (ap accepted (sym (j .judge-unitary .ensures)) ∙ sym (a .is-accepted .ensures) ∙ t .if1 .taken) (u .run-unitary .ensures .0) (u .run-unitary .ensures .1),
+    )
 
 returns-2 : tie.Need-returns-2
-returns-2 c = (c .before .before .judge-unitary .ensures, after-no (c .before .before .before .before .args .qubits) (c .before .before .before .before .args .limits) (c .before .before .before .before .args .gates .now) (c .before .before .before .before .args .result .now) (c .before .before .before .before .args .work .now) (ap accepted (sym (c .before .before .judge-unitary .ensures)) ∙ sym (c .before .is-accepted .ensures) ∙ c .if1 .left))
+returns-2 c =
+    let a = c .before in
+    let j = a .before in
+    let s = j .before .before in (
+      j .judge-unitary .ensures,
+      after-no (s .args .qubits) (s .args .limits) (s .args .gates .now) (s .args .result .now) (s .args .work .now) (ap accepted (sym (j .judge-unitary .ensures)) ∙ sym (a .is-accepted .ensures) ∙ c .if1 .left),
+    )
 
 pub circuit-unitary-spec : {M : Type 1} → statement M
 circuit-unitary-spec =

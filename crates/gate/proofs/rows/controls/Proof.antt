@@ -6,7 +6,7 @@ use lib.Dec.{eqb}
 use borrow.Author.Needs.{needs}
 use borrow.Author.Tests.{eqb-false}
 use Rattle.algebra.proofs.Tests.{or-no}
-use Rattle.gate.specs.Gate.{swap}
+use Rattle.gate.specs.Inner.Kinds.{swap}
 use Rattle.gate.proofs.Masks.{controls-by, weight-small, first-on, second-on}
 use Rattle.gate.proofs.rows.controls.Statement.{statement}
 use Rattle.gate.proofs.rows.controls.Tie as tie
