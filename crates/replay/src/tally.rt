@@ -55,8 +55,11 @@ impl Tally {
         }
     }
 
-    // One line; a second one names the first case that does not agree. It answers nothing, and no contract can say what is written.
-    pub fn print(self) {
+    // One line for a kind of cases; a second one names the first case that does not agree. It answers nothing, and no contract can say what is written.
+    pub fn print(self, kind: u64) {
+        io::write_all(STDOUT_FILENO, b"kind ");
+        io::print_decimal(STDOUT_FILENO, kind);
+        io::write_all(STDOUT_FILENO, b": ");
         io::print_decimal(STDOUT_FILENO, self.of_rust);
         io::write_all(STDOUT_FILENO, b" agree with the Rust, ");
         io::print_decimal(STDOUT_FILENO, self.of_document);

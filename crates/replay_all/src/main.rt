@@ -1,47 +1,14 @@
 // Replays all recorded answers. The text: how many sections there are; a section is its kind, how many cases it has, and the cases; a case is its
 // source (0 the Rust, 1 document 01), what the calls are given, and what they answered.
-use channels::words_case;
-use circuits::circuit_case;
-use circuits::compare_case;
-use libc::STDOUT_FILENO;
-use listings::listing_case;
-use numbers::phase_case;
-use numbers::scalar_case;
 use replay::record::Record;
 use replay::tally::Tally;
 use replay::text::read;
-
-mod channels;
-mod circuits;
-mod listings;
-mod numbers;
-
-// What the cases of a section ask.
-fn print_kind(kind: u64) {
-    match kind {
-        0 => {
-            io::write_all(STDOUT_FILENO, b"scalar calls: ");
-        }
-        1 => {
-            io::write_all(STDOUT_FILENO, b"phase tests: ");
-        }
-        2 => {
-            io::write_all(STDOUT_FILENO, b"unitaries: ");
-        }
-        3 => {
-            io::write_all(STDOUT_FILENO, b"channels: ");
-        }
-        4 => {
-            io::write_all(STDOUT_FILENO, b"circuits compared: ");
-        }
-        5 => {
-            io::write_all(STDOUT_FILENO, b"channels by their words: ");
-        }
-        _ => {
-            io::write_all(STDOUT_FILENO, b"texts listed: ");
-        }
-    }
-}
+use replay_cases::channels::words_case;
+use replay_cases::circuits::circuit_case;
+use replay_cases::circuits::compare_case;
+use replay_cases::listings::listing_case;
+use replay_cases::numbers::phase_case;
+use replay_cases::numbers::scalar_case;
 
 // A case of this kind, behind its source.
 fn case(
@@ -66,7 +33,7 @@ fn case(
 }
 
 // What was counted, and where the next case begins.
-struct Turn {
+struct Counted {
     tally: Tally,
     next: usize,
 }
@@ -82,10 +49,10 @@ fn turn(
     right: &mut [i64],
     spare: &mut [i64],
     tally: Tally,
-) -> Turn {
+) -> Counted {
     let source = read(text, at);
     let seen = case(kind, text, source.next, bytes, words, left, right, spare);
-    Turn {
+    Counted {
         tally: tally.with(seen, source.size == 0),
         next: seen.next(),
     }
@@ -122,8 +89,7 @@ fn section(
         next = t.next;
         tally = t.tally;
     }
-    print_kind(kind.size);
-    tally.print();
+    tally.print(kind.size);
     next
 }
 
@@ -159,7 +125,7 @@ fn replay_input(
 }
 
 fn main() {
-    let mut text = [0u8; 700000];
+    let mut text = [0u8; 650000];
     let mut bytes = [0u8; 161159];
     let mut words = [0u32; 5200];
     let mut left = [0i64; 656000];

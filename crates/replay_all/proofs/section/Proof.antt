@@ -35,9 +35,6 @@ loop-less c = omega arith
 loop-again : tie.Need-loop-again Inv-loop μ-loop
 loop-again c = search needs
 
-print-kind-requires : tie.Need-print-kind-requires Inv-loop μ-loop
-print-kind-requires c κs = search needs
-
 print-requires : tie.Need-print-requires Inv-loop μ-loop
 print-requires c κs = search needs
 
@@ -73,7 +70,6 @@ section-spec =
     turn-requires
     loop-less
     loop-again
-    print-kind-requires
     print-requires
     same-length
     same-length-2

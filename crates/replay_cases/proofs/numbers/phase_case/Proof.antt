@@ -4,8 +4,8 @@ use native.Mathlib.Omega.{arith}
 use borrow.Author.Needs.{needs}
 use lib.Seq.{length-take-le}
 use Rattle.replay.specs.declared.words.Part.{Part}
-use Rattle.replay_all.proofs.numbers.phase_case.Statement.{statement}
-use Rattle.replay_all.proofs.numbers.phase_case.Tie as tie
+use Rattle.replay_cases.proofs.numbers.phase_case.Statement.{statement}
+use Rattle.replay_cases.proofs.numbers.phase_case.Tie as tie
 
 read-requires : tie.Need-read-requires
 read-requires c κs = search needs

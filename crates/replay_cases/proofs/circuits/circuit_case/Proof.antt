@@ -3,8 +3,8 @@ use mathlib.Core.Path.{sym}
 use native.Mathlib.Omega.{arith}
 use borrow.Author.Needs.{needs}
 use lib.Seq.{length-take-le}
-use Rattle.replay_all.proofs.circuits.circuit_case.Statement.{statement}
-use Rattle.replay_all.proofs.circuits.circuit_case.Tie as tie
+use Rattle.replay_cases.proofs.circuits.circuit_case.Statement.{statement}
+use Rattle.replay_cases.proofs.circuits.circuit_case.Tie as tie
 
 read-circuit-requires : tie.Need-read-circuit-requires
 read-circuit-requires c κs = search needs

@@ -3,8 +3,8 @@ use mathlib.Core.Path.{sym}
 use native.Mathlib.Omega.{arith}
 use borrow.Author.Needs.{needs}
 use lib.Seq.{length-take-le}
-use Rattle.replay_all.proofs.listings.listing_case.Statement.{statement}
-use Rattle.replay_all.proofs.listings.listing_case.Tie as tie
+use Rattle.replay_cases.proofs.listings.listing_case.Statement.{statement}
+use Rattle.replay_cases.proofs.listings.listing_case.Tie as tie
 
 read-requires : tie.Need-read-requires
 read-requires c κs = search needs

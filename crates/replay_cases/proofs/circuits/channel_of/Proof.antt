@@ -2,8 +2,8 @@
 use mathlib.Core.Path.{sym}
 use borrow.Author.Needs.{needs}
 use lib.Seq.{length-take-le}
-use Rattle.replay_all.proofs.circuits.channel_of.Statement.{statement}
-use Rattle.replay_all.proofs.circuits.channel_of.Tie as tie
+use Rattle.replay_cases.proofs.circuits.channel_of.Statement.{statement}
+use Rattle.replay_cases.proofs.circuits.channel_of.Tie as tie
 
 read-circuit-requires : tie.Need-read-circuit-requires
 read-circuit-requires c κs = search needs

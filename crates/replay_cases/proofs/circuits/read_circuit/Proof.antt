@@ -3,8 +3,8 @@ use mathlib.Core.Path.{ap}
 use native.Mathlib.Omega.{arith}
 use borrow.Author.Needs.{needs}
 use Rattle.replay.specs.declared.words.Part.{Part}
-use Rattle.replay_all.proofs.circuits.read_circuit.Statement.{statement}
-use Rattle.replay_all.proofs.circuits.read_circuit.Tie as tie
+use Rattle.replay_cases.proofs.circuits.read_circuit.Statement.{statement}
+use Rattle.replay_cases.proofs.circuits.read_circuit.Tie as tie
 
 read-limits-requires : tie.Need-read-limits-requires
 read-limits-requires c κs = search needs

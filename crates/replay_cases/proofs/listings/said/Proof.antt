@@ -3,8 +3,8 @@ use mathlib.Core.Path.{sym}
 use native.Mathlib.Omega.{arith}
 use borrow.Author.Needs.{needs}
 use lib.Seq.{length-take-le}
-use Rattle.replay_all.proofs.listings.said.Statement.{statement}
-use Rattle.replay_all.proofs.listings.said.Tie as tie
+use Rattle.replay_cases.proofs.listings.said.Statement.{statement}
+use Rattle.replay_cases.proofs.listings.said.Tie as tie
 
 begin-requires : tie.Need-begin-requires
 begin-requires c κs = search needs
