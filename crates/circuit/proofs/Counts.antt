@@ -9,9 +9,10 @@ use lib.ListN.{length}
 use borrow.Author.Tests.{eqb-true, eqb-false, lt-ltb, le-ltb}
 use Rattle.algebra.specs.Lists.{some, total, marks}
 use Rattle.algebra.proofs.Tests.{leb-same}
-use Rattle.gate.specs.Gate.{Gate, elem, gateAt, gatesFrom, gatesOf, splits, weight}
+use Rattle.gate.specs.Gate.{Gate, gateSize, measure, reset, elem, gateAt, gatesFrom, gatesOf, splits, weight}
 use Rattle.gate.proofs.Listed.{gates-more, gates-none, gates-length}
-use Rattle.circuit.specs.Footprint.{writes, newly, footprintOf}
+use Rattle.circuit.specs.Footprint.{writes, footprintOf}
+use Rattle.circuit.specs.Inner.Footprint.{newly}
 
 -- ---- marks
 one-more : (s : Bool) (k : ℕ) → 0 + k + 1 ≡ cond (not s) 1 0 + (k + cond s 1 0)
@@ -51,9 +52,9 @@ module _ {A : Type 0} (f : A → ℕ → Bool) (x : A) (xs : List A) where
           (leb-same (suc b) n (suc b) (suc n) (λ l. omega arith) (λ l. omega arith))
 
 pub marks-more : (m : ℕ) (g : Gate) (gs : List Gate) → marks m writes (g ∷ gs) ≡ newly m g gs + marks m writes gs
-marks-more m g gs = go (eqb (g .kind) 12) refl
+marks-more m g gs = go (eqb (g .kind) measure) refl
   where
-    go : (t : Bool) → eqb (g .kind) 12 ≡ t → marks m writes (g ∷ gs) ≡ newly m g gs + marks m writes gs
+    go : (t : Bool) → eqb (g .kind) measure ≡ t → marks m writes (g ∷ gs) ≡ newly m g gs + marks m writes gs
     go true e = marks-one writes g gs (g .b) (λ i. rw e (or-false (eqb i (g .b)))) m ∙ rw e
     go false e = marks-skip writes g gs (λ i. rw e) m ∙ rw e (omega arith)
 
@@ -63,23 +64,23 @@ at-most-one true = omega arith
 at-most-one false = omega arith
 
 pub splits-one : (g : Gate) → splits g ≤ 1
-splits-one g = at-most-one (elem (g .kind) (12 ∷ 13 ∷ []))
+splits-one g = at-most-one (elem (g .kind) (measure ∷ reset ∷ []))
 
 pub weight-one : (g : Gate) → weight g ≤ 1
 weight-one g = at-most-one (elem (g .kind) (0 ∷ 16 ∷ 25 ∷ []))
 
 pub newly-one : (m : ℕ) (g : Gate) (gs : List Gate) → newly m g gs ≤ 1
-newly-one m g gs = at-most-one (eqb (g .kind) 12 && (ltb (g .b) m && not (some (λ (h : Gate). writes h (g .b)) gs)))
+newly-one m g gs = at-most-one (eqb (g .kind) measure && (ltb (g .b) m && not (some (λ (h : Gate). writes h (g .b)) gs)))
 
 -- ---- gate i of a list of words, and those after it
 module _ (ws : List ℕ) where
   abbrev from : ℕ → List Gate
-  from i = gatesFrom ws i (length ws / 5 - i)
+  from i = gatesFrom ws i (length ws / gateSize - i)
 
   abbrev count : ℕ
-  count = length ws / 5
+  count = length ws / gateSize
 
-  pub written-more : (bit i : ℕ) (g : Gate) (t : Bool) → i < count → g ≡ gateAt ws (i * 5) → t ≡ writes g bit
+  pub written-more : (bit i : ℕ) (g : Gate) (t : Bool) → i < count → g ≡ gateAt ws (i * gateSize) → t ≡ writes g bit
       → some (λ (h : Gate). writes h bit) (from i) ≡ t || some (λ (h : Gate). writes h bit) (from (i + 1))
   written-more bit i g t l e f =
       ap (some (λ (h : Gate). writes h bit)) (gates-more ws count i l)
@@ -108,12 +109,12 @@ module _ (ws : List ℕ) where
   add-front : (a b c d e : ℕ) → a + b ≡ c → b ≡ d + e → a + d + e ≡ c
   add-front a b c d e p q = omega arith
 
-  pub counted-more : {m i s t w : ℕ} → Counted m i s t w → i < count → (g : Gate) → g ≡ gateAt ws (i * 5)
+  pub counted-more : {m i s t w : ℕ} → Counted m i s t w → i < count → (g : Gate) → g ≡ gateAt ws (i * gateSize)
       → (a b c : ℕ) → a ≡ splits g → b ≡ newly m g (from (i + 1)) → c ≡ weight g → Counted m (i + 1) (s + a) (t + b) (w + c)
   counted-more {m} {i} {s} {t} {w} k l g e a b c p q r =
       let x : (v : Gate → ℕ) → total v (from i) ≡ v g + total v (from (i + 1)) = λ v. ap (total v) (gates-more ws count i l) ∙ rw e in
       let y : marks m writes (from i) ≡ newly m g (from (i + 1)) + marks m writes (from (i + 1)) =
-      ap (marks m writes) (gates-more ws count i l) ∙ marks-more m (gateAt ws (i * 5)) (from (i + 1)) ∙ rw e in
+      ap (marks m writes) (gates-more ws count i l) ∙ marks-more m (gateAt ws (i * gateSize)) (from (i + 1)) ∙ rw e in
       let u : a ≤ 1 = rw p (splits-one g) in
       let v : b ≤ 1 = rw q (newly-one m g (from (i + 1))) in
       let o : c ≤ 1 = rw r (weight-one g) in

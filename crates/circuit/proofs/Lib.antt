@@ -1,5 +1,5 @@
 pub mod Counts
 pub mod Products
 pub mod AlongGates
+pub mod Answers
 pub mod Numbers
-pub mod Asked

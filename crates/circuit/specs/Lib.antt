@@ -3,4 +3,4 @@ pub mod Footprint
 pub mod Sizes
 pub mod Questions
 pub mod Claims
-pub mod Asked
+pub mod Inner

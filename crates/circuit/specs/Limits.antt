@@ -22,6 +22,6 @@ matrixCeilings l =
     && (leb (l .«max_multiply_terms») (ceilings .«max_multiply_terms»)
     && leb (l .«max_operations») (ceilings .«max_operations»)))
 
--- so are the other two
+-- the limits on branches and on classical bits are at or below their ceilings
 abbrev pub branchCeilings : Limits → Bool
 branchCeilings l = leb (l .«max_branches») (ceilings .«max_branches») && leb (l .«max_classical_bits») (ceilings .«max_classical_bits»)

@@ -1,12 +1,17 @@
 // How large a circuit's work is, and the formulas of the questions, where their operands are small.
 use crate::footprint::Footprint;
 use crate::limits::Limits;
+use cells::CELL;
 ghost use mathlib.Core.Path.{_≡_};
 ghost use mathlib.Core.Bool.{_&&_};
 ghost use Prim.Native.Nat.{_≤_, _^_, min};
 ghost use lib.Dec.{leb};
-ghost use Rattle.circuit.specs.Questions.{sizesOf, roomFor, Small};
+ghost use Rattle.circuit.specs.Questions.{sizesOf, roomFor, unitaryRoom};
+ghost use Rattle.circuit.specs.Inner.Small.{maxSplits, maxBranches, maxQubits, maxRows, maxGates, Small};
 ghost use Rattle.circuit.specs.Sizes.{cellsNeeded, termsNeeded, resultWords, workWords, unitaryCells, unitaryTerms, unitaryResult, unitaryWork};
+
+// As many splits as make MAX_BRANCHES.
+pub const MAX_SPLITS: u64 = 6;
 
 pub struct Sizes {
     pub branches: u64,
@@ -16,7 +21,7 @@ pub struct Sizes {
 
 // 2^k
 pub fn power(k: u64) -> u64
-    requires { ⌜ k ≤ 6 ⌝ }
+    requires { ⌜ k ≤ maxSplits ⌝ }
     ensures { λ r. ⌜ r ≡ 2 ^ k ⌝ }
 {
     1u64 << k
@@ -29,85 +34,85 @@ fn least(a: u64, b: u64) -> u64
 }
 
 fn square(d: u64) -> u64
-    requires { ⌜ d ≤ 32 ⌝ }
+    requires { ⌜ d ≤ maxRows ⌝ }
     ensures { λ r. ⌜ (r ≡ d ^ 2) × (r ≤ 1024) ⌝ }
 {
     d * d
 }
 
 fn cube(d: u64) -> u64
-    requires { ⌜ d ≤ 32 ⌝ }
+    requires { ⌜ d ≤ maxRows ⌝ }
     ensures { λ r. ⌜ (r ≡ d ^ 3) × (r ≤ 32768) ⌝ }
 {
     d * d * d
 }
 
 fn fourth(d: u64) -> u64
-    requires { ⌜ d ≤ 32 ⌝ }
+    requires { ⌜ d ≤ maxRows ⌝ }
     ensures { λ r. ⌜ (r ≡ d ^ 4) × (r ≤ 1048576) ⌝ }
 {
     d * d * d * d
 }
 
 fn cells_needed(b: u64, v: u64, d: u64) -> u64
-    requires { ⌜ (b ≤ 64) × (v ≤ 64) × (d ≤ 32) ⌝ }
+    requires { ⌜ (b ≤ maxBranches) × (v ≤ maxBranches) × (d ≤ maxRows) ⌝ }
     ensures { λ r. ⌜ r ≡ cellsNeeded b v d ⌝ }
 {
     v * fourth(d) + (3 * b + 8) * square(d)
 }
 
 fn terms_needed(g: u64, b: u64, d: u64) -> u64
-    requires { ⌜ (g ≤ 1024) × (b ≤ 64) × (d ≤ 32) ⌝ }
+    requires { ⌜ (g ≤ maxGates) × (b ≤ maxBranches) × (d ≤ maxRows) ⌝ }
     ensures { λ r. ⌜ r ≡ termsNeeded g b d ⌝ }
 {
     2 * g * b * cube(d) + b * fourth(d)
 }
 
 fn result_words(v: u64, d: u64) -> u64
-    requires { ⌜ (v ≤ 64) × (d ≤ 32) ⌝ }
+    requires { ⌜ (v ≤ maxBranches) × (d ≤ maxRows) ⌝ }
     ensures { λ r. ⌜ r ≡ resultWords v d ⌝ }
 {
-    4 + v * (3 + 5 * fourth(d))
+    4 + v * (3 + CELL as u64 * fourth(d))
 }
 
 fn work_words(b: u64, d: u64) -> u64
-    requires { ⌜ (b ≤ 64) × (d ≤ 32) ⌝ }
+    requires { ⌜ (b ≤ maxBranches) × (d ≤ maxRows) ⌝ }
     ensures { λ r. ⌜ r ≡ workWords b d ⌝ }
 {
-    (2 * b + 2) * (5 * square(d) + 2)
+    (2 * b + 2) * (CELL as u64 * square(d) + 2)
 }
 
 fn unitary_cells(d: u64) -> u64
-    requires { ⌜ d ≤ 32 ⌝ }
+    requires { ⌜ d ≤ maxRows ⌝ }
     ensures { λ r. ⌜ r ≡ unitaryCells d ⌝ }
 {
     8 * square(d)
 }
 
 fn unitary_terms(g: u64, d: u64) -> u64
-    requires { ⌜ (g ≤ 1024) × (d ≤ 32) ⌝ }
+    requires { ⌜ (g ≤ maxGates) × (d ≤ maxRows) ⌝ }
     ensures { λ r. ⌜ r ≡ unitaryTerms g d ⌝ }
 {
     cube(d) * g
 }
 
 fn unitary_result(d: u64) -> u64
-    requires { ⌜ d ≤ 32 ⌝ }
+    requires { ⌜ d ≤ maxRows ⌝ }
     ensures { λ r. ⌜ r ≡ unitaryResult d ⌝ }
 {
-    5 * square(d)
+    CELL as u64 * square(d)
 }
 
 fn unitary_work(d: u64) -> u64
-    requires { ⌜ d ≤ 32 ⌝ }
+    requires { ⌜ d ≤ maxRows ⌝ }
     ensures { λ r. ⌜ r ≡ unitaryWork d ⌝ }
 {
-    4 * (5 * square(d) + 2)
+    4 * (CELL as u64 * square(d) + 2)
 }
 
 impl Sizes {
     pub fn of(f: Footprint, n: u32) -> Sizes
-        requires { ⌜ (f .splits ≤ 6) × (n ≤ 5) ⌝ }
+        requires { ⌜ (f .splits ≤ maxSplits) × (n ≤ maxQubits) ⌝ }
         ensures { λ r. ⌜ (r ≡ sizesOf f n) × Small r ⌝ }
     {
         let written = least(f.splits, f.written);
@@ -120,7 +125,7 @@ impl Sizes {
 
     // Question 8, but for the qubits and the classical bits.
     pub fn is_within(self, gates: u64, l: Limits) -> bool
-        requires { ⌜ Small self × (gates ≤ 1024) ⌝ }
+        requires { ⌜ Small self × (gates ≤ maxGates) ⌝ }
         ensures { λ r. ⌜ r ≡ leb (self .branches) (l .«max_branches») && (leb (cellsNeeded (self .branches) (self .stores) (self .rows)) (l .«max_matrix_cells») && leb (termsNeeded gates (self .branches) (self .rows)) (l .«max_multiply_terms»)) ⌝ }
     {
         let cells = cells_needed(self.branches, self.stores, self.rows);
@@ -142,7 +147,7 @@ impl Sizes {
 
 // circuit_unitary's limits, but for the qubits and the operations: d rows.
 pub fn is_unitary_within(d: u64, gates: u64, l: Limits) -> bool
-    requires { ⌜ (d ≤ 32) × (gates ≤ 1024) ⌝ }
+    requires { ⌜ (d ≤ maxRows) × (gates ≤ maxGates) ⌝ }
     ensures { λ r. ⌜ r ≡ leb (unitaryCells d) (l .«max_matrix_cells») && leb (unitaryTerms gates d) (l .«max_multiply_terms») ⌝ }
 {
     let cells = unitary_cells(d);
@@ -151,8 +156,8 @@ pub fn is_unitary_within(d: u64, gates: u64, l: Limits) -> bool
 }
 
 pub fn has_unitary_room(d: u64, result: u64, work: u64) -> bool
-    requires { ⌜ d ≤ 32 ⌝ }
-    ensures { λ r. ⌜ r ≡ leb (unitaryResult d) result && leb (unitaryWork d) work ⌝ }
+    requires { ⌜ d ≤ maxRows ⌝ }
+    ensures { λ r. ⌜ r ≡ unitaryRoom d result work ⌝ }
 {
     let needed = unitary_result(d);
     let scratch = unitary_work(d);

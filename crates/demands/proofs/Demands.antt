@@ -16,7 +16,7 @@ use Rattle.algebra.proofs.Blocks.{blocks-parts}
 use Rattle.algebra.proofs.Trace.{length-of}
 use Rattle.algebra.proofs.Perm.{Perm, perm-path, perm-sym}
 use Rattle.exact.specs.Exact.{exact, narrow}
-use Rattle.gate.specs.Gate.{Gate, gatesOf}
+use Rattle.gate.specs.Gate.{Gate, gateSize, gatesOf}
 use Rattle.gate.specs.Inner.Entries.{valid}
 use Rattle.gate.proofs.Listed.{gates-length}
 use Rattle.kraus.specs.Branch.{Branch, branches}
@@ -28,14 +28,15 @@ use Rattle.kraus.proofs.Limits.{Kraus, krausExponent}
 use Rattle.circuit.specs.declared.limits.Limits.{Limits}
 use Rattle.circuit.specs.Footprint.{footprintOf}
 use Rattle.verdict.specs.Verdict.{accepted}
-use Rattle.circuit.specs.Questions.{channelVerdict}
+use Rattle.circuit.specs.Questions.{channelQuestions, channelVerdict}
 use Rattle.channel.specs.Layout.{side, readBack}
 use Rattle.collect.specs.Delivered.{overwritten}
 use Rattle.judge.specs.Delivered.{circuitWords, zeroed}
 use Rattle.judge.specs.Call.{worked, accepts, resultAfter}
-use Rattle.circuit.specs.Asked.{asked, decidedBy, ofGates}
-use Rattle.demands.specs.Demands.{zeros, Delivers, Demand1, IsChannel, Demand2, ScheduleOf, itself, reordered, noBlock, SameChannel, Demand3}
-use Rattle.circuit.proofs.Asked.{verdict-first, accepts-all}
+use Rattle.demands.specs.Demands.{ofGates, zeros, Delivers, Demand1, IsChannel, Demand2, ScheduleOf, itself, reordered, noBlock, SameChannel, Demand3}
+use Rattle.verdict.specs.Questions.{Question, firstNo, decidedBy}
+use Rattle.verdict.proofs.Questions.{decided}
+use Rattle.circuit.proofs.Answers.{channel-accepts}
 use Rattle.demands.proofs.Verdicts.{Matching, same-accepts, same-fault, same-refusal}
 use Rattle.demands.proofs.Reading.{SameBlocks, blocks-sym, blocks-stores, blocks-at, compare-same, back, read-alike}
 use Rattle.demands.proofs.Stores.{covers, stores-perm}
@@ -77,8 +78,9 @@ module _ (n m : ℕ) (σ : List ℕ) (l : Limits) (ws : List ℕ) (r w : List �
 
 pub demand1 : Demand1
 demand1 n m σ l ws r w = record {
-  verdict = verdict-first n m σ l ws (length r) (length w);
-  acceptance = accepts-all n m σ l ws (length r) (length w);
+  verdict = refl;
+  refusal = λ xs ys q is e f. ap firstNo is ∙ decided xs ys q e f;
+  acceptance = channel-accepts n m σ l ws (length r) (length w);
   refused = λ e. (ap (λ (b : Bool). cond b (overwritten (circuitWords n m σ (gatesOf ws)) r) r) e, ap (λ (b : Bool). cond b (zeroed (worked n m ws) w) w) e);
   accepted = delivers n m σ l ws r w;
 }
@@ -92,16 +94,16 @@ demand2 n m σ l ws r w e =
 -- ---- demand 3
 matching : (n m : ℕ) {ws vs table : List ℕ} → ScheduleOf ws vs table → Matching n m ws vs
 matching n m (itself h e) = record {
-  fives = ap (λ (us : List ℕ). eqb (length us % 5) 0) e;
-  count = ap (λ (us : List ℕ). length us / 5) e;
+  whole = ap (λ (us : List ℕ). eqb (length us % gateSize) 0) e;
+  count = ap (λ (us : List ℕ). length us / gateSize) e;
   validity = ap (λ (us : List ℕ). every (valid n m) (gatesOf us)) e;
   footprint = ap (λ (us : List ℕ). footprintOf m (gatesOf us)) e;
 }
 matching n m {ws} {vs} (reordered h k sch) =
     let c : Counts n m (gatesOf ws) (gatesOf vs) = schedule-counts n m sch in
     record {
-      fives = eq-eqb (length vs % 5) 0 k ∙ sym (eq-eqb (length ws % 5) 0 h);
-      count = sym (gates-length vs 0 (length vs / 5)) ∙ c .gates ∙ gates-length ws 0 (length ws / 5);
+      whole = eq-eqb (length vs % gateSize) 0 k ∙ sym (eq-eqb (length ws % gateSize) 0 h);
+      count = sym (gates-length vs 0 (length vs / gateSize)) ∙ c .gates ∙ gates-length ws 0 (length ws / gateSize);
       validity = c .accepted;
       footprint = λ i. record { gates = c .gates i; splits = c .splitting i; written = c .measured i; weight = c .heavy i };
     }
@@ -135,9 +137,8 @@ module _ {n m : ℕ} {σ : List ℕ} {gs hs : List Gate} {rg wg rh wh : ℕ} (s 
 pub demand3 : Demand3
 demand3 n m σ l ws vs table sch r w s x p q = record {
   acceptance = acceptance;
-  gates = (λ i. ofGates (decidedBy (asked n m σ l vs (p i) (q i)))) ∙ same-fault n m σ l (length r) (length w) h;
-  refusal = λ e. (λ i. channelVerdict n m σ l vs (p i) (q i)) ∙ verdict-first n m σ l vs (length r) (length w)
-      ∙ same-refusal n m σ l (length r) (length w) h e ∙ sym (verdict-first n m σ l ws (length r) (length w));
+  gates = (λ i. ofGates (decidedBy (channelQuestions n m σ l vs (p i) (q i)))) ∙ same-fault n m σ l (length r) (length w) h;
+  refusal = λ e. (λ i. channelVerdict n m σ l vs (p i) (q i)) ∙ same-refusal n m σ l (length r) (length w) h e;
   channels = λ e. let f : accepts n m σ l vs s x ≡ true = acceptance ∙ e in
       let a = is-sound n m σ l ws r w e in
       let b = is-sound n m σ l vs s x f in
@@ -150,5 +151,5 @@ demand3 n m σ l ws vs table sch r w s x p q = record {
     h = matching n m sch
 
     acceptance : accepts n m σ l vs s x ≡ accepts n m σ l ws r w
-    acceptance = (λ i. accepted (channelVerdict n m σ l vs (p i) (q i))) ∙ accepts-all n m σ l vs (length r) (length w)
-        ∙ same-accepts n m σ l (length r) (length w) h ∙ sym (accepts-all n m σ l ws (length r) (length w))
+    acceptance = (λ i. accepted (channelVerdict n m σ l vs (p i) (q i))) ∙ channel-accepts n m σ l vs (length r) (length w)
+        ∙ same-accepts n m σ l (length r) (length w) h ∙ sym (channel-accepts n m σ l ws (length r) (length w))

@@ -2,7 +2,7 @@
 -- the result r and the work buffer w.
 use mathlib.Core.Path.{_≡_}
 use mathlib.Core.Logic.{_≢_}
-use mathlib.Core.Bool.{true, false}
+use mathlib.Core.Bool.{Bool, true, false}
 use mathlib.Core.List.{List, [], _∷_, _++_, map, foldl}
 use Prim.Native.Nat.{ℕ, zero, suc, _+_, _*_, _%_, _^_, _≤_, _<_}
 use lib.Dec.{eqb}
@@ -14,10 +14,12 @@ use Rattle.algebra.specs.Schedule.{Schedule}
 use Rattle.algebra.specs.Words.{fromBits}
 use Rattle.exact.specs.Exact as scalar
 use Rattle.exact.specs.Exact.{Exact, exact, conj, narrow}
-use Rattle.gate.specs.Gate.{gate, gatesOf, share}
+use Rattle.gate.specs.Gate.{gate, gateSize, gatesOf, elem, share}
 use Rattle.kraus.specs.Branch.{Store, Branch, branches}
 use Rattle.kraus.specs.Blocks.{survivors, stores, block}
+use Rattle.verdict.specs.Questions.{Question, firstNo, decidedBy}
 use Rattle.circuit.specs.declared.limits.Limits.{Limits}
+use Rattle.circuit.specs.Questions.{channelQuestions}
 use Rattle.channel.specs.declared.compare.Found.the-variants.{Same}
 use Rattle.store.specs.Store.{bits}
 use Rattle.channel.specs.Layout.{Block, side, effectOf, dimAt, bitsAt, countAt, readBack}
@@ -25,11 +27,17 @@ use Rattle.channel.specs.WellFormed.{wellFormed}
 use Rattle.channel.specs.Compare.{plain, compareOf}
 use Rattle.judge.specs.Delivered.{circuitWords}
 use Rattle.judge.specs.Call.{worked, verdictOf, accepts, resultAfter, workAfter}
-use Rattle.circuit.specs.Asked.{Question, firstNo, decidedBy, ofGates, asked}
 
 abbrev pub zeros : ℕ → List ℤ
 zeros zero = []
 zeros (suc k) = pos 0 ∷ zeros k
+
+abbrev pub yes : Question → Bool
+yes q = q .answer
+
+-- the questions of a call
+abbrev pub asked : ℕ → ℕ → List ℕ → Limits → List ℕ → List ℤ → List ℤ → List Question
+asked n m σ l ws r w = channelQuestions n m σ l ws (length r) (length w)
 
 -- the words of the channel of a list of gate words
 abbrev pub delivered : ℕ → ℕ → List ℕ → List ℕ → List ℤ
@@ -51,8 +59,9 @@ module _ (n m : ℕ) (σ : List ℕ) (l : Limits) (ws : List ℕ) (r w : List �
 
   pub record Judges : Type 0 where
     -- the first question that is answered by no decides; accepted is what answers each by yes, and nothing else
-    pub verdict : verdictOf n m σ l ws r w ≡ firstNo (asked n m σ l ws (length r) (length w))
-    pub acceptance : accepts n m σ l ws r w ≡ every (λ (q : Question). q .answer) (asked n m σ l ws (length r) (length w))
+    pub verdict : verdictOf n m σ l ws r w ≡ firstNo (asked n m σ l ws r w)
+    pub refusal : (xs ys : List Question) (q : Question) → asked n m σ l ws r w ≡ xs ++ (q ∷ ys) → every yes xs ≡ true → q .answer ≡ false → verdictOf n m σ l ws r w ≡ q .refusal
+    pub acceptance : accepts n m σ l ws r w ≡ every yes (asked n m σ l ws r w)
     pub refused : accepts n m σ l ws r w ≡ false → (resultAfter n m σ l ws r w ≡ r) × (workAfter n m σ l ws r w ≡ w)
     pub accepted : accepts n m σ l ws r w ≡ true → Delivers
 
@@ -85,8 +94,12 @@ Demand2 =
 -- vs has the gates of ws in another order, by a table from new places to old ones: gates that share a qubit or a bit keep their order.
 -- A list that fails question 2 has only itself.
 pub data ScheduleOf (ws vs table : List ℕ) : Type 0 where
-  itself : length ws % 5 ≢ 0 → vs ≡ ws → ScheduleOf ws vs table
-  reordered : length ws % 5 ≡ 0 → length vs % 5 ≡ 0 → Schedule share (gate 0 0 0 0 0) (gatesOf ws) (gatesOf vs) table → ScheduleOf ws vs table
+  itself : length ws % gateSize ≢ 0 → vs ≡ ws → ScheduleOf ws vs table
+  reordered : length ws % gateSize ≡ 0 → length vs % gateSize ≡ 0 → Schedule share (gate 0 0 0 0 0) (gatesOf ws) (gatesOf vs) table → ScheduleOf ws vs table
+
+-- questions 4 to 6 are those of the gates
+abbrev pub ofGates : ℕ → Bool
+ofGates k = elem k (4 ∷ 5 ∷ 6 ∷ [])
 
 abbrev pub noBlock : Block
 noBlock = record { store = 0; entry = λ (k : ℕ). exact .𝟘 }
@@ -105,12 +118,12 @@ pub record SameChannel (l r : List ℤ) : Type 0 where
 -- a circuit with the buffers r and w, and a schedule of it with the buffers s and x
 module _ (n m : ℕ) (σ : List ℕ) (l : Limits) (ws vs : List ℕ) (r w s x : List ℤ) where
   abbrev pub decided : ℕ
-  decided = decidedBy (asked n m σ l ws (length r) (length w))
+  decided = decidedBy (asked n m σ l ws r w)
 
   pub record Alike : Type 0 where
     pub acceptance : accepts n m σ l vs s x ≡ accepts n m σ l ws r w
     -- a question of the gates, 4 to 6, decides for both or for neither; any other refusal is the same
-    pub gates : ofGates (decidedBy (asked n m σ l vs (length s) (length x))) ≡ ofGates decided
+    pub gates : ofGates (decidedBy (asked n m σ l vs s x)) ≡ ofGates decided
     pub refusal : ofGates decided ≡ false → verdictOf n m σ l vs s x ≡ verdictOf n m σ l ws r w
     pub channels : accepts n m σ l ws r w ≡ true → SameChannel (resultAfter n m σ l ws r w) (resultAfter n m σ l vs s x)
 

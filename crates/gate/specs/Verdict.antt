@@ -1,10 +1,11 @@
--- What is found of one gate: the first question that it fails.
-use mathlib.Core.Bool.{Bool, cond, _&&_}
+-- The questions of one gate, by the call that asks them.
+use mathlib.Core.Bool.{Bool, _&&_}
+use mathlib.Core.List.{List, [], _∷_}
 use Prim.Native.Nat.{ℕ}
 use lib.Dec.{eqb, ltb}
 use Rattle.algebra.specs.Lists.{every}
-use Rattle.gate.specs.declared.judge.GateVerdict.{GateVerdict}
-use Rattle.gate.specs.declared.judge.GateVerdict.the-variants.{Fine, Malformed, Operand, Unsupported}
+use Rattle.verdict.specs.declared.Verdict.the-variants.{UnsupportedAt, OperandAt, MalformedAt}
+use Rattle.verdict.specs.Questions.{Question, question}
 use Rattle.gate.specs.declared.judge.Asking.{Asking}
 use Rattle.gate.specs.declared.judge.Asking.the-variants.{Channel, Unitary}
 use Rattle.gate.specs.declared.judge.GateWords.{GateWords}
@@ -14,28 +15,14 @@ use Rattle.gate.specs.Gate.{Gate, gate, qubits, distinct, formed, placed
 abbrev pub gateOf : GateWords → Gate
 gateOf w = gate (w .kind) (w .a) (w .b) (w .c) (w .k)
 
--- document 01's number of it
-abbrev pub faultNumber : GateVerdict → ℕ
-faultNumber Fine = 0
-faultNumber Malformed = 5
-faultNumber Operand = 3
-faultNumber Unsupported = 2
-
--- questions 4, 5 and 6, in order, as answers to each
-abbrev pub firstFault : Bool → Bool → Bool → GateVerdict
-firstFault known fits able = cond known (cond fits (cond able Fine Unsupported) Operand) Malformed
-
-abbrev pub gateVerdict : ℕ → ℕ → Gate → GateVerdict
-gateVerdict n m g = firstFault (formed g) (placed n m g) (supported g)
+-- questions 4 to 6 of gate i, by their answers
+abbrev pub threeAnswers : ℕ → Bool → Bool → Bool → List Question
+threeAnswers i known fits able = question 4 known (MalformedAt i) ∷ question 5 fits (OperandAt i) ∷ question 6 able (UnsupportedAt i) ∷ []
 
 -- circuit_unitary asks no bit count, and holds measure and reset unsupported
 abbrev pub onQubits : ℕ → Gate → Bool
 onQubits n g = every (λ (q : ℕ). ltb q n) (qubits g) && distinct (qubits g)
 
-abbrev pub unitaryGateVerdict : ℕ → Gate → GateVerdict
-unitaryGateVerdict n g = firstFault (formed g) (onQubits n g) (supported g && eqb (splits g) 0)
-
--- by the call that asks
-abbrev pub faultOf : Asking → ℕ → Gate → GateVerdict
-faultOf (Channel m) n g = gateVerdict n m g
-faultOf Unitary n g = unitaryGateVerdict n g
+abbrev pub gateQuestions : Asking → ℕ → ℕ → Gate → List Question
+gateQuestions (Channel m) n i g = threeAnswers i (formed g) (placed n m g) (supported g)
+gateQuestions Unitary n i g = threeAnswers i (formed g) (onQubits n g) (supported g && eqb (splits g) 0)

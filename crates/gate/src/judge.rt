@@ -1,12 +1,18 @@
 // The questions that are asked of one gate, and what it counts for.
+use crate::LAST_KIND;
+use crate::MEASURE;
+use crate::RESET;
+use crate::RZ;
+use verdict::Verdict;
 ghost use mathlib.Core.Path.{_≡_};
 ghost use mathlib.Core.List.{[], _∷_};
 ghost use Prim.Native.Nat.{ℕ, _+_, _≤_};
 ghost use lib.Dec.{eqb};
 ghost use lib.ListN.{length, drop};
 ghost use Rattle.algebra.specs.Lists.{every};
-ghost use Rattle.gate.specs.Gate.{gateAt, arity, elem, bits, formed, placed, supported, weight, splits};
-ghost use Rattle.gate.specs.Verdict.{gateOf, firstFault, onQubits, gateVerdict, unitaryGateVerdict, faultOf};
+ghost use Rattle.gate.specs.Gate.{gateSize, gateAt, arity, elem, bits, formed, placed, supported, weight, splits};
+ghost use Rattle.verdict.specs.Questions.{firstNo};
+ghost use Rattle.gate.specs.Verdict.{gateOf, threeAnswers, onQubits, gateQuestions};
 
 // The five words of a gate.
 pub struct GateWords {
@@ -17,14 +23,6 @@ pub struct GateWords {
     pub k: u32,
 }
 
-// Document 01's numbers: 0 is no fault, Malformed is 5, Operand 3, Unsupported 2.
-pub enum GateVerdict {
-    Fine,
-    Malformed,
-    Operand,
-    Unsupported,
-}
-
 // Which call asks: circuit_channel, with its bit count, or circuit_unitary.
 pub enum Asking {
     Channel(u32),
@@ -33,7 +31,7 @@ pub enum Asking {
 
 // The gate in the five words from `at` on.
 pub fn read_gate(words: &[u32], at: usize) -> GateWords
-    requires { ⌜ at + 5 ≤ length (now words) ⌝ }
+    requires { ⌜ at + gateSize ≤ length (now words) ⌝ }
     ensures { λ r. ⌜ gateOf r ≡ gateAt (now (words .entry)) at ⌝ }
 {
     GateWords {
@@ -49,7 +47,7 @@ pub fn read_gate(words: &[u32], at: usize) -> GateWords
 pub fn qubit_count(kind: u32) -> u32
     ensures { λ r. ⌜ r ≡ arity kind ⌝ }
 {
-    if 26 < kind {
+    if LAST_KIND < kind {
         return 0;
     }
     match kind {
@@ -86,15 +84,15 @@ impl GateWords {
     pub fn is_formed(self) -> bool
         ensures { λ r. ⌜ r ≡ formed (gateOf self) ⌝ }
     {
-        if 26 < self.kind {
+        if LAST_KIND < self.kind {
             return false;
         }
-        if self.kind == 12 {
+        if self.kind == MEASURE {
             return (self.k == 0) & (self.c == 0);
         }
         let used = qubit_count(self.kind);
         let free = are_unused(used, self.a, self.b, self.c);
-        if self.kind == 7 {
+        if self.kind == RZ {
             return (self.k <= 8) & free;
         }
         (self.k == 0) & free
@@ -121,7 +119,7 @@ impl GateWords {
         ensures { λ r. ⌜ r ≡ placed n bits (gateOf self) ⌝ }
     {
         let on = self.is_on_qubits(n);
-        if self.kind == 12 {
+        if self.kind == MEASURE {
             return on & (self.b < bits);
         }
         on
@@ -135,7 +133,7 @@ impl GateWords {
         let angle = (kind == 14)
             | ((kind == 17)
                 | ((kind == 18) | ((kind == 21) | ((kind == 22) | ((kind == 23) | (kind == 24))))));
-        let none = (kind == 7) & (self.k == 8);
+        let none = (kind == RZ) & (self.k == 8);
         !angle & !none
     }
 
@@ -143,7 +141,7 @@ impl GateWords {
     pub fn writes(self, bit: u32) -> bool
         ensures { λ r. ⌜ r ≡ elem bit (bits (gateOf self)) ⌝ }
     {
-        (self.kind == 12) & (bit == self.b)
+        (self.kind == MEASURE) & (bit == self.b)
     }
 
     // h, sx and ch weigh 1.
@@ -163,52 +161,44 @@ impl GateWords {
         ensures { λ r. ⌜ r ≡ splits (gateOf self) ⌝ }
     {
         let kind = self.kind;
-        if (kind == 12) | (kind == 13) { 1 } else { 0 }
+        if (kind == MEASURE) | (kind == RESET) {
+            1
+        } else {
+            0
+        }
     }
 
-    // Questions 4 to 6.
-    pub fn judge(self, n: u32, bits: u32) -> GateVerdict
-        ensures { λ r. ⌜ r ≡ gateVerdict n bits (gateOf self) ⌝ }
+    // Questions 4 to 6 of gate i.
+    pub fn judge(self, i: usize, n: u32, asking: Asking) -> Verdict
+        ensures { λ r. ⌜ r ≡ firstNo (gateQuestions asking n i (gateOf self)) ⌝ }
     {
         let formed = self.is_formed();
-        let placed = self.is_placed(n, bits);
         let supported = self.is_supported();
-        first_fault(formed, placed, supported)
-    }
-
-    // Questions 4 to 6 as circuit_unitary asks them.
-    pub fn judge_unitary(self, n: u32) -> GateVerdict
-        ensures { λ r. ⌜ r ≡ unitaryGateVerdict n (gateOf self) ⌝ }
-    {
-        let formed = self.is_formed();
-        let placed = self.is_on_qubits(n);
-        let supported = self.is_supported();
-        let splits = self.splits();
-        first_fault(formed, placed, supported & (splits == 0))
-    }
-
-    // The first question that it fails.
-    pub fn fault(self, n: u32, asking: Asking) -> GateVerdict
-        ensures { λ r. ⌜ r ≡ faultOf asking n (gateOf self) ⌝ }
-    {
         match asking {
-            Asking::Channel(bits) => self.judge(n, bits),
-            Asking::Unitary => self.judge_unitary(n),
+            Asking::Channel(bits) => {
+                let placed = self.is_placed(n, bits);
+                first_fault(i, formed, placed, supported)
+            }
+            Asking::Unitary => {
+                let placed = self.is_on_qubits(n);
+                let splits = self.splits();
+                first_fault(i, formed, placed, supported & (splits == 0))
+            }
         }
     }
 }
 
-fn first_fault(formed: bool, placed: bool, supported: bool) -> GateVerdict
-    ensures { λ r. ⌜ r ≡ firstFault formed placed supported ⌝ }
+fn first_fault(i: usize, formed: bool, placed: bool, supported: bool) -> Verdict
+    ensures { λ r. ⌜ r ≡ firstNo (threeAnswers i formed placed supported) ⌝ }
 {
     if formed {
         if placed {
             if supported {
-                return GateVerdict::Fine;
+                return Verdict::Accepted;
             }
-            return GateVerdict::Unsupported;
+            return Verdict::UnsupportedAt(i);
         }
-        return GateVerdict::Operand;
+        return Verdict::OperandAt(i);
     }
-    GateVerdict::Malformed
+    Verdict::MalformedAt(i)
 }

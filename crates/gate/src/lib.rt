@@ -7,6 +7,8 @@ pub mod tables;
 pub const GATE: usize = 5;
 
 // Kinds.
+pub const RZ: u32 = 7;
+
 pub const MEASURE: u32 = 12;
 
 pub const RESET: u32 = 13;
@@ -14,3 +16,5 @@ pub const RESET: u32 = 13;
 pub const SWAP: u32 = 19;
 
 pub const CSWAP: u32 = 26;
+
+pub const LAST_KIND: u32 = 26;

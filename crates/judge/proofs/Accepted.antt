@@ -15,7 +15,8 @@ use Rattle.algebra.specs.Lists.{All, every, total, marks}
 use Rattle.algebra.proofs.Tests.{and-split, exhaust, holds-true}
 use Rattle.algebra.proofs.Totals.{sub-whole, sub-filter}
 use Rattle.exact.specs.Exact as scalar
-use Rattle.gate.specs.Gate.{Gate, gatesOf, splits, weight, maxWeight}
+use Rattle.gate.specs.declared.judge.Asking.the-variants.{Channel}
+use Rattle.gate.specs.Gate.{Gate, gateSize, gatesOf, splits, weight, maxWeight}
 use Rattle.gate.specs.Inner.Entries.{valid}
 use Rattle.gate.proofs.Bits.{Word}
 use Rattle.kraus.specs.Branch.{Store, Branch, branches}
@@ -25,20 +26,21 @@ use Rattle.kraus.proofs.Limits.{Enough, krausExponent, circuit-enough, block-fi
 use Rattle.circuit.specs.declared.limits.Limits.{Limits}
 use Rattle.circuit.specs.declared.footprint.Footprint.{Footprint}
 use Rattle.circuit.specs.declared.sizes.Sizes.{Sizes}
-use Rattle.circuit.specs.Limits.{matrixCeilings, branchCeilings}
+use Rattle.circuit.specs.Limits.{ceilings, matrixCeilings, branchCeilings}
 use Rattle.circuit.specs.Footprint.{writes, footprintOf}
 use Rattle.circuit.specs.Sizes.{cellsNeeded, resultWords, workWords}
 use Rattle.store.specs.Store.{storeFits}
 use Rattle.store.proofs.Bytes.{fits-word}
-use Rattle.circuit.specs.Questions.{sizesOf, withinLimits, roomFor}
+use Rattle.circuit.specs.Questions.{gatesQuestions, sizesOf, withinLimits, roomFor, numberQuestions, channelQuestions}
+use Rattle.circuit.specs.Inner.Small.{maxQubits, maxBranches}
 use Rattle.circuit.proofs.Products.{fourth-is}
 use Rattle.channel.specs.Layout.{side, recordSize}
 use Rattle.channel.specs.WellFormed as wf
 use Rattle.collect.specs.Delivered.{blockNo}
 use Rattle.judge.specs.Delivered.{circuitWords}
 use Rattle.judge.specs.Call.{accepts}
-use Rattle.circuit.specs.Asked.{numberQuestions, asked}
-use Rattle.circuit.proofs.Asked.{yes, gates-every, accepts-all}
+use Rattle.circuit.proofs.Answers.{gates-valid, channel-accepts}
+use Rattle.verdict.proofs.Questions.{yes, every-append}
 use Rattle.channel.specs.Claims.{Writable}
 use Rattle.channel.proofs.Written.{length-written}
 use Rattle.judge.proofs.Writable.{blocks-writable}
@@ -47,23 +49,23 @@ use Rattle.judge.proofs.Writable.{blocks-writable}
 pub record Sound (n m : ℕ) (σ : List ℕ) (gs : List Gate) (result work : ℕ) : Type 0 where
   pub valid-gates : every (valid n m) gs ≡ true
   pub qubit-count : n ≤ 4
-  pub bit-count : m ≤ 64
+  pub bit-count : m ≤ ceilings .«max_classical_bits»
   pub bytes : All (λ (v : ℕ). v < 2) σ
   pub byte-count : length σ ≡ m
   pub light : total weight gs ≤ maxWeight
-  pub branch-count : 2 ^ total splits gs ≤ 64
+  pub branch-count : 2 ^ total splits gs ≤ maxBranches
   pub room : resultWords (2 ^ min (total splits gs) (marks m writes gs)) (2 ^ n) ≤ result
   pub workRoom : workWords (2 ^ total splits gs) (2 ^ n) ≤ work
 
 -- four qubits at most: one block of five does not fit the ceiling on cells
-four : (n v x c : ℕ) → n ≤ 5 → 0 < v → v * (2 ^ n) ^ 4 + x ≤ c → c ≤ 262144 → n ≤ 4
+four : (n v x c : ℕ) → n ≤ maxQubits → 0 < v → v * (2 ^ n) ^ 4 + x ≤ c → c ≤ ceilings .«max_matrix_cells» → n ≤ 4
 four n v x c h p q r = go (leb n 4) refl
   where
     go : (b : Bool) → leb n 4 ≡ b → n ≤ 4
     go true e = leb-true n 4 e
     go false e =
-        let is : n ≡ 5 = omega (arith, leb-false n 4 e) in
-        let big : v * 1048576 + x ≤ c = subst (λ (k : ℕ). v * (2 ^ k) ^ 4 + x ≤ c) is q in
+        let is : n ≡ maxQubits = omega (arith, leb-false n 4 e) in
+        let big : v * (2 ^ maxQubits) ^ 4 + x ≤ c = subst (λ (k : ℕ). v * (2 ^ k) ^ 4 + x ≤ c) is q in
         absurd (omega arith)
 
 module _ (n m : ℕ) (σ : List ℕ) (l : Limits) (ws : List ℕ) (r w : List ℤ) (e : accepts n m σ l ws r w ≡ true) where
@@ -78,11 +80,11 @@ module _ (n m : ℕ) (σ : List ℕ) (l : Limits) (ws : List ℕ) (r w : List �
 
   pub sound : Sound n m σ (gatesOf ws) (length r) (length w)
   sound =
-      let all : every yes (asked n m σ l ws (length r) (length w)) ≡ true = sym (accepts-all n m σ l ws (length r) (length w)) ∙ e in
+      let all : every yes (channelQuestions n m σ l ws (length r) (length w)) ≡ true = sym (channel-accepts n m σ l ws (length r) (length w)) ∙ e in
       let q1 = and-split (matrixCeilings l && branchCeilings l) _ all in
-      let q2 = and-split (eqb (length ws % 5) 0) _ (q1 .1) in
-      let q3 = and-split (leb (length ws / 5) (l .«max_operations»)) _ (q2 .1) in
-      let late = and-split (every (valid n m) gs) _ (sym (gates-every n m (numberQuestions n m σ l ws (length r) (length w)) 0 gs) ∙ q3 .1) in
+      let q2 = and-split (eqb (length ws % gateSize) 0) _ (q1 .1) in
+      let q3 = and-split (leb (length ws / gateSize) (l .«max_operations»)) _ (q2 .1) in
+      let late = and-split (every yes (gatesQuestions (Channel m) n 0 gs)) _ (sym (every-append (gatesQuestions (Channel m) n 0 gs) (numberQuestions foot n m σ l (length r) (length w))) ∙ q3 .1) in
       let q7 = and-split (storeFits m σ) _ (late .1) in
       let q8 = and-split (withinLimits foot n m l) _ (q7 .1) in
       let q9 = and-split (leb (total weight gs) maxWeight) _ (q8 .1) in
@@ -90,24 +92,24 @@ module _ (n m : ℕ) (σ : List ℕ) (l : Limits) (ws : List ℕ) (r w : List �
       let bytes = fits-word m σ (q7 .0) in
       let room = and-split (leb (resultWords (sizes .stores) (sizes .rows)) (length r)) _ (q10 .0) in
       let low = and-split (matrixCeilings l) (branchCeilings l) (q1 .0) in
-      let low1 = and-split (leb (l .«max_qubits») 5) _ (low .0) in
-      let low2 = and-split (leb (l .«max_matrix_cells») 262144) _ (low1 .1) in
-      let low3 = and-split (leb (l .«max_branches») 64) _ (low .1) in
+      let low1 = and-split (leb (l .«max_qubits») (ceilings .«max_qubits»)) _ (low .0) in
+      let low2 = and-split (leb (l .«max_matrix_cells») (ceilings .«max_matrix_cells»)) _ (low1 .1) in
+      let low3 = and-split (leb (l .«max_branches») (ceilings .«max_branches»)) _ (low .1) in
       let in1 = and-split (leb m (l .«max_classical_bits»)) _ (q8 .0) in
       let in2 = and-split (leb (sizes .branches) (l .«max_branches»)) _ (in1 .1) in
       let in3 = and-split (leb n (l .«max_qubits»)) _ (in2 .1) in
       let in4 = and-split (leb (cellsNeeded (sizes .branches) (sizes .stores) (sizes .rows)) (l .«max_matrix_cells»)) _ (in3 .1) in
       record {
-        valid-gates = late .0;
+        valid-gates = sym (gates-valid n m 0 gs) ∙ late .0;
         qubit-count =
             four n (sizes .stores) ((3 * sizes .branches + 8) * (2 ^ n) ^ 2) (l .«max_matrix_cells»)
-            (omega (arith, leb-true n (l .«max_qubits») (in3 .0), leb-true (l .«max_qubits») 5 (low1 .0))) (pow-pos (min (foot .splits) (foot .written)))
+            (omega (arith, leb-true n (l .«max_qubits») (in3 .0), leb-true (l .«max_qubits») maxQubits (low1 .0))) (pow-pos (min (foot .splits) (foot .written)))
             (leb-true _ _ (in4 .0)) (leb-true _ _ (low2 .0));
-        bit-count = omega (arith, leb-true m (l .«max_classical_bits») (in1 .0), leb-true (l .«max_classical_bits») 64 (low3 .1));
+        bit-count = omega (arith, leb-true m (l .«max_classical_bits») (in1 .0), leb-true (l .«max_classical_bits») (ceilings .«max_classical_bits») (low3 .1));
         bytes = bytes .1;
         byte-count = bytes .0;
         light = leb-true (total weight gs) maxWeight (q9 .0);
-        branch-count = omega (arith, leb-true (sizes .branches) (l .«max_branches») (in2 .0), leb-true (l .«max_branches») 64 (low3 .0));
+        branch-count = omega (arith, leb-true (sizes .branches) (l .«max_branches») (in2 .0), leb-true (l .«max_branches») maxBranches (low3 .0));
         room = leb-true _ _ (room .0);
         workRoom = leb-true _ _ (room .1);
       }

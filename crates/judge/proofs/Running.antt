@@ -2,7 +2,7 @@
 use mathlib.Core.Path.{_≡_, sym, ap, _∙_, subst, subst₂}
 use mathlib.Core.Bool.{Bool, true, false, cond}
 use mathlib.Core.List.{List, []}
-use Prim.Native.Nat.{ℕ, _+_, _*_, _^_, _≤_, _<_}
+use Prim.Native.Nat.{ℕ, suc, _+_, _*_, _^_, _≤_, _<_}
 use native.Mathlib.Nat.{mul-comm, mul-le-mul}
 use native.Mathlib.Decide.{decLt}
 use native.Mathlib.Omega.{arith}
@@ -20,6 +20,7 @@ use Rattle.branches.specs.Inner.Bank.{branchSize, bankWords, Holds}
 use Rattle.branches.specs.Inner.Run.{workSize, Runs, Ran}
 use Rattle.circuit.specs.declared.limits.Limits.{Limits}
 use Rattle.circuit.specs.Sizes.{workWords}
+use Rattle.circuit.specs.Inner.Small.{maxSplits, maxBranches}
 use Rattle.circuit.proofs.Products.{square-is}
 use Rattle.collect.specs.Bank.{bankIn}
 use Rattle.collect.specs.Delivered.{blockNo, branchesWords, overwritten, Deliverable}
@@ -28,14 +29,14 @@ use Rattle.judge.specs.Delivered.{circuitWords, zeroed}
 use Rattle.judge.specs.Call.{accepts, resultAfter, workAfter}
 use Rattle.judge.proofs.Accepted.{Sound, sound, channel-room}
 use Rattle.channel.proofs.Written.{length-channel}
-use Rattle.judge.specs.Accepted.{Accepted}
+use Rattle.judge.specs.Inner.Accepted.{Accepted}
 
--- at most six splits, since there are at most 64 branches
-six : (s : ℕ) → 2 ^ s ≤ 64 → s ≤ 6
-six s h = go (decLt 6 s)
+-- so many splits make the largest number of branches
+at-most : (s : ℕ) → 2 ^ s ≤ maxBranches → s ≤ maxSplits
+at-most s h = go (decLt maxSplits s)
   where
-    go : Dec (6 < s) → s ≤ 6
-    go (yes p) = absurd (omega (arith, pow-mono {i = 7} {j = s} p))
+    go : Dec (maxSplits < s) → s ≤ maxSplits
+    go (yes p) = absurd (omega (arith, pow-mono {i = suc maxSplits} {j = s} p))
     go (no p) = omega arith
 
 module _ {n m : ℕ} {σ : List ℕ} {ws : List ℕ} {r w : List ℤ} (a : Accepted n m σ ws r w) where
@@ -54,8 +55,8 @@ module _ {n m : ℕ} {σ : List ℕ} {ws : List ℕ} {r w : List ℤ} (a : Accep
   pub few-qubits : n ≤ 4
   few-qubits = known .qubit-count
 
-  pub few-splits : total splits (gatesOf ws) ≤ 6
-  few-splits = six (total splits gs) (known .branch-count)
+  pub few-splits : total splits (gatesOf ws) ≤ maxSplits
+  few-splits = at-most (total splits gs) (known .branch-count)
 
   -- the words of work, as they are counted
   size-is : (d k : ℕ) → workSize d k ≡ workWords k d
@@ -84,7 +85,7 @@ module _ {n m : ℕ} {σ : List ℕ} {ws : List ℕ} {r w : List ℤ} (a : Accep
     pub dim-small : d ≤ 16
     dim-small = omega (arith, pow-mono {i = n} {j = 4} few-qubits)
 
-    pub count-small : k ≤ 64
+    pub count-small : k ≤ maxBranches
     count-small = omega (arith, known .branch-count)
 
     -- ---- after the run: b is the work buffer, and the branches lie at `at`

@@ -1,3 +1,3 @@
 pub mod Delivered
 pub mod Call
-pub mod Accepted
+pub mod Inner

@@ -1,9 +1,8 @@
 // circuit_channel: the ten questions, then the circuit run and its channel delivered.
 use branches::bank::branch_size;
 use branches::run::run_gates;
-use circuit::footprint::Footprint;
 use circuit::limits::Limits;
-use circuit::questions::judge_channel;
+use circuit::questions::judge_circuit;
 use circuit::sizes::power;
 use collect::deliver;
 use matrix::words::clear;
@@ -16,10 +15,11 @@ ghost use Rattle.circuit.specs.Sizes.{workWords};
 ghost use Rattle.collect.specs.Delivered.{overwritten};
 ghost use Rattle.judge.specs.Delivered.{circuitWords, zeroed};
 ghost use Rattle.judge.specs.Call.{verdictOf, resultAfter, workAfter};
-ghost use Rattle.judge.specs.Accepted.{Accepted};
+ghost use Rattle.judge.specs.Inner.Accepted.{Accepted};
 
-// Run an accepted circuit and write its channel; the words of `work` that it takes end as zero.
+// Run an accepted circuit with so many measures and resets, and write its channel; the words of `work` that it takes end as zero.
 fn run_and_deliver(
+    split_count: u64,
     qubits: u32,
     bits: u32,
     store: &[u8],
@@ -27,12 +27,11 @@ fn run_and_deliver(
     result: &mut [i64],
     work: &mut [i64],
 )
-    requires { ⌜ Accepted qubits bits (now store) (now gates) (now result) (now work) ⌝ }
+    requires { ⌜ (split_count ≡ total splits (gatesOf (now gates))) × Accepted qubits bits (now store) (now gates) (now result) (now work) ⌝ }
     ensures { λ _. ⌜ (now (result .exit) ≡ overwritten (circuitWords qubits bits (now (store .entry)) (gatesOf (now (gates .entry)))) (now (result .entry))) × (now (work .exit) ≡ zeroed (workWords (2 ^ total splits (gatesOf (now (gates .entry)))) (2 ^ qubits)) (now (work .entry))) ⌝ }
 {
-    let f = Footprint::of(gates, bits);
     let d = power(qubits as u64) as usize;
-    let banks = power(f.splits) as usize;
+    let banks = power(split_count) as usize;
     let at = run_gates(work, gates, store, qubits, d, banks);
     deliver(result, work, at, d, bits, banks);
     let used = (2 * banks + 2) * branch_size(d);
@@ -55,9 +54,10 @@ pub fn circuit_channel(
 {
     let r = result.len();
     let w = work.len();
-    let v = judge_channel(qubits, bits, store, limits, gates, r as u64, w as u64);
+    let j = judge_circuit(qubits, bits, store, limits, gates, r as u64, w as u64);
+    let v = j.verdict;
     if v.is_accepted() {
-        run_and_deliver(qubits, bits, store, gates, result, work);
+        run_and_deliver(j.splits, qubits, bits, store, gates, result, work);
     }
     v
 }

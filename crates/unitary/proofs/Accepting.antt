@@ -1,7 +1,7 @@
 -- What the acceptance of circuit_unitary says of a circuit, and what the run of an accepted one leaves.
 use mathlib.Core.Path.{_≡_, refl, sym, ap, _∙_, subst}
 use mathlib.Core.Logic.{_≢_}
-use mathlib.Core.Bool.{Bool, true, false, cond, _&&_, true≢false}
+use mathlib.Core.Bool.{Bool, true, false, cond, _&&_, and-true, true≢false}
 use mathlib.Core.List.{List, [], _∷_, _++_, append-assoc}
 use Prim.Native.Nat.{ℕ, suc, _+_, _*_, _/_, _%_, _^_, _≤_}
 use native.Mathlib.Omega.{arith}
@@ -16,22 +16,20 @@ use Rattle.algebra.proofs.Tests.{and-split}
 use Rattle.algebra.proofs.Blocks.{written-over}
 use Rattle.exact.specs.Exact.{exact}
 use Rattle.cells.specs.Cells.{fill, cells, cellSize}
-use Rattle.gate.specs.declared.judge.GateVerdict.{GateVerdict}
-use Rattle.gate.specs.declared.judge.GateVerdict.the-variants.{Fine, Malformed, Operand, Unsupported}
 use Rattle.gate.specs.declared.judge.Asking.the-variants.{Unitary}
-use Rattle.gate.specs.Gate.{Gate, gatesOf, formed, placed, supported, splits, weight, maxWeight, gateSize, measure}
-use Rattle.gate.specs.Verdict.{firstFault, onQubits, faultOf}
+use Rattle.gate.specs.Gate.{Gate, gateSize, measure, gatesOf, formed, placed, supported, splits, weight, maxWeight}
 use Rattle.gate.specs.Inner.Entries.{valid}
+use Rattle.gate.specs.Verdict.{onQubits, gateQuestions}
 use Rattle.gate.proofs.Questions.{placed-other}
 use Rattle.kraus.specs.Branch.{branches}
 use Rattle.circuit.specs.declared.limits.Limits.{Limits}
-use Rattle.verdict.specs.declared.Verdict.{Verdict}
-use Rattle.verdict.specs.declared.Verdict.the-variants.{Accepted as Yes, OverLimit, MalformedAt, OverCeiling, TooHeavy, ShortBuffer}
 use Rattle.circuit.specs.Limits.{matrixCeilings}
 use Rattle.circuit.specs.Sizes.{unitaryResult, unitaryWork}
 use Rattle.verdict.specs.Verdict.{accepted}
-use Rattle.circuit.specs.Questions.{ask, after, atGate, gatesVerdict, unitaryWithin, matrixVerdict, unitaryVerdict}
-use Rattle.circuit.proofs.Numbers.{matrix-low}
+use Rattle.verdict.proofs.Questions.{yes, every-append}
+use Rattle.circuit.specs.Questions.{gatesQuestions, unitaryWithin, unitaryRoom, unitaryQuestions, unitaryVerdict}
+use Rattle.circuit.proofs.Numbers.{matrix-low, lastQuestions}
+use Rattle.circuit.proofs.Answers.{unitary-accepts}
 use Rattle.circuit.proofs.Products.{square-is}
 use Rattle.branches.specs.Inner.Store.{storeWords}
 use Rattle.branches.specs.Inner.Bank.{bankWords}
@@ -42,57 +40,34 @@ use Rattle.unitary.proofs.Branch.{one-branch, all-valid, none-split}
 use Rattle.unitary.proofs.Words.{copied}
 
 -- ---- acceptance
-refuted : {b : Bool} → b ≡ true → b ≡ false → ⊥
-refuted e f = true≢false (sym e ∙ f)
-
-ask-yes : (a : Bool) (v w : Verdict) → accepted v ≡ false → accepted (ask a v w) ≡ true → (a ≡ true) × (accepted w ≡ true)
-ask-yes true v w f e = (refl, e)
-ask-yes false v w f e = absurd (refuted e f)
-
-after-both : (v w : Verdict) → accepted (after v w) ≡ true → (accepted v ≡ true) × (accepted w ≡ true)
-after-both v w e = go (accepted v) refl e
-  where
-    go : (a : Bool) → accepted v ≡ a → accepted (cond a w v) ≡ true → (accepted v ≡ true) × (accepted w ≡ true)
-    go true f e = (f, e)
-    go false f e = absurd (refuted e f)
-
-gate-fine : (i : ℕ) (f : GateVerdict) (rest : Verdict) → accepted (atGate i f rest) ≡ true → (f ≡ Fine) × (accepted rest ≡ true)
-gate-fine i Fine rest e = (refl, e)
-gate-fine i Malformed rest e = absurd (refuted e refl)
-gate-fine i Operand rest e = absurd (refuted e refl)
-gate-fine i Unsupported rest e = absurd (refuted e refl)
-
-fine-unitary : (n : ℕ) (g : Gate) → faultOf Unitary n g ≡ Fine → (valid n 0 g && eqb (splits g) 0) ≡ true
-fine-unitary n g e = go (formed g) refl (onQubits n g) refl (supported g) refl (eqb (splits g) 0) refl e
+-- a gate of which every answer is yes
+gate-unitary : (n : ℕ) (g : Gate) → (formed g && (onQubits n g && (supported g && eqb (splits g) 0))) ≡ true → (valid n 0 g && eqb (splits g) 0) ≡ true
+gate-unitary n g e =
+    let a = and-split (formed g) _ e in
+    let b = and-split (onQubits n g) _ (a .1) in
+    let c = and-split (supported g) _ (b .1) in
+    let o : placed n 0 g ≡ true = sym (placed-other n 0 g true (not-measure (c .1)) (sym (b .0))) in
+    λ i. (a .0 i && (o i && c .0 i)) && c .1 i
   where
     not-measure : eqb (splits g) 0 ≡ true → g .kind ≢ measure
-    not-measure s k = refuted s (ap (λ (m : ℕ). eqb (splits (record { kind = m; a = g .a; b = g .b; c = g .c; k = g .k })) 0) k)
+    not-measure s k = true≢false (sym s ∙ ap (λ (m : ℕ). eqb (splits (record { kind = m; a = g .a; b = g .b; c = g .c; k = g .k })) 0) k)
 
-    go : (a : Bool) → formed g ≡ a → (b : Bool) → onQubits n g ≡ b → (c : Bool) → supported g ≡ c → (d : Bool) → eqb (splits g) 0 ≡ d
-        → firstFault a b (c && d) ≡ Fine → (valid n 0 g && eqb (splits g) 0) ≡ true
-    go true p true q true r true s e =
-        let o : placed n 0 g ≡ true = sym (placed-other n 0 g true (not-measure s) (sym q)) in
-        λ i. (p i && (o i && r i)) && s i
-    go true p true q true r false s e = let z : _≡_ {A = ℕ} 0 1 = cc in absurd (omega arith)
-    go true p true q false r d s e = let z : _≡_ {A = ℕ} 0 1 = cc in absurd (omega arith)
-    go true p false q c r d s e = let z : _≡_ {A = ℕ} 0 1 = cc in absurd (omega arith)
-    go false p b q c r d s e = let z : _≡_ {A = ℕ} 0 1 = cc in absurd (omega arith)
-
-gates-unitary : (n i : ℕ) (gs : List Gate) → accepted (gatesVerdict (faultOf Unitary n) i gs) ≡ true → every (λ (g : Gate). valid n 0 g && eqb (splits g) 0) gs ≡ true
+gates-unitary : (n i : ℕ) (gs : List Gate) → every yes (gatesQuestions Unitary n i gs) ≡ true → every (λ (g : Gate). valid n 0 g && eqb (splits g) 0) gs ≡ true
 gates-unitary n i [] e = refl
 gates-unitary n i (g ∷ gs) e =
-    let a = gate-fine i (faultOf Unitary n g) (gatesVerdict (faultOf Unitary n) (suc i) gs) e in
-    λ j. fine-unitary n g (a .0) j && gates-unitary n (suc i) gs (a .1) j
+    let a = and-split (every yes (gateQuestions Unitary n i g)) _ (sym (every-append (gateQuestions Unitary n i g) (gatesQuestions Unitary n (suc i) gs)) ∙ e) in
+    let b : (formed g && (onQubits n g && (supported g && eqb (splits g) 0))) ≡ true = ap (λ (t : Bool). formed g && (onQubits n g && t)) (sym (and-true _)) ∙ a .0 in
+    λ j. gate-unitary n g b j && gates-unitary n (suc i) gs (a .1) j
 
 pub unitary-accepted : (n : ℕ) (l : Limits) (ws : List ℕ) (result work : ℕ) → accepted (unitaryVerdict n l ws result work) ≡ true → Accepted n (gatesOf ws) result work
 unitary-accepted n l ws result work e =
-    let a = ask-yes (matrixCeilings l) OverCeiling (ask (eqb (length ws % gateSize) 0) (MalformedAt 0) (matrixVerdict n l ws result work)) refl e in
-    let b = ask-yes (eqb (length ws % gateSize) 0) (MalformedAt 0) (matrixVerdict n l ws result work) refl (a .1) in
-    let c = ask-yes (unitaryWithin n (length ws / gateSize) l) OverLimit
-    (after (gatesVerdict (faultOf Unitary n) 0 (gatesOf ws)) (ask light TooHeavy (ask room ShortBuffer Yes))) refl (b .1) in
-    let d = after-both (gatesVerdict (faultOf Unitary n) 0 (gatesOf ws)) (ask light TooHeavy (ask room ShortBuffer Yes)) (c .1) in
-    let f = ask-yes light TooHeavy (ask room ShortBuffer Yes) refl (d .1) in
-    let g = ask-yes room ShortBuffer Yes refl (f .1) in
+    let all : every yes (unitaryQuestions n l ws result work) ≡ true = sym (unitary-accepts n l ws result work) ∙ e in
+    let a = and-split (matrixCeilings l) _ all in
+    let b = and-split (eqb (length ws % gateSize) 0) _ (a .1) in
+    let c = and-split (unitaryWithin n (length ws / gateSize) l) _ (b .1) in
+    let d = and-split (every yes (gatesQuestions Unitary n 0 (gatesOf ws))) _ (sym (every-append (gatesQuestions Unitary n 0 (gatesOf ws)) (lastQuestions n ws result work)) ∙ c .1) in
+    let f = and-split (leb (total weight (gatesOf ws)) maxWeight) _ (d .1) in
+    let g = and-split (unitaryRoom (2 ^ n) result work) _ (f .1) in
     let h = and-split (leb (unitaryResult (2 ^ n)) result) (leb (unitaryWork (2 ^ n)) work) (g .0) in
     let q : n ≤ l .«max_qubits» = leb-true n (l .«max_qubits») (and-split (leb n (l .«max_qubits»)) _ (c .0) .0) in
     record {
@@ -102,12 +77,6 @@ unitary-accepted n l ws result work e =
       result-room = leb-true (unitaryResult (2 ^ n)) result (h .0);
       work-room = leb-true (unitaryWork (2 ^ n)) work (h .1);
     }
-  where
-    light : Bool
-    light = leb (total weight (gatesOf ws)) maxWeight
-
-    room : Bool
-    room = leb (unitaryResult (2 ^ n)) result && leb (unitaryWork (2 ^ n)) work
 
 -- ---- the run
 module _ (n d : ℕ) (ws : List ℕ) (r w : List ℤ) (acc : Accepted n (gatesOf ws) (length r) (length w)) (dim : d ≡ 2 ^ n) where

@@ -6,7 +6,7 @@ use Prim.Native.Nat.{ℕ, _+_, _-_, _/_}
 use native.Mathlib.Omega.{arith}
 use lib.ListN.{length}
 use Rattle.algebra.specs.Lists.{some}
-use Rattle.gate.specs.Gate.{Gate, gatesFrom}
+use Rattle.gate.specs.Gate.{Gate, gateSize, gatesFrom}
 use Rattle.gate.specs.Verdict.{gateOf}
 use Rattle.gate.proofs.Listed.{gates-none}
 use Rattle.circuit.specs.Footprint.{writes}
@@ -15,13 +15,13 @@ use Rattle.circuit.proofs.footprint.is_written.Statement.{statement}
 use Rattle.circuit.proofs.footprint.is_written.Tie as tie
 
 abbrev had : List ℕ → ℕ → ℕ → Bool
-had ws bit i = some (λ (g : Gate). writes g bit) (gatesFrom ws i (length ws / 5 - i))
+had ws bit i = some (λ (g : Gate). writes g bit) (gatesFrom ws i (length ws / gateSize - i))
 
 abbrev Inv-loop : tie.InvT-loop
 Inv-loop words from bit count i₀ i = had words bit from ≡ had words bit i
 
 abbrev μ-loop : tie.MeasureT-loop
-μ-loop words from bit count i₀ i = length words / 5 - i
+μ-loop words from bit count i₀ i = length words / gateSize - i
 
 loop-holds : tie.Need-loop-holds Inv-loop μ-loop
 loop-holds c = refl
@@ -35,8 +35,21 @@ read-gate-requires c κs = omega arith
 writes-requires : tie.Need-writes-requires Inv-loop μ-loop
 writes-requires c κs = tt
 
+-- gate i writes the bit, or the answer is that of the gates after it
+here : (c : tie.After-writes Inv-loop μ-loop) → let p = c .before .before .before in let a = p .before .before .args in
+    had (a .words .now) (a .bit) (a .from) ≡ c .writes .result || had (a .words .now) (a .bit) (p .loop .i + 1)
+here c =
+    let g = c .before in
+    let p = g .before .before in
+    let a = p .before .before .args in
+    p .loop .inv ∙ written-more (a .words .now) (a .bit) (p .loop .i) (gateOf (g .read-gate .result)) (c .writes .result) (g .before .loop-test .taken) (g .read-gate .ensures) (c .writes .ensures)
+
 returns : tie.Need-returns Inv-loop μ-loop
-returns c = sym (c .before .before .before .before .loop .inv ∙ written-more (c .before .before .before .before .before .before .args .words .now) (c .before .before .before .before .before .before .args .bit) (c .before .before .before .before .loop .i) (gateOf (c .before .before .read-gate .result)) (c .before .writes .result) (c .before .before .before .loop-test .taken) (c .before .before .read-gate .ensures) (c .before .writes .ensures) ∙ ap (λ (t : Bool). t || had (c .before .before .before .before .before .before .args .words .now) (c .before .before .before .before .before .before .args .bit) (c .before .before .before .before .loop .i + 1)) (c .if1 .taken))
+returns c =
+    let w = c .before in
+    let p = w .before .before .before in
+    let a = p .before .before .args in
+    sym (here w ∙ ap (λ (t : Bool). t || had (a .words .now) (a .bit) (p .loop .i + 1)) (c .if1 .taken))
 
 add-i : tie.Need-add-i Inv-loop μ-loop
 add-i c = omega arith
@@ -45,10 +58,17 @@ loop-less : tie.Need-loop-less Inv-loop μ-loop
 loop-less c = omega arith
 
 loop-again : tie.Need-loop-again Inv-loop μ-loop
-loop-again c = c .before .before .before .before .loop .inv ∙ written-more (c .before .before .before .before .before .before .args .words .now) (c .before .before .before .before .before .before .args .bit) (c .before .before .before .before .loop .i) (gateOf (c .before .before .read-gate .result)) (c .before .writes .result) (c .before .before .before .loop-test .taken) (c .before .before .read-gate .ensures) (c .before .writes .ensures) ∙ ap (λ (t : Bool). t || had (c .before .before .before .before .before .before .args .words .now) (c .before .before .before .before .before .before .args .bit) (c .before .before .before .before .loop .i + 1)) (c .if1 .left)
+loop-again c =
+    let w = c .before in
+    let p = w .before .before .before in
+    let a = p .before .before .args in
+    here w ∙ ap (λ (t : Bool). t || had (a .words .now) (a .bit) (p .loop .i + 1)) (c .if1 .left)
 
 returns-2 : tie.Need-returns-2 Inv-loop μ-loop
-returns-2 c = sym (c .before .loop .inv ∙ ap (some (λ (g : Gate). writes g (c .before .before .before .args .bit))) (gates-none (c .before .before .before .args .words .now) (length (c .before .before .before .args .words .now) / 5) (c .before .loop .i) (c .loop-test .left)))
+returns-2 c =
+    let p = c .before in
+    let a = p .before .before .args in
+    sym (p .loop .inv ∙ ap (some (λ (g : Gate). writes g (a .bit))) (gates-none (a .words .now) (length (a .words .now) / gateSize) (p .loop .i) (c .loop-test .left)))
 
 pub is-written-spec : {M : Type 1} → statement M
 is-written-spec =

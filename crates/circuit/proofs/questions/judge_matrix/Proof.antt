@@ -1,19 +1,20 @@
--- Each way out is one answer to the questions.
-use mathlib.Core.Path.{refl, sym, ap, _∙_}
-use mathlib.Core.Bool.{true, false}
+-- Each way out is one answer to the last two questions, or the verdict on the gates.
+use mathlib.Core.Path.{_≡_, refl, sym, ap, _∙_}
+use mathlib.Core.Bool.{true}
 use native.Mathlib.Omega.{arith}
 use borrow.Author.Needs.{needs}
 use borrow.Author.Tests.{le-leb, lt-leb}
+use Rattle.verdict.specs.declared.Verdict.{Verdict}
 use Rattle.verdict.specs.Verdict.{accepted}
-use Rattle.circuit.proofs.Numbers.{judged, last, three-asked, unitary-few, unitary-many, unitary-room, unitary-weight, few-gates-small, after-yes, after-no}
+use Rattle.verdict.specs.Questions.{firstNo}
+use Rattle.verdict.proofs.Questions.{after-yes, after-no}
+use Rattle.gate.specs.declared.judge.Asking.the-variants.{Unitary}
+use Rattle.gate.specs.Gate.{gatesOf}
+use Rattle.circuit.specs.Questions.{gatesQuestions, matrixQuestions}
+use Rattle.circuit.proofs.AlongGates.{gates-refuse}
+use Rattle.circuit.proofs.Numbers.{lastQuestions, last-answers, room-found}
 use Rattle.circuit.proofs.questions.judge_matrix.Statement.{statement}
 use Rattle.circuit.proofs.questions.judge_matrix.Tie as tie
-
-power-requires : tie.Need-power-requires
-power-requires c κs = omega (arith, few-gates-small (c .before .before .before .before .args .n) (c .before .before .before .before .args .l) (c .before .before .before .before .args .words .now) (c .before .before .before .before .args .result) (c .before .before .before .before .args .work) (c .before .before .before .before .pre) (c .if1 .taken) .0)
-
-is-unitary-within-requires : tie.Need-is-unitary-within-requires
-is-unitary-within-requires c κs = omega (arith, few-gates-small (c .before .before .before .before .before .args .n) (c .before .before .before .before .before .args .l) (c .before .before .before .before .before .args .words .now) (c .before .before .before .before .before .args .result) (c .before .before .before .before .before .args .work) (c .before .before .before .before .before .pre) (c .before .if1 .taken))
 
 judge-gates-requires : tie.Need-judge-gates-requires
 judge-gates-requires c κs = search needs
@@ -25,41 +26,53 @@ of-requires : tie.Need-of-requires
 of-requires c κs = search needs
 
 has-unitary-room-requires : tie.Need-has-unitary-room-requires
-has-unitary-room-requires c κs = omega (arith, c .before .before .before .before .before .before .before .before .power .ensures, few-gates-small (c .before .before .before .before .before .before .before .before .before .before .before .before .before .args .n) (c .before .before .before .before .before .before .before .before .before .before .before .before .before .args .l) (c .before .before .before .before .before .before .before .before .before .before .before .before .before .args .words .now) (c .before .before .before .before .before .before .before .before .before .before .before .before .before .args .result) (c .before .before .before .before .before .before .before .before .before .before .before .before .before .args .work) (c .before .before .before .before .before .before .before .before .before .before .before .before .before .pre) (c .before .before .before .before .before .before .before .before .before .if1 .taken))
+has-unitary-room-requires c κs = let t = c .before .before .before in omega (arith, t .before .before .before .before .pre .1)
+
+-- the gates are accepted, so the answers to the last two questions decide
+last : (c : tie.After-of) {v : Verdict} → let a = c .before .before .before .before .before .args in
+    v ≡ firstNo (lastQuestions (a .n) (a .words .now) (a .result) (a .work)) → v ≡ firstNo (matrixQuestions (a .n) (a .words .now) (a .result) (a .work))
+last c h =
+    let t = c .before in
+    let g = t .before .before in
+    let a = g .before .before .args in
+    after-yes (gatesQuestions Unitary (a .n) 0 (gatesOf (a .words .now))) (lastQuestions (a .n) (a .words .now) (a .result) (a .work))
+    (gates-refuse Unitary (a .n) 0 (gatesOf (a .words .now))) (g .judge-gates .ensures) (sym (t .before .is-accepted .ensures) ∙ t .if1 .taken) h
 
 returns : tie.Need-returns
 returns c =
-    after-yes (judged (c .before .before .before .before .before .before .before .before .before .before .before .before .before .before .before .args .n) (c .before .before .before .before .before .before .before .before .before .before .before .before .before .before .before .args .l) (c .before .before .before .before .before .before .before .before .before .before .before .before .before .before .before .args .words .now) (c .before .before .before .before .before .before .before .before .before .before .before .before .before .before .before .args .result) (c .before .before .before .before .before .before .before .before .before .before .before .before .before .before .before .args .work)) (last (c .before .before .before .before .before .before .before .before .before .before .before .before .before .before .before .args .n) (c .before .before .before .before .before .before .before .before .before .before .before .before .before .before .before .args .l) (c .before .before .before .before .before .before .before .before .before .before .before .before .before .before .before .args .words .now) (c .before .before .before .before .before .before .before .before .before .before .before .before .before .before .before .args .result) (c .before .before .before .before .before .before .before .before .before .before .before .before .before .before .before .args .work) true true) (ap accepted (sym (c .before .before .before .before .before .before .before .judge-gates .ensures)) ∙ sym (c .before .before .before .before .before .before .is-accepted .ensures) ∙ c .before .before .before .before .before .if3 .taken)
-    ∙ three-asked (c .before .before .before .before .before .before .before .before .before .before .before .before .before .before .before .args .n) (c .before .before .before .before .before .before .before .before .before .before .before .before .before .before .before .args .l) (c .before .before .before .before .before .before .before .before .before .before .before .before .before .before .before .args .words .now) (c .before .before .before .before .before .before .before .before .before .before .before .before .before .before .before .args .result) (c .before .before .before .before .before .before .before .before .before .before .before .before .before .before .before .args .work) (unitary-few (c .before .before .before .before .before .before .before .before .before .before .before .before .before .before .before .args .n) (c .before .before .before .before .before .before .before .before .before .before .before .before .before .before .before .args .l) (c .before .before .before .before .before .before .before .before .before .before .before .before .before .before .before .args .words .now) (c .before .before .before .before .before .before .before .before .before .before .before .before .before .before .before .args .result) (c .before .before .before .before .before .before .before .before .before .before .before .before .before .before .before .args .work) (c .before .before .before .before .before .before .before .before .before .before .power .result) (c .before .before .before .before .before .before .before .before .before .before .power .ensures) (c .before .before .before .before .before .before .before .before .before .before .before .if1 .taken) (c .before .before .before .before .before .before .before .before .before .is-unitary-within .ensures) ∙ c .before .before .before .before .before .before .before .before .if2 .taken) (unitary-weight (c .before .before .before .before .before .before .before .before .before .before .before .before .before .before .before .args .n) (c .before .before .before .before .before .before .before .before .before .before .before .before .before .before .before .args .l) (c .before .before .before .before .before .before .before .before .before .before .before .before .before .before .before .args .words .now) (c .before .before .before .before .before .before .before .before .before .before .before .before .before .before .before .args .result) (c .before .before .before .before .before .before .before .before .before .before .before .before .before .before .before .args .work) 0 (c .before .before .before .before .of .result) (c .before .before .before .before .of .ensures) ∙ le-leb (c .before .before .before .before .of .result .weight) 48 (c .before .before .if4 .taken)) (unitary-room (c .before .before .before .before .before .before .before .before .before .before .before .before .before .before .before .args .n) (c .before .before .before .before .before .before .before .before .before .before .before .before .before .before .before .args .l) (c .before .before .before .before .before .before .before .before .before .before .before .before .before .before .before .args .words .now) (c .before .before .before .before .before .before .before .before .before .before .before .before .before .before .before .args .result) (c .before .before .before .before .before .before .before .before .before .before .before .before .before .before .before .args .work) (c .before .before .before .before .before .before .before .before .before .before .power .result) (c .before .before .before .before .before .before .before .before .before .before .power .ensures) (c .before .has-unitary-room .ensures) ∙ c .if5 .taken)
+    let r = c .before in
+    let o = r .before .before .before in
+    let s = o .before .before .before .before .before in
+    let a = s .args in
+    last o (last-answers (a .n) (a .words .now) (a .result) (a .work) (o .of .ensures) (le-leb _ _ (r .before .if2 .taken))
+    (room-found (a .n) (a .words .now) (a .result) (a .work) (s .pre .0) (r .has-unitary-room .ensures) (c .if3 .taken)))
 
 returns-2 : tie.Need-returns-2
 returns-2 c =
-    after-yes (judged (c .before .before .before .before .before .before .before .before .before .before .before .before .before .before .before .args .n) (c .before .before .before .before .before .before .before .before .before .before .before .before .before .before .before .args .l) (c .before .before .before .before .before .before .before .before .before .before .before .before .before .before .before .args .words .now) (c .before .before .before .before .before .before .before .before .before .before .before .before .before .before .before .args .result) (c .before .before .before .before .before .before .before .before .before .before .before .before .before .before .before .args .work)) (last (c .before .before .before .before .before .before .before .before .before .before .before .before .before .before .before .args .n) (c .before .before .before .before .before .before .before .before .before .before .before .before .before .before .before .args .l) (c .before .before .before .before .before .before .before .before .before .before .before .before .before .before .before .args .words .now) (c .before .before .before .before .before .before .before .before .before .before .before .before .before .before .before .args .result) (c .before .before .before .before .before .before .before .before .before .before .before .before .before .before .before .args .work) true false) (ap accepted (sym (c .before .before .before .before .before .before .before .judge-gates .ensures)) ∙ sym (c .before .before .before .before .before .before .is-accepted .ensures) ∙ c .before .before .before .before .before .if3 .taken)
-    ∙ three-asked (c .before .before .before .before .before .before .before .before .before .before .before .before .before .before .before .args .n) (c .before .before .before .before .before .before .before .before .before .before .before .before .before .before .before .args .l) (c .before .before .before .before .before .before .before .before .before .before .before .before .before .before .before .args .words .now) (c .before .before .before .before .before .before .before .before .before .before .before .before .before .before .before .args .result) (c .before .before .before .before .before .before .before .before .before .before .before .before .before .before .before .args .work) (unitary-few (c .before .before .before .before .before .before .before .before .before .before .before .before .before .before .before .args .n) (c .before .before .before .before .before .before .before .before .before .before .before .before .before .before .before .args .l) (c .before .before .before .before .before .before .before .before .before .before .before .before .before .before .before .args .words .now) (c .before .before .before .before .before .before .before .before .before .before .before .before .before .before .before .args .result) (c .before .before .before .before .before .before .before .before .before .before .before .before .before .before .before .args .work) (c .before .before .before .before .before .before .before .before .before .before .power .result) (c .before .before .before .before .before .before .before .before .before .before .power .ensures) (c .before .before .before .before .before .before .before .before .before .before .before .if1 .taken) (c .before .before .before .before .before .before .before .before .before .is-unitary-within .ensures) ∙ c .before .before .before .before .before .before .before .before .if2 .taken) (unitary-weight (c .before .before .before .before .before .before .before .before .before .before .before .before .before .before .before .args .n) (c .before .before .before .before .before .before .before .before .before .before .before .before .before .before .before .args .l) (c .before .before .before .before .before .before .before .before .before .before .before .before .before .before .before .args .words .now) (c .before .before .before .before .before .before .before .before .before .before .before .before .before .before .before .args .result) (c .before .before .before .before .before .before .before .before .before .before .before .before .before .before .before .args .work) 0 (c .before .before .before .before .of .result) (c .before .before .before .before .of .ensures) ∙ le-leb (c .before .before .before .before .of .result .weight) 48 (c .before .before .if4 .taken)) (unitary-room (c .before .before .before .before .before .before .before .before .before .before .before .before .before .before .before .args .n) (c .before .before .before .before .before .before .before .before .before .before .before .before .before .before .before .args .l) (c .before .before .before .before .before .before .before .before .before .before .before .before .before .before .before .args .words .now) (c .before .before .before .before .before .before .before .before .before .before .before .before .before .before .before .args .result) (c .before .before .before .before .before .before .before .before .before .before .before .before .before .before .before .args .work) (c .before .before .before .before .before .before .before .before .before .before .power .result) (c .before .before .before .before .before .before .before .before .before .before .power .ensures) (c .before .has-unitary-room .ensures) ∙ c .if5 .left)
+    let r = c .before in
+    let o = r .before .before .before in
+    let s = o .before .before .before .before .before in
+    let a = s .args in
+    last o (last-answers (a .n) (a .words .now) (a .result) (a .work) (o .of .ensures) (le-leb _ _ (r .before .if2 .taken))
+    (room-found (a .n) (a .words .now) (a .result) (a .work) (s .pre .0) (r .has-unitary-room .ensures) (c .if3 .left)))
 
 returns-3 : tie.Need-returns-3
 returns-3 c =
-    after-yes (judged (c .before .before .before .before .before .before .before .before .before .before .before .before .before .args .n) (c .before .before .before .before .before .before .before .before .before .before .before .before .before .args .l) (c .before .before .before .before .before .before .before .before .before .before .before .before .before .args .words .now) (c .before .before .before .before .before .before .before .before .before .before .before .before .before .args .result) (c .before .before .before .before .before .before .before .before .before .before .before .before .before .args .work)) (last (c .before .before .before .before .before .before .before .before .before .before .before .before .before .args .n) (c .before .before .before .before .before .before .before .before .before .before .before .before .before .args .l) (c .before .before .before .before .before .before .before .before .before .before .before .before .before .args .words .now) (c .before .before .before .before .before .before .before .before .before .before .before .before .before .args .result) (c .before .before .before .before .before .before .before .before .before .before .before .before .before .args .work) false true) (ap accepted (sym (c .before .before .before .before .before .judge-gates .ensures)) ∙ sym (c .before .before .before .before .is-accepted .ensures) ∙ c .before .before .before .if3 .taken)
-    ∙ three-asked (c .before .before .before .before .before .before .before .before .before .before .before .before .before .args .n) (c .before .before .before .before .before .before .before .before .before .before .before .before .before .args .l) (c .before .before .before .before .before .before .before .before .before .before .before .before .before .args .words .now) (c .before .before .before .before .before .before .before .before .before .before .before .before .before .args .result) (c .before .before .before .before .before .before .before .before .before .before .before .before .before .args .work) (unitary-few (c .before .before .before .before .before .before .before .before .before .before .before .before .before .args .n) (c .before .before .before .before .before .before .before .before .before .before .before .before .before .args .l) (c .before .before .before .before .before .before .before .before .before .before .before .before .before .args .words .now) (c .before .before .before .before .before .before .before .before .before .before .before .before .before .args .result) (c .before .before .before .before .before .before .before .before .before .before .before .before .before .args .work) (c .before .before .before .before .before .before .before .before .power .result) (c .before .before .before .before .before .before .before .before .power .ensures) (c .before .before .before .before .before .before .before .before .before .if1 .taken) (c .before .before .before .before .before .before .before .is-unitary-within .ensures) ∙ c .before .before .before .before .before .before .if2 .taken) (unitary-weight (c .before .before .before .before .before .before .before .before .before .before .before .before .before .args .n) (c .before .before .before .before .before .before .before .before .before .before .before .before .before .args .l) (c .before .before .before .before .before .before .before .before .before .before .before .before .before .args .words .now) (c .before .before .before .before .before .before .before .before .before .before .before .before .before .args .result) (c .before .before .before .before .before .before .before .before .before .before .before .before .before .args .work) 0 (c .before .before .of .result) (c .before .before .of .ensures) ∙ lt-leb (c .before .before .of .result .weight) 48 (c .if4 .left)) refl
+    let o = c .before .before in
+    let a = o .before .before .before .before .before .args in
+    last o (last-answers (a .n) (a .words .now) (a .result) (a .work) (o .of .ensures) (lt-leb _ _ (c .if2 .left)) refl)
 
 returns-4 : tie.Need-returns-4
 returns-4 c =
-    c .before .before .judge-gates .ensures
-    ∙ after-no (judged (c .before .before .before .before .before .before .before .before .before .before .args .n) (c .before .before .before .before .before .before .before .before .before .before .args .l) (c .before .before .before .before .before .before .before .before .before .before .args .words .now) (c .before .before .before .before .before .before .before .before .before .before .args .result) (c .before .before .before .before .before .before .before .before .before .before .args .work)) _ (ap accepted (sym (c .before .before .judge-gates .ensures)) ∙ sym (c .before .is-accepted .ensures) ∙ c .if3 .left)
-    ∙ three-asked (c .before .before .before .before .before .before .before .before .before .before .args .n) (c .before .before .before .before .before .before .before .before .before .before .args .l) (c .before .before .before .before .before .before .before .before .before .before .args .words .now) (c .before .before .before .before .before .before .before .before .before .before .args .result) (c .before .before .before .before .before .before .before .before .before .before .args .work) (unitary-few (c .before .before .before .before .before .before .before .before .before .before .args .n) (c .before .before .before .before .before .before .before .before .before .before .args .l) (c .before .before .before .before .before .before .before .before .before .before .args .words .now) (c .before .before .before .before .before .before .before .before .before .before .args .result) (c .before .before .before .before .before .before .before .before .before .before .args .work) (c .before .before .before .before .before .power .result) (c .before .before .before .before .before .power .ensures) (c .before .before .before .before .before .before .if1 .taken) (c .before .before .before .before .is-unitary-within .ensures) ∙ c .before .before .before .if2 .taken) refl refl
-
-returns-5 : tie.Need-returns-5
-returns-5 c = three-asked (c .before .before .before .before .before .before .before .args .n) (c .before .before .before .before .before .before .before .args .l) (c .before .before .before .before .before .before .before .args .words .now) (c .before .before .before .before .before .before .before .args .result) (c .before .before .before .before .before .before .before .args .work) (unitary-few (c .before .before .before .before .before .before .before .args .n) (c .before .before .before .before .before .before .before .args .l) (c .before .before .before .before .before .before .before .args .words .now) (c .before .before .before .before .before .before .before .args .result) (c .before .before .before .before .before .before .before .args .work) (c .before .before .power .result) (c .before .before .power .ensures) (c .before .before .before .if1 .taken) (c .before .is-unitary-within .ensures) ∙ c .if2 .left) refl refl
-
-returns-6 : tie.Need-returns-6
-returns-6 c = three-asked (c .before .before .before .before .args .n) (c .before .before .before .before .args .l) (c .before .before .before .before .args .words .now) (c .before .before .before .before .args .result) (c .before .before .before .before .args .work) (unitary-many (c .before .before .before .before .args .n) (c .before .before .before .before .args .l) (c .before .before .before .before .args .words .now) (c .before .before .before .before .args .result) (c .before .before .before .before .args .work) (c .if1 .left)) refl refl
+    let g = c .before .before in
+    let a = g .before .before .args in
+    after-no (gatesQuestions Unitary (a .n) 0 (gatesOf (a .words .now))) (lastQuestions (a .n) (a .words .now) (a .result) (a .work))
+    (gates-refuse Unitary (a .n) 0 (gatesOf (a .words .now))) (g .judge-gates .ensures) (sym (c .before .is-accepted .ensures) ∙ c .if1 .left)
 
 pub judge-matrix-spec : {M : Type 1} → statement M
 judge-matrix-spec =
     tie.close
     (tie.spec
-    power-requires
-    is-unitary-within-requires
     judge-gates-requires
     is-accepted-requires
     of-requires
@@ -67,6 +80,4 @@ judge-matrix-spec =
     returns
     returns-2
     returns-3
-    returns-4
-    returns-5
-    returns-6)
+    returns-4)

@@ -51,7 +51,26 @@ returns-14 : tie.Need-returns-14
 returns-14 c =
     let r = c .match .rest in
     let m = c .before .before .args .kind in
-    single-kind m (omega arith) (none-of m several (r .0 .0 .0 .0 .0 .0 .0 .0 .0 .0 .0 .1, (r .0 .0 .0 .0 .0 .0 .0 .0 .0 .0 .1, (r .0 .0 .0 .0 .0 .0 .0 .0 .0 .1, (r .0 .0 .0 .0 .0 .0 .0 .0 .1, (r .0 .0 .0 .0 .0 .0 .0 .1, (r .0 .0 .0 .0 .0 .0 .1, (r .0 .0 .0 .0 .0 .1, (r .0 .0 .0 .0 .1, (r .0 .0 .0 .1, (r .0 .0 .1, (r .0 .1, (r .1, tt)))))))))))))
+    let first = r .0 .0 .0 .0 .0 .0 in
+    single-kind m (omega arith) (none-of m several (
+      first .0 .0 .0 .0 .0 .1,
+      (
+        first .0 .0 .0 .0 .1,
+        (
+          first .0 .0 .0 .1,
+          (
+            first .0 .0 .1,
+            (
+              first .0 .1,
+              (
+                first .1,
+                (r .0 .0 .0 .0 .0 .1, (r .0 .0 .0 .0 .1, (r .0 .0 .0 .1, (r .0 .0 .1, (r .0 .1, (r .1, tt)))))),
+              ),
+            ),
+          ),
+        ),
+      ),
+    ))
 
 pub qubit-count-spec : {M : Type 1} → statement M
 qubit-count-spec =

@@ -1,62 +1,58 @@
 -- `run_and_deliver` meets its contract.
 use mathlib.Core.Path.{_≡_, ap, _∙_}
-use Prim.Native.Nat.{_^_}
+use Prim.Native.Nat.{ℕ, _^_}
 use native.Mathlib.Omega.{arith}
 use borrow.Author.Needs.{needs}
 use Rattle.algebra.specs.Lists.{total}
 use Rattle.gate.specs.Gate.{gatesOf, splits}
-use Rattle.circuit.specs.declared.footprint.Footprint.{Footprint}
 use Rattle.judge.proofs.Running.{few-qubits, few-splits, runs, dim-small, count-small, delivers, delivered, used-small, used-room, cleared}
 use Rattle.judge.proofs.call.run_and_deliver.Statement.{statement}
 use Rattle.judge.proofs.call.run_and_deliver.Tie as tie
 
-of-requires : tie.Need-of-requires
-of-requires c κs = search needs
-
 power-requires : tie.Need-power-requires
-power-requires c κs = omega (arith, few-qubits (c .before .before .before .pre))
+power-requires c κs = omega (arith, few-qubits (c .before .before .pre .1))
 
 power-requires-2 : tie.Need-power-requires-2
-power-requires-2 c κs = let o = c .before in omega (arith, few-splits (o .before .before .before .pre), ap (λ (f : Footprint). f .splits) (o .of .ensures))
+power-requires-2 c κs = let s = c .before .before .before in omega (arith, few-splits (s .pre .1), s .pre .0)
 
 -- how many branches there are
-many : (c : tie.After-power2) → c .power2 .result ≡ 2 ^ total splits (gatesOf (c .before .before .before .before .before .args .gates .now))
-many c = c .power2 .ensures ∙ ap (λ (f : Footprint). 2 ^ f .splits) (c .before .before .of .ensures)
+many : (c : tie.After-power2) → c .power2 .result ≡ 2 ^ total splits (gatesOf (c .before .before .before .before .args .gates .now))
+many c = c .power2 .ensures ∙ ap (λ (k : ℕ). 2 ^ k) (c .before .before .before .before .pre .0)
 
 run-gates-requires : tie.Need-run-gates-requires
-run-gates-requires c κs = let a = c .before in let p = a .before in runs (p .before .before .before .before .pre) (p .power .ensures) (many a)
+run-gates-requires c κs = let a = c .before in let p = a .before in runs (p .before .before .before .pre .1) (p .power .ensures) (many a)
 
 deliver-requires : tie.Need-deliver-requires
 deliver-requires c κs =
     let g = c .before .before .before in
     let a = g .before .before in
     let p = a .before in
-    delivers (p .before .before .before .before .pre) (p .power .ensures) (many a) (g .run-gates .ensures)
+    delivers (p .before .before .before .pre .1) (p .power .ensures) (many a) (g .run-gates .ensures)
 
 mul-used : tie.Need-mul-used
 mul-used c =
     let a = c .before .before .before .before .before .before .before in
     let p = a .before in
-    omega (arith, count-small (p .before .before .before .before .pre) (p .power .ensures) (many a))
+    omega (arith, count-small (p .before .before .before .pre .1) (p .power .ensures) (many a))
 
 add-used : tie.Need-add-used
 add-used c =
     let a = c .before .before .before .before .before .before .before in
     let p = a .before in
-    omega (arith, count-small (p .before .before .before .before .pre) (p .power .ensures) (many a))
+    omega (arith, count-small (p .before .before .before .pre .1) (p .power .ensures) (many a))
 
 branch-size-requires : tie.Need-branch-size-requires
 branch-size-requires c κs =
     let a = c .before .before .before .before .before .before .before in
     let p = a .before in
-    omega (arith, dim-small (p .before .before .before .before .pre) (p .power .ensures) (many a))
+    omega (arith, dim-small (p .before .before .before .pre .1) (p .power .ensures) (many a))
 
 mul-used-2 : tie.Need-mul-used-2
 mul-used-2 c =
     let g = c .before .before .before .before .before .before in
     let a = g .before .before in
     let p = a .before in
-    omega (arith, used-small (p .before .before .before .before .pre) (p .power .ensures) (many a) (g .run-gates .ensures) (c .branch-size .ensures))
+    omega (arith, used-small (p .before .before .before .pre .1) (p .power .ensures) (many a) (g .run-gates .ensures) (c .branch-size .ensures))
 
 clear-requires : tie.Need-clear-requires
 clear-requires c κs =
@@ -64,7 +60,7 @@ clear-requires c κs =
     let g = q .before .before .before .before .before .before in
     let a = g .before .before in
     let p = a .before in
-    omega (arith, used-room (p .before .before .before .before .pre) (p .power .ensures) (many a) (g .run-gates .ensures) (q .branch-size .ensures))
+    omega (arith, used-room (p .before .before .before .pre .1) (p .power .ensures) (many a) (g .run-gates .ensures) (q .branch-size .ensures))
 
 same-length : tie.Need-same-length
 same-length c = search needs
@@ -80,15 +76,14 @@ returns c =
     let g = v .before .before .before .before in
     let a = g .before .before in
     let p = a .before in (
-      delivered (p .before .before .before .before .pre) (p .power .ensures) (many a) (g .run-gates .ensures) (v .deliver .ensures),
-      cleared (p .before .before .before .before .pre) (p .power .ensures) (many a) (g .run-gates .ensures) (q .branch-size .ensures) (z .clear .ensures),
+      delivered (p .before .before .before .pre .1) (p .power .ensures) (many a) (g .run-gates .ensures) (v .deliver .ensures),
+      cleared (p .before .before .before .pre .1) (p .power .ensures) (many a) (g .run-gates .ensures) (q .branch-size .ensures) (z .clear .ensures),
     )
 
 pub run-and-deliver-spec : {M : Type 1} → statement M
 run-and-deliver-spec =
     tie.close
     (tie.spec
-    of-requires
     power-requires
     power-requires-2
     run-gates-requires

@@ -2,7 +2,7 @@
 use Prim.Native.Nat.{_+_, _-_, _/_}
 use native.Mathlib.Omega.{arith}
 use lib.ListN.{length}
-use Rattle.gate.specs.Gate.{gatesFrom}
+use Rattle.gate.specs.Gate.{gateSize, gatesFrom}
 use Rattle.gate.specs.Verdict.{gateOf}
 use Rattle.circuit.proofs.Counts.{Counted, counted-none, counted-more, counted-all, splits-one, newly-one, weight-one}
 use Rattle.circuit.proofs.footprint.Footprint.of.Statement.{statement}
@@ -12,7 +12,7 @@ abbrev Inv-loop : tie.InvT-loop
 Inv-loop words bits count splits₀ written₀ weight₀ i₀ splits written weight i = Counted words bits i splits written weight
 
 abbrev μ-loop : tie.MeasureT-loop
-μ-loop words bits count splits₀ written₀ weight₀ i₀ splits written weight i = length words / 5 - i
+μ-loop words bits count splits₀ written₀ weight₀ i₀ splits written weight i = length words / gateSize - i
 
 loop-holds : tie.Need-loop-holds Inv-loop μ-loop
 loop-holds c = counted-none (c .before .args .words .now) (c .before .args .bits)
@@ -36,7 +36,11 @@ newly-written-requires : tie.Need-newly-written-requires Inv-loop μ-loop
 newly-written-requires c κs = tt
 
 add-written : tie.Need-add-written Inv-loop μ-loop
-add-written c = omega (arith, newly-one (c .before .before .before .before .before .before .args .bits) (gateOf (c .before .before .read-gate .result)) (gatesFrom (c .before .before .before .before .before .before .args .words .now) (c .before .before .before .before .loop .i + 1) (length (c .before .before .before .before .before .before .args .words .now) / 5 - (c .before .before .before .before .loop .i + 1))))
+add-written c =
+    let g = c .before .before in
+    let p = g .before .before in
+    let a = p .before .before .args in
+    omega (arith, newly-one (a .bits) (gateOf (g .read-gate .result)) (gatesFrom (a .words .now) (p .loop .i + 1) (length (a .words .now) / gateSize - (p .loop .i + 1))))
 
 weight-requires : tie.Need-weight-requires Inv-loop μ-loop
 weight-requires c κs = tt
@@ -48,7 +52,11 @@ loop-less : tie.Need-loop-less Inv-loop μ-loop
 loop-less c = omega arith
 
 loop-again : tie.Need-loop-again Inv-loop μ-loop
-loop-again c = counted-more (c .before .before .before .before .before .before .before .args .words .now) (c .before .before .before .before .before .loop .inv) (c .before .before .before .before .loop-test .taken) (gateOf (c .before .before .before .read-gate .result)) (c .before .before .before .read-gate .ensures) (c .before .before .splits .result) (c .before .newly-written .result) (c .weight .result) (c .before .before .splits .ensures) (c .before .newly-written .ensures) (c .weight .ensures)
+loop-again c =
+    let g = c .before .before .before in
+    let p = g .before .before in
+    counted-more (p .before .before .args .words .now) (p .loop .inv) (g .before .loop-test .taken) (gateOf (g .read-gate .result)) (g .read-gate .ensures)
+    (c .before .before .splits .result) (c .before .newly-written .result) (c .weight .result) (c .before .before .splits .ensures) (c .before .newly-written .ensures) (c .weight .ensures)
 
 returns : tie.Need-returns Inv-loop μ-loop
 returns c = counted-all (c .before .before .before .args .words .now) (c .before .loop .inv) (c .loop-test .left)

@@ -4,7 +4,7 @@ use mathlib.Core.Bool.{Bool, true, false, cond, _&&_, or-false}
 use mathlib.Core.List.{[], _∷_}
 use Prim.Native.Nat.{ℕ}
 use lib.Dec.{eqb}
-use Rattle.gate.specs.Gate.{elem}
+use Rattle.gate.specs.Gate.{measure, elem}
 use Rattle.gate.proofs.judge.GateWords.writes.Statement.{statement}
 use Rattle.gate.proofs.judge.GateWords.writes.Tie as tie
 
@@ -13,7 +13,7 @@ one true i b = sym (or-false (eqb i b))
 one false i b = refl
 
 returns : tie.Need-returns
-returns c = one (eqb (c .before .before .args .self .kind) 12) (c .before .before .args .bit) (c .before .before .args .self .b)
+returns c = one (eqb (c .before .before .args .self .kind) measure) (c .before .before .args .bit) (c .before .before .args .self .b)
 
 pub writes-spec : {M : Type 1} → statement M
 writes-spec = tie.close (tie.spec returns)
