@@ -8,16 +8,17 @@ use channel::compare::Found;
 use channel::lookup::locate;
 use scalar::Scalar;
 ghost use mathlib.Core.Path.{_≡_};
+ghost use Rattle.verdict.specs.Verdict.{verdictNumber};
 ghost use Rattle.channel.specs.Compare.{compareOf};
 ghost use Rattle.channel.specs.Lookup.{lookupOf, spanOf};
-ghost use Rattle.effects.specs.Effects.{outcomeNumber, outcomeOf, resultOf};
+ghost use Rattle.effects.specs.Effects.{effectsVerdict, resultOf};
 ghost use Rattle.c_channels.specs.Channels.{findingNumber, placeWords, twoScalars};
 
 fn finding_number(f: Found) -> u32
     ensures { λ r. ⌜ r ≡ findingNumber f ⌝ }
 {
     match f {
-        Found::Refused => 10,
+        Found::Refused(v) => v.number(),
         Found::Same => SAME,
         Found::Dimensions => DIMENSIONS,
         Found::Entry(_) => ENTRY,
@@ -29,7 +30,7 @@ fn place_words(f: Found) -> [u64; 3]
     ensures { λ r. ⌜ r ≡ placeWords f ⌝ }
 {
     match f {
-        Found::Refused => [0; 3],
+        Found::Refused(_) => [0; 3],
         Found::Same => [0; 3],
         Found::Dimensions => [0; 3],
         Found::Entry(p) => [p.store, p.row as u64, p.col as u64],
@@ -67,7 +68,7 @@ pub fn compare(
 
 // The effects of a channel's blocks: the verdict's number.
 pub fn classical_blocks(channel: &[i64], result: &mut [i64]) -> u32
-    ensures { λ r. ⌜ r ≡ outcomeNumber (outcomeOf (now (channel .entry)) (now (result .entry))) ⌝ }
+    ensures { λ r. ⌜ r ≡ verdictNumber (effectsVerdict (now (channel .entry)) (now (result .entry))) ⌝ }
     ensures { λ _. ⌜ now (result .exit) ≡ resultOf (now (channel .entry)) (now (result .entry)) ⌝ }
 {
     let v = effects::classical_blocks(channel, result);

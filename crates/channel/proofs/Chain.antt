@@ -15,7 +15,8 @@ use Rattle.algebra.proofs.Tests.{and-split, all-at}
 use Rattle.cells.specs.Cells.{exponentAt, wellFormedAt}
 use Rattle.store.specs.Store.{maxWord}
 use Rattle.channel.specs.Layout.{headerSize, recordSize, entryPlace, side, word, storeAt, dimAt, bitsAt, countAt}
-use Rattle.channel.specs.WellFormed.{storeOk, rises, recordOk, chainOk, wellFormed, Onward}
+use Rattle.channel.specs.WellFormed.{storeOk, rises, recordOk, chainOk, wellFormed}
+use Rattle.channel.specs.Inner.Shapes.{Onward}
 use Rattle.channel.proofs.Words.{Starts, starts, starts-inside}
 use Rattle.channel.proofs.Judging.{formed, chain-start, chain-record, chain-rest, chain-end}
 

@@ -18,9 +18,9 @@ use Rattle.channel.specs.declared.compare.Found.the-variants.{Refused, S
 use Rattle.channel.specs.declared.compare.Difference.{Difference}
 use Rattle.channel.specs.Layout.{side, dimAt, bitsAt, readBack}
 use Rattle.channel.specs.WellFormed.{wellFormed}
-use Rattle.channel.specs.Compare.{Both, plain, entry, isSame, orElse, scan, first, merge, compareOf}
+use Rattle.channel.specs.Compare.{Both, plain, unless, entry, isSame, orElse, scan, first, merge, compareOf}
 use Rattle.channel.specs.Claims.{entryOf, earlier, Comparable, Agree, SameExactly, swapped, Symmetric, FirstAt, FirstEntry}
-use Rattle.channel.proofs.Judging.{formed}
+use Rattle.channel.proofs.Judging.{formed, verdictBy}
 use Rattle.channel.proofs.Sorted.{sorted, swap, merge-swap, merge-left, merge-right, merge-sorted, lookLeft, lookRight}
 use Rattle.channel.proofs.First.{Compared, alike, differs, compared}
 
@@ -29,7 +29,7 @@ module _ (l r : List ℤ) where
   both = merge (readBack l) (readBack r)
 
   abbrev by : Bool → Bool → Bool → Bool → Difference
-  by p q s t = cond (p && q) (cond (s && t) (first (side (dimAt l)) both) (plain Dimensions)) (plain Refused)
+  by p q s t = unless (verdictBy p) (unless (verdictBy q) (cond (s && t) (first (side (dimAt l)) both) (plain Dimensions)))
 
   module _ (c : Comparable l r) where
     is-first : compareOf l r ≡ first (side (dimAt l)) both
@@ -63,7 +63,7 @@ same-exactly l r c = (to (outcome l r c), from (outcome l r c))
 
 -- the place of an answer
 placeOf : Found → Place
-placeOf Refused = record { store = 0; row = 0; col = 0 }
+placeOf (Refused v) = record { store = 0; row = 0; col = 0 }
 placeOf Same = record { store = 0; row = 0; col = 0 }
 placeOf Dimensions = record { store = 0; row = 0; col = 0 }
 placeOf (Entry p) = p

@@ -9,9 +9,11 @@ use lib.ListN.{length, take, drop}
 use lib.IntN.{ℤ, natAbs}
 use Rattle.algebra.specs.Words.{fromBits}
 use Rattle.channel.specs.Layout.{recordSize, side, word, storeAt, dimAt, bitsAt, countAt}
-use Rattle.channel.specs.WellFormed.{wellFormed, Onward}
+use Rattle.channel.specs.WellFormed.{wellFormed}
+use Rattle.channel.specs.Inner.Shapes.{Onward}
 use Rattle.store.specs.Store.{storeFits}
 use Rattle.channel.specs.Lookup.{Lookup, malformed, wrongStore, missing, found, find, placed, lookupOf, partOf, spanOf}
+use Rattle.channel.proofs.Judging.{verdict-test}
 use Rattle.channel.proofs.Chain.{onward-begin, on-inside, on-next}
 
 -- ---- one step of the walk
@@ -58,13 +60,13 @@ module _ (l : List ℤ) (bs : List ℕ) where
   index = find l (fromBits bs) (countAt l) (natAbs (word l 3))
 
   pub look-malformed : wellFormed l ≡ false → lookupOf l bs ≡ malformed
-  look-malformed e = ap (λ (b : Bool). cond b (cond (storeFits (bitsAt l) bs) (placed index) wrongStore) malformed) e
+  look-malformed e = ap (λ (b : Bool). cond b (cond (storeFits (bitsAt l) bs) (placed index) wrongStore) malformed) (verdict-test (wellFormed l) ∙ e)
 
   pub look-wrong : wellFormed l ≡ true → storeFits (bitsAt l) bs ≡ false → lookupOf l bs ≡ wrongStore
-  look-wrong e f = λ i. cond (e i) (cond (f i) (placed index) wrongStore) malformed
+  look-wrong e f = λ i. cond ((verdict-test (wellFormed l) ∙ e) i) (cond (f i) (placed index) wrongStore) malformed
 
   pub look-placed : wellFormed l ≡ true → storeFits (bitsAt l) bs ≡ true → lookupOf l bs ≡ placed index
-  look-placed e f = λ i. cond (e i) (cond (f i) (placed index) wrongStore) malformed
+  look-placed e f = λ i. cond ((verdict-test (wellFormed l) ∙ e) i) (cond (f i) (placed index) wrongStore) malformed
 
   pub index-inside : wellFormed l ≡ true → (a : ℕ) → index ≡ a → 0 < a → a + recordSize (side (dimAt l)) ≤ length l
   index-inside e = find-inside (fromBits bs) (countAt l) (natAbs (word l 3)) (onward-begin l e)

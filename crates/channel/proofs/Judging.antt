@@ -11,10 +11,14 @@ use borrow.Author.Tests.{leb-true}
 use lib.IntN.{ℤ, pos, natAbs}
 use Rattle.algebra.specs.Words.{eqℤ, upTo}
 use Rattle.algebra.proofs.Tests.{and-split}
+use Rattle.verdict.specs.declared.Verdict.{Verdict}
+use Rattle.verdict.specs.declared.Verdict.the-variants.{Accepted, Malformed}
+use Rattle.verdict.specs.Verdict.{accepted}
 use Rattle.channel.specs.Layout.{headerSize, recordSize, side, word, storeAt, dimAt, bitsAt, countAt}
 use Rattle.channel.specs.declared.Shape.{Shape}
 use Rattle.channel.specs.declared.well_formed.Judged.{Judged}
-use Rattle.channel.specs.WellFormed.{judged, isDim, isStart, recordOk, chainOk, headerOk, chained, wellFormed, Room, shapeAt, shapeOf, noShape}
+use Rattle.channel.specs.WellFormed.{isDim, isStart, recordOk, chainOk, headerOk, chained, wellFormed}
+use Rattle.channel.specs.Inner.Shapes.{judged, Room, shapeAt, shapeOf, noShape, shapeBy}
 use Rattle.store.proofs.Words.{up-abs}
 use Rattle.channel.proofs.Words.{dim-range, square-small}
 
@@ -92,23 +96,31 @@ headed l e =
     fit : (s n k : ℕ) → 1 ≤ s → 4 ≤ k → n ≤ (k - 4) / s → 4 + n * s ≤ k
     fit s n k p h q = let r = le-div-iff-mul-le p .0 q in omega arith
 
-module _ (l : List ℤ) (b : Bool) (h : Shape) (e : h ≡ cond b (shapeAt l) noShape) where
-  pub shape-test : h .ok ≡ b
-  shape-test = ap (λ (s : Shape). s .ok) e ∙ by b
+-- the verdict of a test of the form
+abbrev pub verdictBy : Bool → Verdict
+verdictBy b = cond b Accepted Malformed
+
+pub verdict-test : (b : Bool) → accepted (verdictBy b) ≡ b
+verdict-test true = refl
+verdict-test false = refl
+
+module _ (l : List ℤ) (b : Bool) (h : Shape) (e : h ≡ shapeBy (verdictBy b) l) where
+  pub shape-test : accepted (h .verdict) ≡ b
+  shape-test = ap (λ (s : Shape). accepted (s .verdict)) e ∙ by b
     where
-      by : (b : Bool) → cond b (shapeAt l) noShape .ok ≡ b
+      by : (b : Bool) → accepted (shapeBy (verdictBy b) l .verdict) ≡ b
       by true = refl
       by false = refl
 
-  pub shape-is : h .ok ≡ true → h ≡ shapeAt l
-  shape-is f = e ∙ ap (λ (c : Bool). cond c (shapeAt l) noShape) (sym shape-test ∙ f)
+  pub shape-is : accepted (h .verdict) ≡ true → h ≡ shapeAt l
+  shape-is f = e ∙ ap (λ (c : Bool). shapeBy (verdictBy c) l) (sym shape-test ∙ f)
 
-  pub shape-no : h .ok ≡ false → h ≡ noShape
-  shape-no f = e ∙ ap (λ (c : Bool). cond c (shapeAt l) noShape) (sym shape-test ∙ f)
+  pub shape-no : accepted (h .verdict) ≡ false → h ≡ noShape Malformed
+  shape-no f = e ∙ ap (λ (c : Bool). shapeBy (verdictBy c) l) (sym shape-test ∙ f)
 
 -- the shape by a test that agrees with `wellFormed`
-pub shape-of : (l : List ℤ) (b : Bool) (h : Shape) → h ≡ cond b (shapeAt l) noShape → wellFormed l ≡ b → h ≡ shapeOf l
-shape-of l b h e f = e ∙ ap (λ (c : Bool). cond c (shapeAt l) noShape) (sym f)
+pub shape-of : (l : List ℤ) (b : Bool) (h : Shape) → h ≡ shapeBy (verdictBy b) l → wellFormed l ≡ b → h ≡ shapeOf l
+shape-of l b h e f = e ∙ ap (λ (c : Bool). shapeBy (verdictBy c) l) (sym f)
 
 pub bad-header : (l : List ℤ) → headerOk l ≡ false → wellFormed l ≡ false
 unfolding wellFormed

@@ -14,9 +14,10 @@ use Rattle.channel.specs.declared.compare.Turn.{Turn}
 use Rattle.channel.specs.declared.compare.Cursor.{Cursor}
 use Rattle.store.specs.Store.{before}
 use Rattle.channel.specs.Layout.{recordSize, entryPlace, side, word, storeAt, dimAt, countAt, chain, readBack}
-use Rattle.channel.specs.WellFormed.{wellFormed, Onward}
+use Rattle.channel.specs.WellFormed.{wellFormed}
+use Rattle.channel.specs.Inner.Shapes.{Onward}
 use Rattle.channel.specs.Compare.{Both, isSame, plain, orElse, scan, first, merge}
-use Rattle.channel.specs.Walk.{bothAt, onLeft, onRight, onBoth, turnBy, turnOf, cursorAt, advance, On, Held}
+use Rattle.channel.specs.Inner.Walk.{bothAt, onLeft, onRight, onBoth, turnBy, turnOf, cursorAt, advance, On, Held}
 use Rattle.channel.proofs.Chain.{onward-begin, on-inside, on-exponent, on-next}
 
 abbrev fewer : Bool → ℕ → ℕ

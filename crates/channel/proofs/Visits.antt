@@ -14,7 +14,8 @@ use borrow.Author.Tests.{eq-eqb, ne-eqb, eqb-true}
 use Rattle.algebra.specs.Lists.{All, some, marks}
 use Rattle.store.specs.Store.{before}
 use Rattle.channel.specs.Layout.{headerSize, recordSize, recordAt, side, word, storeAt, entryAt, dimAt, countAt, chain}
-use Rattle.channel.specs.WellFormed.{wellFormed, Onward}
+use Rattle.channel.specs.WellFormed.{wellFormed}
+use Rattle.channel.specs.Inner.Shapes.{Onward}
 use Rattle.channel.specs.Claims.{look, entryOf, places, visits, VisitsOnce}
 use Rattle.store.proofs.Order.{before-irrefl, before-apart}
 use Rattle.channel.proofs.Words.{Starts}

@@ -4,6 +4,8 @@ use mathlib.Core.List.{List, [], _∷_, map}
 use Prim.Native.Nat.{ℕ, zero, suc, _*_, _/_, _%_}
 use lib.Dec.{eqb}
 use lib.IntN.{ℤ}
+use Rattle.verdict.specs.declared.Verdict.{Verdict}
+use Rattle.verdict.specs.Verdict.{accepted}
 use Rattle.exact.specs.Exact.{Exact, exact, equal}
 use Rattle.scalar.specs.Calls.{scalarOf}
 use Rattle.channel.specs.declared.compare.Found.{Found}
@@ -11,14 +13,7 @@ use Rattle.channel.specs.declared.compare.Found.the-variants.{Refused, S
 use Rattle.channel.specs.declared.compare.Difference.{Difference}
 use Rattle.store.specs.Store.{before}
 use Rattle.channel.specs.Layout.{Block, side, dimAt, bitsAt, readBack}
-use Rattle.channel.specs.WellFormed.{wellFormed}
-
--- document 01's number of an answer: 10 is the refusal
-abbrev pub answerNumber : Found → ℕ
-answerNumber Refused = 10
-answerNumber Same = 0
-answerNumber Dimensions = 0
-answerNumber (Entry p) = 0
+use Rattle.channel.specs.WellFormed.{formVerdict}
 
 -- ---- answers
 abbrev pub answer : Found → Exact → Exact → Difference
@@ -31,8 +26,12 @@ plain f = answer f (exact .𝟘) (exact .𝟘)
 abbrev pub entry : ℕ → ℕ → ℕ → Exact → Exact → Difference
 entry s r c x y = answer (Entry (record { store = s; row = r; col = c })) x y
 
+-- the refusal, or what follows where there is none
+abbrev pub unless : Verdict → Difference → Difference
+unless v rest = cond (accepted v) rest (plain (Refused v))
+
 abbrev pub isSame : Found → Bool
-isSame Refused = false
+isSame (Refused v) = false
 isSame Same = true
 isSame Dimensions = false
 isSame (Entry p) = false
@@ -81,6 +80,6 @@ first w (b ∷ bs) = orElse (scan b w (w * w) 0) (first w bs)
 
 abbrev pub compareOf : List ℤ → List ℤ → Difference
 compareOf l r =
-    cond (wellFormed l && wellFormed r)
-    (cond (eqb (dimAt l) (dimAt r) && eqb (bitsAt l) (bitsAt r)) (first (side (dimAt l)) (merge (readBack l) (readBack r))) (plain Dimensions))
-    (plain Refused)
+    unless (formVerdict l)
+    (unless (formVerdict r)
+    (cond (eqb (dimAt l) (dimAt r) && eqb (bitsAt l) (bitsAt r)) (first (side (dimAt l)) (merge (readBack l) (readBack r))) (plain Dimensions)))

@@ -2,5 +2,5 @@ pub mod Layout
 pub mod WellFormed
 pub mod Lookup
 pub mod Compare
-pub mod Walk
+pub mod Inner
 pub mod Claims

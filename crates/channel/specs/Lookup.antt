@@ -6,10 +6,11 @@ use lib.Dec.{eqb}
 use lib.ListN.{take, drop}
 use lib.IntN.{ℤ, natAbs}
 use Rattle.algebra.specs.Words.{fromBits}
+use Rattle.verdict.specs.Verdict.{accepted}
 use Rattle.store.specs.Store.{storeFits}
 use Rattle.channel.specs.declared.lookup.Span.{Span}
 use Rattle.channel.specs.Layout.{recordHead, blockSize, side, word, storeAt, dimAt, bitsAt, countAt}
-use Rattle.channel.specs.WellFormed.{wellFormed}
+use Rattle.channel.specs.WellFormed.{formVerdict}
 
 pub data Lookup : Type 0 where
   malformed : Lookup
@@ -29,7 +30,7 @@ placed (suc a) = found (suc a)
 
 abbrev pub lookupOf : List ℤ → List ℕ → Lookup
 lookupOf l bytes =
-    cond (wellFormed l) (cond (storeFits (bitsAt l) bytes) (placed (find l (fromBits bytes) (countAt l) (natAbs (word l 3)))) wrongStore) malformed
+    cond (accepted (formVerdict l)) (cond (storeFits (bitsAt l) bytes) (placed (find l (fromBits bytes) (countAt l) (natAbs (word l 3)))) wrongStore) malformed
 
 -- the words of a block's entries
 abbrev pub blockWords : List ℤ → ℕ

@@ -1,16 +1,15 @@
 -- Well-formed channels.
-use mathlib.Core.Path.{_≡_}
 use mathlib.Core.Bool.{Bool, true, false, cond, _&&_, _||_}
 use mathlib.Core.List.{List}
-use Prim.Native.Nat.{ℕ, zero, suc, _+_, _*_, _-_, _/_, _%_, _^_, _≤_}
+use Prim.Native.Nat.{ℕ, zero, suc, _+_, _*_, _-_, _/_, _%_, _^_}
 use lib.Dec.{eqb, leb, ltb}
 use lib.ListN.{length}
 use lib.IntN.{ℤ, pos, negsuc, natAbs}
 use Rattle.algebra.specs.Lists.{allBelow}
 use Rattle.algebra.specs.Words.{eqℤ, upTo}
 use Rattle.cells.specs.Cells.{wellFormedAt}
-use Rattle.channel.specs.declared.Shape.{Shape}
-use Rattle.channel.specs.declared.well_formed.Judged.{Judged}
+use Rattle.verdict.specs.declared.Verdict.{Verdict}
+use Rattle.verdict.specs.declared.Verdict.the-variants.{Accepted, Malformed}
 use Rattle.store.specs.Store.{maxWord, storeFrom, before}
 use Rattle.channel.specs.Layout.{headerSize, recordSize, entryPlace, side, word, storeAt, dimAt, bitsAt, countAt}
 
@@ -59,33 +58,6 @@ chained l = chainOk l (side (dimAt l)) (bitsAt l) (countAt l) (countAt l) (word 
 unfoldable pub wellFormed : List ℤ → Bool
 wellFormed l = headerOk l && chained l
 
--- the header's numbers, or zeros where the channel is malformed
-abbrev pub noShape : Shape
-noShape = record { ok = false; dim = 0; bits = 0; count = 0 }
-
-abbrev pub shapeAt : List ℤ → Shape
-shapeAt l = record { ok = true; dim = dimAt l; bits = bitsAt l; count = countAt l }
-
-abbrev pub shapeOf : List ℤ → Shape
-shapeOf l = cond (wellFormed l) (shapeAt l) noShape
-
--- a store, or 0 where the test of its record fails
-abbrev pub judged : Bool → ℕ → Judged
-judged b s = record { ok = b; store = cond b s 0 }
-
--- the header alone
-abbrev pub headerOf : List ℤ → Shape
-headerOf l = cond (headerOk l) (shapeAt l) noShape
-
--- room for `count` records of side w
-pub record Room (l : List ℤ) (w m count : ℕ) : Type 0 where
-  pub width : w ≤ 256
-  pub few : m ≤ 64
-  pub inside : headerSize + count * recordSize w ≤ length l
-
--- a walk along a well-formed chain: n records are left, from index `at` on
-pub record Onward (l : List ℤ) (n at : ℕ) : Type 0 where
-  pub right : wellFormed l ≡ true
-  pub first : Bool
-  pub prev : ℕ
-  pub ahead : chainOk l (side (dimAt l)) (bitsAt l) (countAt l) n (pos at) first prev ≡ true
+-- the verdict on words given as a channel
+abbrev pub formVerdict : List ℤ → Verdict
+formVerdict l = cond (wellFormed l) Accepted Malformed

@@ -7,14 +7,15 @@ use super::well_formed::judge;
 use scalar::Scalar;
 use scalar::ZERO;
 use store::comes_before;
+use verdict::Verdict;
 ghost use mathlib.Core.Path.{_≡_};
 ghost use mathlib.Core.Bool.{true};
 ghost use Prim.Native.Nat.{ℕ, _*_, _<_, _≤_};
 ghost use Rattle.scalar.specs.Calls.{scalarOf};
 ghost use Rattle.channel.specs.Layout.{readBack};
-ghost use Rattle.channel.specs.WellFormed.{Onward};
+ghost use Rattle.channel.specs.Inner.Shapes.{Onward};
 ghost use Rattle.channel.specs.Compare.{isSame, plain, scan, first, merge, compareOf};
-ghost use Rattle.channel.specs.Walk.{sideAt, bothAt, turnOf, cursorAt, advance, On, Held, Matched};
+ghost use Rattle.channel.specs.Inner.Walk.{sideAt, bothAt, turnOf, cursorAt, advance, On, Held, Matched};
 
 // Bit j of a store weighs 2^j.
 pub struct Place {
@@ -23,9 +24,9 @@ pub struct Place {
     pub col: usize,
 }
 
-// Document 01's number of Refused is 10.
+// A refusal has document 01's number; the other answers are none.
 pub enum Found {
-    Refused,
+    Refused(Verdict),
     Same,
     Dimensions,
     Entry(Place),
@@ -68,7 +69,7 @@ fn is_same(d: Difference) -> bool
 {
     let f = d.found;
     match f {
-        Found::Refused => false,
+        Found::Refused(_) => false,
         Found::Same => true,
         Found::Dimensions => false,
         Found::Entry(_) => false,
@@ -213,12 +214,14 @@ pub fn compare(left: &[i64], right: &[i64]) -> Difference
     ensures { λ r. ⌜ r ≡ compareOf (now (left .entry)) (now (right .entry)) ⌝ }
 {
     let g = judge(left);
-    if !g.ok {
-        return without_entry(Found::Refused);
+    let v = g.verdict;
+    if !v.is_accepted() {
+        return without_entry(Found::Refused(v));
     }
     let h = judge(right);
-    if !h.ok {
-        return without_entry(Found::Refused);
+    let u = h.verdict;
+    if !u.is_accepted() {
+        return without_entry(Found::Refused(u));
     }
     if !((g.dim == h.dim) & (g.bits == h.bits)) {
         return without_entry(Found::Dimensions);

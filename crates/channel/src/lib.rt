@@ -4,9 +4,11 @@ pub mod layout;
 pub mod lookup;
 pub mod well_formed;
 
-// The header of a well-formed channel; `ok` is false, and the numbers 0, for any other words.
+use verdict::Verdict;
+
+// The verdict on words given as a channel, and their header; its numbers are 0 where the words are refused.
 pub struct Shape {
-    pub ok: bool,
+    pub verdict: Verdict,
     pub dim: usize,
     pub bits: u32,
     pub count: usize,

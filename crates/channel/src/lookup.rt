@@ -47,7 +47,8 @@ pub fn locate(s: &[i64], store: &[u8]) -> Span
     ensures { λ r. ⌜ r ≡ spanOf (now (s .entry)) (lookupOf (now (s .entry)) (now (store .entry))) ⌝ }
 {
     let h = judge(s);
-    if !h.ok {
+    let v = h.verdict;
+    if !v.is_accepted() {
         return none();
     }
     let m = h.bits;

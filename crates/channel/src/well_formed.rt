@@ -10,13 +10,16 @@ use store::MAX_WORD;
 use store::comes_before;
 use store::fits_bits;
 use store::join;
+use verdict::Verdict;
 ghost use mathlib.Core.Path.{_≡_};
 ghost use mathlib.Core.Bool.{true, false};
 ghost use Prim.Native.Nat.{_+_, _≤_};
 ghost use lib.ListN.{length};
+ghost use Rattle.verdict.specs.declared.Verdict.the-variants.{Malformed};
 ghost use Rattle.store.specs.Store.{storeFrom};
 ghost use Rattle.channel.specs.Layout.{recordHead, recordSize, entryPlace, storeAt, word};
-ghost use Rattle.channel.specs.WellFormed.{judged, isDim, wordsOk, storeOk, entriesOk, recordOk, chainOk, Room, wellFormed, headerOf, shapeOf, noShape};
+ghost use Rattle.channel.specs.WellFormed.{isDim, wordsOk, storeOk, entriesOk, recordOk, chainOk, wellFormed};
+ghost use Rattle.channel.specs.Inner.Shapes.{judged, Room, headerOf, shapeOf, noShape};
 
 // What is found of a record: its store, or `ok` false and 0.
 struct Judged {
@@ -125,10 +128,10 @@ fn chain_ok(s: &[i64], w: usize, m: u32, count: usize) -> bool
 }
 
 fn malformed() -> Shape
-    ensures { λ r. ⌜ r ≡ noShape ⌝ }
+    ensures { λ r. ⌜ r ≡ noShape Malformed ⌝ }
 {
     Shape {
-        ok: false,
+        verdict: Verdict::Malformed,
         dim: 0,
         bits: 0,
         count: 0,
@@ -155,19 +158,20 @@ fn header(s: &[i64]) -> Shape
         return malformed();
     }
     Shape {
-        ok: true,
+        verdict: Verdict::Accepted,
         dim: d,
         bits: bits as u32,
         count: count as usize,
     }
 }
 
-// The header of a well-formed channel.
+// The verdict on words given as a channel, and their header. A refusal is told apart here alone.
 pub fn judge(s: &[i64]) -> Shape
     ensures { λ r. ⌜ r ≡ shapeOf (now (s .entry)) ⌝ }
 {
     let h = header(s);
-    if !h.ok {
+    let v = h.verdict;
+    if !v.is_accepted() {
         return h;
     }
     let d = h.dim;
@@ -181,5 +185,6 @@ pub fn well_formed(s: &[i64]) -> bool
     ensures { λ r. ⌜ r ≡ wellFormed (now (s .entry)) ⌝ }
 {
     let h = judge(s);
-    h.ok
+    let v = h.verdict;
+    v.is_accepted()
 }

@@ -9,7 +9,8 @@ use lib.ListN.{length}
 use lib.IntN.{ℤ, pos, natAbs}
 use Rattle.cells.proofs.Cell.{length-cells}
 use Rattle.channel.specs.Layout.{headerSize, recordSize, recordAt, side, word, dimAt, countAt}
-use Rattle.channel.specs.WellFormed.{wellFormed, Onward}
+use Rattle.channel.specs.WellFormed.{wellFormed}
+use Rattle.channel.specs.Inner.Shapes.{Onward}
 use Rattle.channel.proofs.Judging.{formed}
 use Rattle.channel.proofs.Chain.{onward-begin, first-index, chain-from, on-inside, on-entry, on-index, on-next}
 use Rattle.channel.proofs.Visits.{each-record}

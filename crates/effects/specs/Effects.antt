@@ -9,19 +9,13 @@ use lib.IntN.{ℤ, pos, negsuc}
 use Rattle.algebra.specs.Sum.{sum}
 use Rattle.algebra.specs.Lists.{allBelow}
 use Rattle.algebra.specs.Words.{blocks}
+use Rattle.verdict.specs.declared.Verdict.{Verdict}
+use Rattle.verdict.specs.declared.Verdict.the-variants.{Accepted, ShortBuffer, TooLarge}
+use Rattle.verdict.specs.Verdict.{accepted}
 use Rattle.exact.specs.Exact.{Exact, exact, inRange}
 use Rattle.cells.specs.Cells.{cells}
 use Rattle.channel.specs.Layout.{headerSize, recordSize, recordAt, side, word, entryAt, effectPlace, effectOf, dimAt, countAt}
-use Rattle.channel.specs.WellFormed.{wellFormed}
-use Rattle.effects.specs.declared.Outcome.{Outcome}
-use Rattle.effects.specs.declared.Outcome.the-variants.{Written, ShortBuffer, TooLarge, Malformed}
-
--- document 01's number of an outcome
-abbrev pub outcomeNumber : Outcome → ℕ
-outcomeNumber Written = 0
-outcomeNumber ShortBuffer = 8
-outcomeNumber TooLarge = 9
-outcomeNumber Malformed = 10
+use Rattle.channel.specs.WellFormed.{formVerdict}
 
 -- ---- the effect of the block at `at`, of a channel of dimension d
 -- block entry (o·d + r, o·d + c), for i = r·d + c
@@ -67,17 +61,15 @@ abbrev pub effectsWords : List ℤ → List ℤ → List ℤ
 effectsWords l res = withRecords l (dimAt l) (countAt l) (sets res 0 (effectHeader l (dimAt l)))
 
 -- ---- the call's answer, and what it leaves in the result
-abbrev pub outcomeOf : List ℤ → List ℤ → Outcome
-outcomeOf l res =
-    cond (wellFormed l)
-    (cond (leb (headerSize + countAt l * recordSize (dimAt l)) (length res)) (cond (sumsFit l (dimAt l) (countAt l)) Written TooLarge) ShortBuffer)
-    Malformed
+abbrev pub effectsVerdict : List ℤ → List ℤ → Verdict
+effectsVerdict l res =
+    cond (accepted (formVerdict l))
+    (cond (leb (headerSize + countAt l * recordSize (dimAt l)) (length res)) (cond (sumsFit l (dimAt l) (countAt l)) Accepted TooLarge) ShortBuffer)
+    (formVerdict l)
 
-abbrev pub resultBy : Outcome → List ℤ → List ℤ → List ℤ
-resultBy Written l res = effectsWords l res
-resultBy ShortBuffer l res = res
-resultBy TooLarge l res = res
-resultBy Malformed l res = res
+-- a refusal leaves the result as it was
+abbrev pub resultBy : Verdict → List ℤ → List ℤ → List ℤ
+resultBy v l res = cond (accepted v) (effectsWords l res) res
 
 abbrev pub resultOf : List ℤ → List ℤ → List ℤ
-resultOf l res = resultBy (outcomeOf l res) l res
+resultOf l res = resultBy (effectsVerdict l res) l res

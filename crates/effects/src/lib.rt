@@ -21,29 +21,8 @@ ghost use Rattle.scalar.specs.Calls.{accepted, refusedWith};
 ghost use Rattle.verdict.specs.declared.Verdict.the-variants.{TooLarge};
 ghost use Rattle.cells.specs.Cells.{fill};
 ghost use Rattle.channel.specs.Layout.{headerSize, blockSize, recordSize, word};
-ghost use Rattle.effects.specs.Effects.{outcomeNumber, termPlace, term, effectAt, partialsFit, recordFits, sumsFit, relink, effectHeader, effectRecord, withRecords, outcomeOf, resultOf};
+ghost use Rattle.effects.specs.Effects.{termPlace, term, effectAt, partialsFit, recordFits, sumsFit, relink, effectHeader, effectRecord, withRecords, effectsVerdict, resultOf};
 ghost use Rattle.effects.specs.Readable.{Dim, Readable, Records, Linked};
-
-// Document 01's numbers: Written is 0, ShortBuffer 8, TooLarge 9, Malformed 10.
-pub enum Outcome {
-    Written,
-    ShortBuffer,
-    TooLarge,
-    Malformed,
-}
-
-impl Outcome {
-    pub fn number(self) -> u32
-        ensures { λ r. ⌜ r ≡ outcomeNumber self ⌝ }
-    {
-        match self {
-            Outcome::Written => 0,
-            Outcome::ShortBuffer => 8,
-            Outcome::TooLarge => 9,
-            Outcome::Malformed => 10,
-        }
-    }
-}
 
 // The place in a block of its entry (o·d + r, o·d + c), for i = r·d + c.
 fn term_place(d: usize, i: usize, o: usize) -> usize
@@ -194,24 +173,25 @@ fn write_header(s: &[i64], d: usize, result: &mut [i64])
 
 // The effect of each store's block, d² entries each, in the channel's own order: entry (r, c) sums block entry (o·d + r, o·d + c)
 // over o from 0 up. A refusal leaves the result as it was.
-pub fn classical_blocks(channel: &[i64], result: &mut [i64]) -> Outcome
-    ensures verdict { λ r. ⌜ r ≡ outcomeOf (now (channel .entry)) (now (result .entry)) ⌝ }
+pub fn classical_blocks(channel: &[i64], result: &mut [i64]) -> Verdict
+    ensures verdict { λ r. ⌜ r ≡ effectsVerdict (now (channel .entry)) (now (result .entry)) ⌝ }
     ensures words { λ r. ⌜ now (result .exit) ≡ resultOf (now (channel .entry)) (now (result .entry)) ⌝ }
 {
     let h = judge(channel);
-    if !h.ok {
-        return Outcome::Malformed;
+    let v = h.verdict;
+    if !v.is_accepted() {
+        return v;
     }
     let d = h.dim;
     let n = h.count;
     let size = record_size(d);
     if result.len() < HEADER + n * size {
-        return Outcome::ShortBuffer;
+        return Verdict::ShortBuffer;
     }
     if !sums_fit(channel, d, n) {
-        return Outcome::TooLarge;
+        return Verdict::TooLarge;
     }
     write_header(channel, d, result);
     write_records(channel, d, n, result);
-    Outcome::Written
+    Verdict::Accepted
 }

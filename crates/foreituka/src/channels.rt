@@ -1,9 +1,10 @@
 // compare, classical_blocks and lookup.
 use cells::CELL;
 ghost use mathlib.Core.Path.{_≡_};
+ghost use Rattle.verdict.specs.Verdict.{verdictNumber};
 ghost use Rattle.channel.specs.Compare.{compareOf};
 ghost use Rattle.channel.specs.Lookup.{lookupOf, spanOf};
-ghost use Rattle.effects.specs.Effects.{outcomeNumber, outcomeOf, resultOf};
+ghost use Rattle.effects.specs.Effects.{effectsVerdict, resultOf};
 ghost use Rattle.c_channels.specs.Channels.{findingNumber, placeWords, twoScalars};
 
 // Compare two channels: what was found, the store, row and column of the first unequal entry in `place`, and its two scalars in `scalars`.
@@ -24,7 +25,7 @@ pub extern "C" fn foreituka_compare(
 // The effects of a channel's blocks: the verdict's number.
 #[no_mangle]
 pub extern "C" fn foreituka_classical_blocks(channel: &[i64], result: &mut [i64]) -> u32
-    ensures { λ r. ⌜ r ≡ outcomeNumber (outcomeOf (now (channel .entry)) (now (result .entry))) ⌝ }
+    ensures { λ r. ⌜ r ≡ verdictNumber (effectsVerdict (now (channel .entry)) (now (result .entry))) ⌝ }
     ensures { λ _. ⌜ now (result .exit) ≡ resultOf (now (channel .entry)) (now (result .entry)) ⌝ }
 {
     c_channels::classical_blocks(channel, result)

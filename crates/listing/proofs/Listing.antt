@@ -17,7 +17,8 @@ use Rattle.cells.specs.Cells.{cellWords}
 use Rattle.algebra.proofs.Tests.{and-split}
 use Rattle.store.specs.Store.{maxWord, bits}
 use Rattle.channel.specs.Layout.{side, word, storeAt, chain, dimAt, bitsAt, readBack, blockAt}
-use Rattle.channel.specs.WellFormed.{storeOk, rises, entriesOk, wellFormed, shapeAt, Onward}
+use Rattle.channel.specs.WellFormed.{storeOk, rises, entriesOk, wellFormed}
+use Rattle.channel.specs.Inner.Shapes.{shapeAt, Onward}
 use Rattle.channel.specs.declared.Shape.{Shape}
 use Rattle.channel.proofs.Chain.{on-record}
 use Rattle.text.specs.Decimal.{decimal}

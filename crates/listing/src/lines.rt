@@ -130,7 +130,8 @@ pub fn write_listing(out: &mut [u8], channel: &[i64]) -> usize
     ensures { λ r. ⌜ page (now (out .exit)) r ≡ write (page (now (out .entry)) 0) (listingOf (now (channel .entry))) ⌝ }
 {
     let h = judge(channel);
-    if !h.ok {
+    let v = h.verdict;
+    if !v.is_accepted() {
         return 0;
     }
     let d = h.dim;

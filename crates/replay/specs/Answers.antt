@@ -12,8 +12,6 @@ use Rattle.verdict.specs.Verdict.{verdictNumber, verdictIndex}
 use Rattle.channel.specs.declared.compare.Difference.{Difference}
 use Rattle.channel.specs.declared.compare.Found.{Found}
 use Rattle.channel.specs.declared.compare.Found.the-variants.{Refused, Same, Dimensions, Entry}
-use Rattle.effects.specs.declared.Outcome.{Outcome}
-use Rattle.effects.specs.Effects.{outcomeNumber}
 use Rattle.replay.specs.declared.record.Record.{Record}
 use Rattle.replay.specs.Record.{withNumber, withNumbers, withScalar}
 use Rattle.replay.specs.Checksum.{checksumOf}
@@ -35,12 +33,12 @@ abbrev pub withCall : List ℕ → Record → Verdict → List ℤ → List ℤ 
 withCall t r v result work = withNumbers t r (verdictNumber v ∷ verdictIndex v ∷ checksumOf result ∷ checksumOf work ∷ [])
 
 -- ---- classical_blocks: the verdict, the checksum of the result
-abbrev pub withEffects : List ℕ → Record → Outcome → List ℤ → Record
-withEffects t r v result = withNumber t (withNumber t r (outcomeNumber v)) (checksumOf result)
+abbrev pub withEffects : List ℕ → Record → Verdict → List ℤ → Record
+withEffects t r v result = withNumber t (withNumber t r (verdictNumber v)) (checksumOf result)
 
 -- ---- compare: document 01's verdict; 0 same, 1 dimensions, 2 an entry; the store's two words, row and column of the entry
 abbrev pub findingNumbers : Found → List ℕ
-findingNumbers Refused = 10 ∷ 0 ∷ 0 ∷ 0 ∷ 0 ∷ 0 ∷ []
+findingNumbers (Refused v) = verdictNumber v ∷ 0 ∷ 0 ∷ 0 ∷ 0 ∷ 0 ∷ []
 findingNumbers Same = 0 ∷ 0 ∷ 0 ∷ 0 ∷ 0 ∷ 0 ∷ []
 findingNumbers Dimensions = 0 ∷ 1 ∷ 0 ∷ 0 ∷ 0 ∷ 0 ∷ []
 findingNumbers (Entry p) = 0 ∷ 2 ∷ p .store % 4294967296 ∷ p .store / 4294967296 ∷ p .row ∷ p .col ∷ []

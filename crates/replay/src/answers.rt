@@ -3,7 +3,6 @@ use crate::record::Record;
 use crate::sum::checksum;
 use channel::compare::Difference;
 use channel::compare::Found;
-use effects::Outcome;
 use matrix::Phase;
 use matrix::PhaseAnswer;
 use scalar::Answer;
@@ -53,7 +52,7 @@ pub fn check_call(seen: Record, text: &[u8], v: Verdict, result: &[i64], work: &
 }
 
 // The verdict of classical_blocks, and the checksum of what it left in the result.
-pub fn check_effects(seen: Record, text: &[u8], v: Outcome, result: &[i64]) -> Record
+pub fn check_effects(seen: Record, text: &[u8], v: Verdict, result: &[i64]) -> Record
     ensures { λ r. ⌜ r ≡ withEffects (now (text .entry)) seen v (now (result .entry)) ⌝ }
 {
     seen.number(text, v.number() as u64)
@@ -65,7 +64,7 @@ fn finding_numbers(found: Found) -> [u64; 6]
     ensures { λ r. ⌜ r ≡ findingNumbers found ⌝ }
 {
     match found {
-        Found::Refused => [10, 0, 0, 0, 0, 0],
+        Found::Refused(v) => [v.number() as u64, 0, 0, 0, 0, 0],
         Found::Same => [0, 0, 0, 0, 0, 0],
         Found::Dimensions => [0, 1, 0, 0, 0, 0],
         Found::Entry(p) => [

@@ -1,6 +1,6 @@
 -- `classical_blocks` meets its contract.
 use mathlib.Core.Path.{ap, _∙_}
-use Rattle.effects.specs.Effects.{outcomeNumber}
+use Rattle.verdict.specs.Verdict.{verdictNumber}
 use borrow.Author.Needs.{needs}
 use Rattle.c_channels.proofs.classical_blocks.Statement.{statement}
 use Rattle.c_channels.proofs.classical_blocks.Tie as tie
@@ -16,7 +16,7 @@ same-length c = search needs
 
 returns : tie.Need-returns
 returns c =
-    let b = c .before .before .classical-blocks in (c .number .ensures ∙ ap outcomeNumber (b .ensures .0), b .ensures .1)
+    let b = c .before .before .classical-blocks in (c .number .ensures ∙ ap verdictNumber (b .ensures .0), b .ensures .1)
 
 pub classical-blocks-spec : {M : Type 1} → statement M
 classical-blocks-spec =

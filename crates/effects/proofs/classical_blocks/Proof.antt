@@ -10,52 +10,54 @@ use lib.ListN.{length, length-set}
 use lib.Seq.{sets}
 use lib.IntN.{ℤ}
 use borrow.Author.Tests.{not-true, not-false, le-leb, lt-leb}
+use Rattle.verdict.specs.declared.Verdict.{Verdict}
+use Rattle.verdict.specs.declared.Verdict.the-variants.{Accepted, ShortBuffer, TooLarge}
+use Rattle.verdict.specs.Verdict.{accepted}
 use Rattle.channel.specs.declared.Shape.{Shape}
 use Rattle.channel.specs.Layout.{headerSize, recordSize, word, dimAt, countAt}
-use Rattle.channel.specs.WellFormed.{wellFormed, shapeAt}
-use Rattle.channel.proofs.Judging.{shape-test, shape-is}
+use Rattle.channel.specs.WellFormed.{wellFormed}
+use Rattle.channel.specs.Inner.Shapes.{shapeAt}
+use Rattle.channel.proofs.Judging.{verdictBy, shape-test, shape-is, shape-no}
 use Rattle.channel.proofs.Chain.{header-long}
-use Rattle.effects.specs.declared.Outcome.{Outcome}
-use Rattle.effects.specs.declared.Outcome.the-variants.{Written, ShortBuffer, TooLarge, Malformed}
-use Rattle.effects.specs.Effects.{sumsFit, effectHeader, withRecords, outcomeOf, resultBy, resultOf}
+use Rattle.effects.specs.Effects.{sumsFit, effectHeader, withRecords, effectsVerdict, resultBy, resultOf}
 use Rattle.effects.specs.Readable.{Dim, Linked, Records}
 use Rattle.effects.proofs.Records.{shorter, dim-of, first-linked, records-of}
 use borrow.Author.Needs.{needs}
 use Rattle.effects.proofs.classical_blocks.Statement.{statement}
 use Rattle.effects.proofs.classical_blocks.Tie as tie
 
--- an outcome, and the words that go with it
-answered : (l res : List ℤ) (o : Outcome) (ws : List ℤ) → outcomeOf l res ≡ o → ws ≡ resultBy o l res → (o ≡ outcomeOf l res) × (ws ≡ resultOf l res)
-answered l res o ws e f = (sym e, f ∙ ap (λ (o : Outcome). resultBy o l res) (sym e))
+-- a verdict, and the words that go with it
+answered : (l res : List ℤ) (o : Verdict) (ws : List ℤ) → effectsVerdict l res ≡ o → ws ≡ resultBy o l res → (o ≡ effectsVerdict l res) × (ws ≡ resultOf l res)
+answered l res o ws e f = (sym e, f ∙ ap (λ (o : Verdict). resultBy o l res) (sym e))
 
-abbrev by : Bool → Bool → Bool → Outcome
-by p q s = cond p (cond q (cond s Written TooLarge) ShortBuffer) Malformed
+abbrev by : Bool → Bool → Bool → Verdict
+by p q s = cond (accepted (verdictBy p)) (cond q (cond s Accepted TooLarge) ShortBuffer) (verdictBy p)
 
-abbrev start : tie.After-struct-known → tie.Start
+abbrev start : tie.After-is-accepted → tie.Start
 start c = c .before .before
 
-abbrev words : tie.After-struct-known → List ℤ
+abbrev words : tie.After-is-accepted → List ℤ
 words c = start c .args .channel .now
 
-abbrev shape : tie.After-struct-known → Shape
+abbrev shape : tie.After-is-accepted → Shape
 shape c = c .before .judge .result
 
-tested : (c : tie.After-struct-known) → shape c .ok ≡ wellFormed (words c)
-tested c = shape-test (words c) (wellFormed (words c)) (shape c) (c .before .judge .ensures)
+tested : (c : tie.After-is-accepted) → c .is-accepted .result ≡ wellFormed (words c)
+tested c = c .is-accepted .ensures ∙ shape-test (words c) (wellFormed (words c)) (shape c) (c .before .judge .ensures)
 
 -- the room that the result needs, and whether all sums fit
 abbrev needed : List ℤ → ℕ
 needed l = headerSize + countAt l * recordSize (dimAt l)
 
 module _ (c : tie.Else1) where
-  abbrev known : tie.After-struct-known
+  abbrev known : tie.After-is-accepted
   known = c .before
 
   right : wellFormed (words known) ≡ true
   right = sym (tested known) ∙ not-false _ (c .if1 .left)
 
   is : shape known ≡ shapeAt (words known)
-  is = shape-is (words known) (wellFormed (words known)) (shape known) (known .before .judge .ensures) (not-false _ (c .if1 .left))
+  is = shape-is (words known) (wellFormed (words known)) (shape known) (known .before .judge .ensures) (sym (known .is-accepted .ensures) ∙ not-false _ (c .if1 .left))
 
   dim : Dim (shape known .dim)
   dim = subst (λ (h : Shape). Dim (h .dim)) (sym is) (dim-of (words known) right)
@@ -85,12 +87,19 @@ sums c = let e = c .before .before .before in c .sums-fit .ensures ∙ ap (λ (h
 judge-requires : tie.Need-judge-requires
 judge-requires c κs = search needs
 
+is-accepted-requires : tie.Need-is-accepted-requires
+is-accepted-requires c κs = search needs
+
 returns : tie.Need-returns
 returns c =
     let k = c .before in
     let s = start k .args in
-    answered (words k) (s .result .now) Malformed (s .result .now)
-    (ap (λ (p : Bool). by p (leb (needed (words k)) (length (s .result .now))) (sumsFit (words k) (dimAt (words k)) (countAt (words k)))) (sym (tested k) ∙ not-true _ (c .if1 .taken))) refl
+    let no = not-true _ (c .if1 .taken) in
+    let shape-is-bad = shape-no (words k) (wellFormed (words k)) (shape k) (k .before .judge .ensures) (sym (k .is-accepted .ensures) ∙ no) in
+    answered (words k) (s .result .now) (shape k .verdict) (s .result .now)
+    (ap (λ (p : Bool). by p (leb (needed (words k)) (length (s .result .now))) (sumsFit (words k) (dimAt (words k)) (countAt (words k)))) (sym (tested k) ∙ no)
+    ∙ sym (ap (λ (h : Shape). h .verdict) shape-is-bad))
+    (sym (ap (λ (h : Shape). resultBy (h .verdict) (words k) (s .result .now)) shape-is-bad))
 
 record-size-requires : tie.Need-record-size-requires
 record-size-requires c κs = let q = dim c .small in omega arith
@@ -156,7 +165,7 @@ returns-4 c =
     let e = t .before .before in
     let k = known e in
     let s = start k .args in
-    answered (words k) (s .result .now) Written _ (λ i. by (right e i) (room t i) ((sym (sums f) ∙ not-false _ (g .if3 .left)) i))
+    answered (words k) (s .result .now) Accepted _ (λ i. by (right e i) (room t i) ((sym (sums f) ∙ not-false _ (g .if3 .left)) i))
     (w .write-records .ensures ∙ ap (withRecords (words k) (shape k .dim) (shape k .count)) (h .write-header .ensures)
     ∙ ap (λ (x : Shape). withRecords (words k) (x .dim) (x .count) (sets (s .result .now) 0 (effectHeader (words k) (x .dim)))) (is e))
 
@@ -165,6 +174,7 @@ classical-blocks-spec =
     tie.close
     (tie.spec
     judge-requires
+    is-accepted-requires
     returns
     record-size-requires
     mul-if2

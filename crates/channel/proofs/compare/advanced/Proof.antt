@@ -4,8 +4,8 @@ use mathlib.Core.Bool.{Bool}
 use Prim.Native.Nat.{_-_, _<_}
 use native.Mathlib.Omega.{arith}
 use borrow.Author.Tests.{not-true, not-false}
-use Rattle.channel.specs.WellFormed.{Onward}
-use Rattle.channel.specs.Walk.{cursorAt, advance}
+use Rattle.channel.specs.Inner.Shapes.{Onward}
+use Rattle.channel.specs.Inner.Walk.{cursorAt, advance}
 use Rattle.channel.proofs.Chain.{on-inside, on-index, on-next}
 use Rattle.channel.proofs.compare.advanced.Statement.{statement}
 use Rattle.channel.proofs.compare.advanced.Tie as tie

@@ -3,7 +3,7 @@ use mathlib.Core.Path.{sym, _∙_}
 use lib.Dec.{eqb}
 use borrow.Author.Tests.{eq-eqb, ne-eqb}
 use Rattle.store.specs.Store.{before}
-use Rattle.channel.specs.Walk.{turnBy}
+use Rattle.channel.specs.Inner.Walk.{turnBy}
 use borrow.Author.Needs.{needs}
 use Rattle.channel.proofs.compare.choose.Statement.{statement}
 use Rattle.channel.proofs.compare.choose.Tie as tie

@@ -1,6 +1,6 @@
 -- `compare::compare` meets its contract.
 use mathlib.Core.Path.{_≡_, sym, ap, _∙_, subst}
-use mathlib.Core.Bool.{Bool, true, cond, _&&_}
+use mathlib.Core.Bool.{Bool, true, false, cond, _&&_}
 use mathlib.Core.List.{List}
 use Prim.Native.Nat.{ℕ, _*_, _≤_}
 use native.Mathlib.Omega.{arith}
@@ -8,28 +8,35 @@ use lib.Dec.{eqb}
 use lib.IntN.{ℤ}
 use borrow.Author.Tests.{not-true, not-false, eqb-true}
 use Rattle.algebra.proofs.Tests.{and-split}
+use Rattle.verdict.specs.declared.Verdict.the-variants.{Malformed}
+use Rattle.verdict.specs.Verdict.{accepted}
 use Rattle.channel.specs.declared.Shape.{Shape}
 use Rattle.channel.specs.declared.compare.Difference.{Difference}
 use Rattle.channel.specs.declared.compare.Found.the-variants.{Refused, Dimensions}
 use Rattle.channel.specs.Layout.{side, dimAt, bitsAt, readBack}
-use Rattle.channel.specs.WellFormed.{wellFormed, shapeAt, shapeOf}
-use Rattle.channel.specs.Compare.{plain, first, merge}
-use Rattle.channel.specs.Walk.{Matched}
-use Rattle.channel.proofs.Judging.{formed, shape-test, shape-is}
+use Rattle.channel.specs.WellFormed.{wellFormed}
+use Rattle.channel.specs.Inner.Shapes.{shapeAt, shapeOf}
+use Rattle.channel.specs.Compare.{plain, unless, first, merge}
+use Rattle.channel.specs.Inner.Walk.{Matched}
+use Rattle.channel.proofs.Judging.{formed, verdictBy, shape-test, shape-is, shape-no}
 use borrow.Author.Needs.{needs}
 use Rattle.channel.proofs.compare.compare.Statement.{statement}
 use Rattle.channel.proofs.compare.compare.Tie as tie
 
 -- what a shape that is judged says
 module _ (l : List ℤ) (h : Shape) (e : h ≡ shapeOf l) where
-  judged : h .ok ≡ wellFormed l
+  judged : accepted (h .verdict) ≡ wellFormed l
   judged = shape-test l (wellFormed l) h e
 
-  right : h .ok ≡ true → wellFormed l ≡ true
+  right : accepted (h .verdict) ≡ true → wellFormed l ≡ true
   right f = sym judged ∙ f
 
-  is : h .ok ≡ true → h ≡ shapeAt l
+  is : accepted (h .verdict) ≡ true → h ≡ shapeAt l
   is f = shape-is l (wellFormed l) h e f
+
+  -- the answer where it is refused
+  refused : accepted (h .verdict) ≡ false → plain (Refused (h .verdict)) ≡ plain (Refused Malformed)
+  refused f = ap (λ (s : Shape). plain (Refused (s .verdict))) (shape-no l (wellFormed l) h e f)
 
 -- the answer by its three tests
 module _ (l r : List ℤ) where
@@ -37,9 +44,9 @@ module _ (l r : List ℤ) where
   same = eqb (dimAt l) (dimAt r) && eqb (bitsAt l) (bitsAt r)
 
   abbrev by : Bool → Bool → Bool → Difference
-  by p q s = cond (p && q) (cond s (first (side (dimAt l)) (merge (readBack l) (readBack r))) (plain Dimensions)) (plain Refused)
+  by p q s = unless (verdictBy p) (unless (verdictBy q) (cond s (first (side (dimAt l)) (merge (readBack l) (readBack r))) (plain Dimensions)))
 
-module _ (c : tie.After-struct-known6) where
+module _ (c : tie.After-struct-known4) where
   abbrev two : tie.Else2
   two = c .before .before .before .before
 
@@ -55,17 +62,23 @@ module _ (c : tie.After-struct-known6) where
   abbrev h : Shape
   h = two .before .before .judge2 .result
 
+  yes-g : accepted (g .verdict) ≡ true
+  yes-g = sym (one .before .is-accepted .ensures) ∙ not-false _ (one .if1 .left)
+
+  yes-h : accepted (h .verdict) ≡ true
+  yes-h = sym (two .before .is-accepted2 .ensures) ∙ not-false _ (two .if2 .left)
+
   right-g : wellFormed (start .args .left .now) ≡ true
-  right-g = right (start .args .left .now) g (one .before .before .judge .ensures) (not-false _ (one .if1 .left))
+  right-g = right (start .args .left .now) g (one .before .before .judge .ensures) yes-g
 
   right-h : wellFormed (start .args .right .now) ≡ true
-  right-h = right (start .args .right .now) h (two .before .before .judge2 .ensures) (not-false _ (two .if2 .left))
+  right-h = right (start .args .right .now) h (two .before .before .judge2 .ensures) yes-h
 
   is-g : g ≡ shapeAt (start .args .left .now)
-  is-g = is (start .args .left .now) g (one .before .before .judge .ensures) (not-false _ (one .if1 .left))
+  is-g = is (start .args .left .now) g (one .before .before .judge .ensures) yes-g
 
   is-h : h ≡ shapeAt (start .args .right .now)
-  is-h = is (start .args .right .now) h (two .before .before .judge2 .ensures) (not-false _ (two .if2 .left))
+  is-h = is (start .args .right .now) h (two .before .before .judge2 .ensures) yes-h
 
   sames : (eqb (g .dim) (h .dim) && eqb (g .bits) (h .bits)) ≡ same (start .args .left .now) (start .args .right .now)
   sames = λ i. eqb (is-g i .dim) (is-h i .dim) && eqb (is-g i .bits) (is-h i .bits)
@@ -88,6 +101,9 @@ matched c =
 judge-requires : tie.Need-judge-requires
 judge-requires c κs = search needs
 
+is-accepted-requires : tie.Need-is-accepted-requires
+is-accepted-requires c κs = search needs
+
 without-entry-requires : tie.Need-without-entry-requires
 without-entry-requires c κs = search needs
 
@@ -96,10 +112,16 @@ returns c =
     let t = c .before in
     let j = t .before .before in
     let s = j .before .args in
-    c .without-entry .ensures ∙ sym (ap (λ (p : Bool). by (s .left .now) (s .right .now) p (wellFormed (s .right .now)) (same (s .left .now) (s .right .now))) (sym (judged (s .left .now) (j .judge .result) (j .judge .ensures)) ∙ not-true _ (t .if1 .taken)))
+    let no = sym (t .before .is-accepted .ensures) ∙ not-true _ (t .if1 .taken) in
+    let bad = sym (judged (s .left .now) (j .judge .result) (j .judge .ensures)) ∙ no in
+    c .without-entry .ensures ∙ refused (s .left .now) (j .judge .result) (j .judge .ensures) no
+    ∙ sym (ap (λ (p : Bool). by (s .left .now) (s .right .now) p (wellFormed (s .right .now)) (same (s .left .now) (s .right .now))) bad)
 
 judge-requires-2 : tie.Need-judge-requires-2
 judge-requires-2 c κs = search needs
+
+is-accepted-requires-2 : tie.Need-is-accepted-requires-2
+is-accepted-requires-2 c κs = search needs
 
 without-entry-requires-2 : tie.Need-without-entry-requires-2
 without-entry-requires-2 c κs = search needs
@@ -111,8 +133,12 @@ returns-2 c =
     let e = j .before in
     let i = e .before .before in
     let s = i .before .args in
-    c .without-entry2 .ensures
-    ∙ sym (λ k. by (s .left .now) (s .right .now) (right (s .left .now) (i .judge .result) (i .judge .ensures) (not-false _ (e .if1 .left)) k) ((sym (judged (s .right .now) (j .judge2 .result) (j .judge2 .ensures)) ∙ not-true _ (t .if2 .taken)) k) (same (s .left .now) (s .right .now)))
+    let yes = sym (e .before .is-accepted .ensures) ∙ not-false _ (e .if1 .left) in
+    let no = sym (t .before .is-accepted2 .ensures) ∙ not-true _ (t .if2 .taken) in
+    let good = right (s .left .now) (i .judge .result) (i .judge .ensures) yes in
+    let bad = sym (judged (s .right .now) (j .judge2 .result) (j .judge2 .ensures)) ∙ no in
+    c .without-entry2 .ensures ∙ refused (s .right .now) (j .judge2 .result) (j .judge2 .ensures) no
+    ∙ sym (λ k. by (s .left .now) (s .right .now) (good k) (bad k) (same (s .left .now) (s .right .now)))
 
 without-entry-requires-3 : tie.Need-without-entry-requires-3
 without-entry-requires-3 c κs = search needs
@@ -146,9 +172,11 @@ compare-spec =
     tie.close
     (tie.spec
     judge-requires
+    is-accepted-requires
     without-entry-requires
     returns
     judge-requires-2
+    is-accepted-requires-2
     without-entry-requires-2
     returns-2
     without-entry-requires-3

@@ -11,7 +11,7 @@ use Rattle.scalar.specs.Calls.{value}
 use Rattle.channel.specs.declared.compare.Difference.{Difference}
 use Rattle.channel.specs.declared.compare.Found.the-variants.{Same, Entry}
 use Rattle.channel.specs.Compare.{Both, plain, scan}
-use Rattle.channel.specs.Walk.{bothAt}
+use Rattle.channel.specs.Inner.Walk.{bothAt}
 use Rattle.channel.proofs.Scanning.{agrees, differs, done, next-row}
 use Rattle.channel.proofs.compare.compare_block.Statement.{statement}
 use Rattle.channel.proofs.compare.compare_block.Tie as tie

@@ -7,9 +7,10 @@ use borrow.Author.Tests.{not-true, not-false}
 use Rattle.channel.specs.declared.compare.Difference.{Difference}
 use Rattle.channel.specs.declared.compare.Turn.{Turn}
 use Rattle.channel.specs.Layout.{word, countAt}
-use Rattle.channel.specs.WellFormed.{Onward, wellFormed}
+use Rattle.channel.specs.WellFormed.{wellFormed}
+use Rattle.channel.specs.Inner.Shapes.{Onward}
 use Rattle.channel.specs.Compare.{isSame, scan}
-use Rattle.channel.specs.Walk.{bothAt, turnOf, cursorAt, advance}
+use Rattle.channel.specs.Inner.Walk.{bothAt, turnOf, cursorAt, advance}
 use Rattle.channel.proofs.Judging.{formed}
 use Rattle.channel.proofs.Chain.{onward-begin, first-index, header-long}
 use Rattle.channel.proofs.Merging.{held, Walking, walking-begin, left-some, right-some, walking-stop, walking-on, walking-less, walking-done}

@@ -2,7 +2,7 @@
 use mathlib.Core.Path.{sym, ap, _∙_}
 use mathlib.Core.Bool.{Bool}
 use Rattle.scalar.specs.Calls.{scalarOf}
-use Rattle.channel.specs.Walk.{sideAt}
+use Rattle.channel.specs.Inner.Walk.{sideAt}
 use Rattle.channel.proofs.compare.entry_or_zero.Statement.{statement}
 use Rattle.channel.proofs.compare.entry_or_zero.Tie as tie
 

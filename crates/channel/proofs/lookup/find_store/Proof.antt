@@ -6,7 +6,7 @@ use lib.ListN.{length}
 use lib.IntN.{natAbs}
 use borrow.Author.Tests.{eq-eqb, ne-eqb}
 use Rattle.channel.specs.Layout.{word}
-use Rattle.channel.specs.WellFormed.{Onward}
+use Rattle.channel.specs.Inner.Shapes.{Onward}
 use Rattle.channel.specs.Lookup.{find}
 use Rattle.channel.proofs.Chain.{onward-begin, first-index, header-long, on-inside, on-words, on-next, on-index}
 use Rattle.channel.proofs.Finding.{finds, seeks, find-none}

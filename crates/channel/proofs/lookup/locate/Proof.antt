@@ -12,7 +12,8 @@ use Rattle.algebra.specs.Words.{fromBits}
 use Rattle.store.proofs.Bytes.{fits-word}
 use Rattle.channel.specs.declared.Shape.{Shape}
 use Rattle.channel.specs.Layout.{recordHead, blockSize, recordSize, word, side, dimAt, bitsAt}
-use Rattle.channel.specs.WellFormed.{wellFormed, shapeAt}
+use Rattle.channel.specs.WellFormed.{wellFormed}
+use Rattle.channel.specs.Inner.Shapes.{shapeAt}
 use Rattle.store.specs.Store.{storeFits}
 use Rattle.channel.specs.Lookup.{find, placed, spanOf, lookupOf}
 use Rattle.channel.proofs.Judging.{formed, shape-test, shape-is}
@@ -21,30 +22,30 @@ use borrow.Author.Needs.{needs}
 use Rattle.channel.proofs.lookup.locate.Statement.{statement}
 use Rattle.channel.proofs.lookup.locate.Tie as tie
 
-abbrev words : tie.After-struct-known → List ℤ
+abbrev words : tie.After-is-accepted → List ℤ
 words c = c .before .before .before .args .s .now
 
-abbrev bytes : tie.After-struct-known → List ℕ
+abbrev bytes : tie.After-is-accepted → List ℕ
 bytes c = c .before .before .before .args .store .now
 
-abbrev shape : tie.After-struct-known → Shape
+abbrev shape : tie.After-is-accepted → Shape
 shape c = c .before .judge .result
 
-tested : (c : tie.After-struct-known) → shape c .ok ≡ wellFormed (words c)
-tested c = shape-test (words c) (wellFormed (words c)) (shape c) (c .before .judge .ensures)
+tested : (c : tie.After-is-accepted) → c .is-accepted .result ≡ wellFormed (words c)
+tested c = c .is-accepted .ensures ∙ shape-test (words c) (wellFormed (words c)) (shape c) (c .before .judge .ensures)
 
 module _ (c : tie.Else1) where
   right : wellFormed (words (c .before)) ≡ true
   right = sym (tested (c .before)) ∙ not-false _ (c .if1 .left)
 
   is : shape (c .before) ≡ shapeAt (words (c .before))
-  is = shape-is (words (c .before)) (wellFormed (words (c .before))) (shape (c .before)) (c .before .before .judge .ensures) (not-false _ (c .if1 .left))
+  is = shape-is (words (c .before)) (wellFormed (words (c .before))) (shape (c .before)) (c .before .before .judge .ensures) (sym (c .before .is-accepted .ensures) ∙ not-false _ (c .if1 .left))
 
 stores : (c : tie.After-is-store) → c .is-store .result ≡ storeFits (bitsAt (words (c .before .before))) (bytes (c .before .before))
 stores c = c .is-store .ensures ∙ ap (λ (h : Shape). storeFits (h .bits) (bytes (c .before .before))) (is (c .before))
 
 module _ (c : tie.Else2) where
-  abbrev known : tie.After-struct-known
+  abbrev known : tie.After-is-accepted
   known = c .before .before .before
 
   stored : storeFits (bitsAt (words known)) (bytes known) ≡ true
@@ -70,6 +71,9 @@ module _ (c : tie.Else3) where
 
 judge-requires : tie.Need-judge-requires
 judge-requires c κs = search needs
+
+is-accepted-requires : tie.Need-is-accepted-requires
+is-accepted-requires c κs = search needs
 
 none-requires : tie.Need-none-requires
 none-requires c κs = search needs
@@ -113,8 +117,8 @@ returns-3 c =
 mul-w : tie.Need-mul-w
 mul-w c = let q = width (c .before) in omega arith
 
-add-t10 : tie.Need-add-t10
-add-t10 c = let q = inside (c .before) in omega arith
+add-t11 : tie.Need-add-t11
+add-t11 c = let q = inside (c .before) in omega arith
 
 block-size-requires : tie.Need-block-size-requires
 block-size-requires c κs = width (c .before)
@@ -132,6 +136,7 @@ locate-spec =
     tie.close
     (tie.spec
     judge-requires
+    is-accepted-requires
     none-requires
     returns
     is-store-requires
@@ -142,6 +147,6 @@ locate-spec =
     none-requires-3
     returns-3
     mul-w
-    add-t10
+    add-t11
     block-size-requires
     returns-4)

@@ -1,6 +1,6 @@
 -- `well_formed::header` meets its contract.
 use mathlib.Core.Path.{_≡_, sym, ap, _∙_}
-use mathlib.Core.Bool.{Bool, true, false, cond, _&&_}
+use mathlib.Core.Bool.{Bool, true, false, _&&_}
 use mathlib.Core.List.{List}
 use Prim.Native.Nat.{_*_, _-_, _/_, _≤_}
 use native.Mathlib.Omega.{arith}
@@ -12,12 +12,15 @@ use mir.Val.{SFits, toZ, ofZ}
 use mir.Facts.{toZ-ofZ}
 use borrow.Author.Tests.{not-true, not-false, le-leb, lt-leb}
 use Rattle.algebra.specs.Words.{upTo}
+use Rattle.verdict.specs.declared.Verdict.the-variants.{Accepted, Malformed}
 use Rattle.algebra.proofs.Tests.{and-split}
 use Rattle.algebra.proofs.Signed.{cast-ok}
 use Rattle.channel.specs.declared.Shape.{Shape}
 use Rattle.channel.specs.Layout.{word, recordSize, dimAt}
-use Rattle.channel.specs.WellFormed.{isDim, counted, headerOk, shapeAt, noShape}
+use Rattle.channel.specs.WellFormed.{isDim, counted, headerOk}
+use Rattle.channel.specs.Inner.Shapes.{shapeBy, noShape}
 use Rattle.store.proofs.Words.{Casts, read, casts-up, up-abs}
+use Rattle.channel.proofs.Judging.{verdictBy}
 use Rattle.channel.proofs.Words.{dim-range, square-small}
 use borrow.Author.Needs.{needs}
 use Rattle.channel.proofs.well_formed.header.Statement.{statement}
@@ -65,8 +68,8 @@ counts c =
     ∙ ap (λ (z : ℤ). upTo ((length l - 4) / recordSize (natAbs z * natAbs z)) (word l 2)) (toZ-ofZ (dim (a (c .before .before))))
 
 -- the header by its three tests
-refused : (l : List ℤ) (s : Shape) → s ≡ noShape → headerOk l ≡ false → s ≡ cond (headerOk l) (shapeAt l) noShape
-refused l s e f = e ∙ ap (λ (b : Bool). cond b (shapeAt l) noShape) (sym f)
+refused : (l : List ℤ) (s : Shape) → s ≡ noShape Malformed → headerOk l ≡ false → s ≡ shapeBy (verdictBy (headerOk l)) l
+refused l s e f = e ∙ ap (λ (b : Bool). shapeBy (verdictBy b) l) (sym f)
 
 malformed-requires : tie.Need-malformed-requires
 malformed-requires c κs = search needs
@@ -128,8 +131,8 @@ returns-3 c =
     let l = words (a e) in
     refused l _ (c .malformed3 .ensures) (λ i. long (a e) i && (right e i && (sym (counts u) ∙ not-true _ (c .before .if3 .taken)) i))
 
-cast-t19 : tie.Need-cast-t19
-cast-t19 c =
+cast-t20 : tie.Need-cast-t20
+cast-t20 c =
     let e = c .before .before .before in
     let l = words (a e) in
     read (bits (a e)) (Casts w32) (cast-ok 64 (word l 1) (and-split (isDim (word l 0)) (upTo 64 (word l 1)) (right e) .1) (record { fits = lit< tt }))
@@ -149,7 +152,7 @@ returns-4 c =
     let b = toZ-ofZ (bits (a e)) in
     let n = toZ-ofZ (count (a e)) in
     let ok : headerOk l ≡ true = λ i. long (a e) i && (right e i && (sym (counts u) ∙ not-false _ (c .if3 .left)) i) in
-    (λ i. record { ok = true; dim = natAbs (d i); bits = natAbs (b i); count = natAbs (n i) }) ∙ ap (λ (b : Bool). cond b (shapeAt l) noShape) (sym ok)
+    (λ i. record { verdict = Accepted; dim = natAbs (d i); bits = natAbs (b i); count = natAbs (n i) }) ∙ ap (λ (b : Bool). shapeBy (verdictBy b) l) (sym ok)
 
 pub header-spec : {M : Type 1} → statement M
 header-spec =
@@ -172,6 +175,6 @@ header-spec =
     up-to-requires-2
     malformed-requires-3
     returns-3
-    cast-t19
+    cast-t20
     cast-t17
     returns-4)

@@ -8,20 +8,21 @@ use lib.IntN.{ℤ}
 use borrow.Author.Tests.{not-true, not-false}
 use Rattle.channel.specs.declared.Shape.{Shape}
 use Rattle.channel.specs.Layout.{word}
-use Rattle.channel.specs.WellFormed.{Room, headerOk, chainOk, chained, shapeAt}
+use Rattle.channel.specs.WellFormed.{headerOk, chainOk, chained}
+use Rattle.channel.specs.Inner.Shapes.{Room, shapeAt}
 use Rattle.channel.proofs.Judging.{headed, shape-test, shape-is, shape-no, shape-of, bad-header, well-formed}
 use borrow.Author.Needs.{needs}
 use Rattle.channel.proofs.well_formed.judge.Statement.{statement}
 use Rattle.channel.proofs.well_formed.judge.Tie as tie
 
-abbrev words : tie.After-struct-known → List ℤ
+abbrev words : tie.After-is-accepted → List ℤ
 words c = c .before .before .args .s .now
 
-abbrev shape : tie.After-struct-known → Shape
+abbrev shape : tie.After-is-accepted → Shape
 shape c = c .before .header .result
 
-tested : (c : tie.After-struct-known) → shape c .ok ≡ headerOk (words c)
-tested c = shape-test (words c) (headerOk (words c)) (shape c) (c .before .header .ensures)
+tested : (c : tie.After-is-accepted) → c .is-accepted .result ≡ headerOk (words c)
+tested c = c .is-accepted .ensures ∙ shape-test (words c) (headerOk (words c)) (shape c) (c .before .header .ensures)
 
 -- the header is right
 module _ (c : tie.Else1) where
@@ -29,7 +30,7 @@ module _ (c : tie.Else1) where
   right = sym (tested (c .before)) ∙ not-false _ (c .if1 .left)
 
   is : shape (c .before) ≡ shapeAt (words (c .before))
-  is = shape-is (words (c .before)) (headerOk (words (c .before))) (shape (c .before)) (c .before .before .header .ensures) (not-false _ (c .if1 .left))
+  is = shape-is (words (c .before)) (headerOk (words (c .before))) (shape (c .before)) (c .before .before .header .ensures) (sym (c .before .is-accepted .ensures) ∙ not-false _ (c .if1 .left))
 
   room : Room (words (c .before)) (shape (c .before) .dim * shape (c .before) .dim) (shape (c .before) .bits) (shape (c .before) .count)
   room = subst (λ (h : Shape). Room (words (c .before)) (h .dim * h .dim) (h .bits) (h .count)) (sym is) (headed (words (c .before)) right .room)
@@ -42,11 +43,14 @@ chains c =
 header-requires : tie.Need-header-requires
 header-requires c κs = search needs
 
+is-accepted-requires : tie.Need-is-accepted-requires
+is-accepted-requires c κs = search needs
+
 returns : tie.Need-returns
 returns c =
     let k = c .before in
     let no = not-true _ (c .if1 .taken) in
-    shape-of (words k) false _ (shape-no (words k) (headerOk (words k)) (shape k) (k .before .header .ensures) no) (bad-header (words k) (sym (tested k) ∙ no))
+    shape-of (words k) false _ (shape-no (words k) (headerOk (words k)) (shape k) (k .before .header .ensures) (sym (k .is-accepted .ensures) ∙ no)) (bad-header (words k) (sym (tested k) ∙ no))
 
 mul-chain-ok : tie.Need-mul-chain-ok
 mul-chain-ok c = let r = room c .width in omega arith
@@ -74,6 +78,7 @@ judge-spec =
     tie.close
     (tie.spec
     header-requires
+    is-accepted-requires
     returns
     mul-chain-ok
     chain-ok-requires

@@ -3,7 +3,8 @@ use mathlib.Core.Path.{_∙_}
 use Prim.Native.Nat.{_+_}
 use Rattle.store.specs.Store.{storeFrom}
 use Rattle.channel.specs.Layout.{word}
-use Rattle.channel.specs.WellFormed.{judged, wordsOk}
+use Rattle.channel.specs.WellFormed.{wordsOk}
+use Rattle.channel.specs.Inner.Shapes.{judged}
 use Rattle.algebra.proofs.Signed.{reads}
 use borrow.Author.Needs.{needs}
 use Rattle.channel.proofs.well_formed.judge_store.Statement.{statement}

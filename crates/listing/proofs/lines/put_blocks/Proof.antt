@@ -6,7 +6,8 @@ use native.Mathlib.Omega.{arith}
 use lib.ListN.{length}
 use Rattle.algebra.specs.Lists.{concatMap}
 use Rattle.channel.specs.Layout.{chain, readBack, recordSize}
-use Rattle.channel.specs.WellFormed.{storeOk, entriesOk, Onward}
+use Rattle.channel.specs.WellFormed.{storeOk, entriesOk}
+use Rattle.channel.specs.Inner.Shapes.{Onward}
 use Rattle.channel.proofs.Judging.{Formed, formed}
 use Rattle.channel.proofs.Chain.{onward-begin, first-index, header-long, on-inside, on-store, on-next, on-index}
 use Rattle.text.specs.Page.{page}

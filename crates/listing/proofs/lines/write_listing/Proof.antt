@@ -8,28 +8,32 @@ use lib.IntN.{ℤ}
 use borrow.Author.Tests.{not-true, not-false}
 use borrow.Author.Needs.{needs}
 use Rattle.channel.specs.declared.Shape.{Shape}
-use Rattle.channel.specs.WellFormed.{wellFormed, shapeAt}
+use Rattle.channel.specs.WellFormed.{wellFormed}
+use Rattle.channel.specs.Inner.Shapes.{shapeAt}
 use Rattle.channel.proofs.Judging.{formed, shape-test, shape-is}
 use Rattle.text.proofs.Put.{then, text, none}
 use Rattle.listing.proofs.Listing.{listed, unlisted}
 use Rattle.listing.proofs.lines.write_listing.Statement.{statement}
 use Rattle.listing.proofs.lines.write_listing.Tie as tie
 
-abbrev words : tie.After-struct-known → List ℤ
+abbrev words : tie.After-is-accepted → List ℤ
 words c = c .before .before .before .args .channel .now
 
-tested : (c : tie.After-struct-known) → c .before .judge .result .ok ≡ wellFormed (words c)
-tested c = shape-test (words c) (wellFormed (words c)) (c .before .judge .result) (c .before .judge .ensures)
+tested : (c : tie.After-is-accepted) → c .is-accepted .result ≡ wellFormed (words c)
+tested c = c .is-accepted .ensures ∙ shape-test (words c) (wellFormed (words c)) (c .before .judge .result) (c .before .judge .ensures)
 
 module _ (c : tie.Else1) where
   right : wellFormed (words (c .before)) ≡ true
   right = sym (tested (c .before)) ∙ not-false _ (c .if1 .left)
 
   is : c .before .before .judge .result ≡ shapeAt (words (c .before))
-  is = shape-is (words (c .before)) (wellFormed (words (c .before))) (c .before .before .judge .result) (c .before .before .judge .ensures) (not-false _ (c .if1 .left))
+  is = shape-is (words (c .before)) (wellFormed (words (c .before))) (c .before .before .judge .result) (c .before .before .judge .ensures) (sym (c .before .is-accepted .ensures) ∙ not-false _ (c .if1 .left))
 
 judge-requires : tie.Need-judge-requires
 judge-requires c κs = search needs
+
+is-accepted-requires : tie.Need-is-accepted-requires
+is-accepted-requires c κs = search needs
 
 returns : tie.Need-returns
 returns c =
@@ -66,6 +70,7 @@ write-listing-spec =
     tie.close
     (tie.spec
     judge-requires
+    is-accepted-requires
     returns
     cast-put-first
     put-first-requires

@@ -12,7 +12,8 @@ use Rattle.channel.specs.declared.compare.Turn.{Turn}
 use Rattle.channel.specs.declared.compare.Cursor.{Cursor}
 use Rattle.store.specs.Store.{before}
 use Rattle.channel.specs.Layout.{entrySize, side, dimAt, countAt, word, entryPlace, entryAt, storeAt}
-use Rattle.channel.specs.WellFormed.{wellFormed, Onward}
+use Rattle.channel.specs.WellFormed.{wellFormed}
+use Rattle.channel.specs.Inner.Shapes.{Onward}
 use Rattle.channel.specs.Compare.{Both}
 
 -- a side that takes part has its block at `at`; else its block is missing
