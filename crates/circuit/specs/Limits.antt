@@ -17,10 +17,8 @@ ceilings = record {
 -- the four limits that circuit_unitary reads are at or below their ceilings
 abbrev pub matrixCeilings : Limits → Bool
 matrixCeilings l =
-    leb (l .«max_qubits») (ceilings .«max_qubits»)
-    && (leb (l .«max_matrix_cells») (ceilings .«max_matrix_cells»)
-    && (leb (l .«max_multiply_terms») (ceilings .«max_multiply_terms»)
-    && leb (l .«max_operations») (ceilings .«max_operations»)))
+    leb (l .«max_qubits») (ceilings .«max_qubits») && (leb (l .«max_matrix_cells») (ceilings .«max_matrix_cells»)
+    && (leb (l .«max_multiply_terms») (ceilings .«max_multiply_terms») && leb (l .«max_operations») (ceilings .«max_operations»)))
 
 -- the limits on branches and on classical bits are at or below their ceilings
 abbrev pub branchCeilings : Limits → Bool

@@ -33,9 +33,7 @@ sizesOf f n = record { branches = 2 ^ (f .splits); stores = 2 ^ min (f .splits) 
 abbrev pub withinLimits : Footprint → ℕ → ℕ → Limits → Bool
 withinLimits f n m l =
     let s = sizesOf f n in
-    leb m (l .«max_classical_bits»)
-    && (leb (s .branches) (l .«max_branches»)
-    && (leb n (l .«max_qubits»)
+    leb m (l .«max_classical_bits») && (leb (s .branches) (l .«max_branches») && (leb n (l .«max_qubits»)
     && (leb (cellsNeeded (s .branches) (s .stores) (s .rows)) (l .«max_matrix_cells»)
     && leb (termsNeeded (f .gates) (s .branches) (s .rows)) (l .«max_multiply_terms»))))
 
@@ -58,8 +56,7 @@ numberQuestions f n m σ l result work =
     question 7 (storeFits m σ) BadStore
     ∷ question 8 (withinLimits f n m l) OverLimit
     ∷ question 9 (leb (f .weight) maxWeight) TooHeavy
-    ∷ question 10 (roomFor (sizesOf f n) result work) ShortBuffer
-    ∷ []
+    ∷ question 10 (roomFor (sizesOf f n) result work) ShortBuffer ∷ []
 
 module _ (n m : ℕ) (σ : List ℕ) (l : Limits) (ws : List ℕ) (result work : ℕ) where
   abbrev pub channelQuestions : List Question

@@ -1,18 +1,16 @@
 -- The three demands hold.
 use mathlib.Core.Path.{_≡_, refl, sym, ap, _∙_, subst}
 use mathlib.Core.Bool.{Bool, true, cond}
-use mathlib.Core.List.{List, [], _∷_, _++_}
-use Prim.Native.Nat.{ℕ, zero, suc, _+_, _*_, _/_, _%_, _^_, _≤_, _<_}
+use mathlib.Core.List.{List, _++_}
+use Prim.Native.Nat.{ℕ, _+_, _*_, _/_, _%_, _^_, _≤_, _<_}
 use native.Mathlib.Omega.{arith}
 use lib.Arith.{digits-lt}
 use lib.Dec.{eqb}
-use lib.ListN.{length, getD, take, drop}
+use lib.ListN.{length, getD, take, drop, replicate, length-replicate}
 use lib.IntN.{ℤ, pos}
 use borrow.Author.Tests.{eq-eqb}
 use Rattle.algebra.specs.Lists.{every}
-use Rattle.algebra.specs.Words.{joined}
 use Rattle.algebra.proofs.Lists.{all-imp}
-use Rattle.algebra.proofs.Blocks.{blocks-parts}
 use Rattle.algebra.proofs.Trace.{length-of}
 use Rattle.algebra.proofs.Perm.{Perm, perm-path, perm-sym}
 use Rattle.exact.specs.Exact.{exact, narrow}
@@ -31,9 +29,9 @@ use Rattle.verdict.specs.Verdict.{accepted}
 use Rattle.circuit.specs.Questions.{channelQuestions, channelVerdict}
 use Rattle.channel.specs.Layout.{side, readBack}
 use Rattle.collect.specs.Delivered.{overwritten}
-use Rattle.judge.specs.Delivered.{circuitWords, zeroed}
+use Rattle.judge.specs.Delivered.{circuitWords}
 use Rattle.judge.specs.Call.{worked, accepts, resultAfter}
-use Rattle.demands.specs.Demands.{ofGates, zeros, Delivers, Demand1, IsChannel, Demand2, ScheduleOf, itself, reordered, noBlock, SameChannel, Demand3}
+use Rattle.demands.specs.Demands.{ofGates, Delivers, Demand1, IsChannel, Demand2, ScheduleOf, itself, reordered, noBlock, SameChannel, Demand3}
 use Rattle.verdict.specs.Questions.{Question, firstNo, decidedBy}
 use Rattle.verdict.proofs.Questions.{decided}
 use Rattle.circuit.proofs.Answers.{channel-accepts}
@@ -44,19 +42,8 @@ use Rattle.judge.proofs.Accepted.{Sound, sound, enough, block-fine, writable, c
 use Rattle.demands.proofs.Channels.{is-channel}
 
 -- ---- demand 1
-zeros-more : (k : ℕ) → zeros k ++ (pos 0 ∷ []) ≡ pos 0 ∷ zeros k
-zeros-more zero = refl
-zeros-more (suc k) = ap (λ (l : List ℤ). pos 0 ∷ l) (zeros-more k)
-
-zeros-joined : (k : ℕ) → joined k (λ (i : ℕ). pos 0 ∷ []) ≡ zeros k
-unfolding joined
-zeros-joined zero = refl
-zeros-joined (suc k) = ap (λ (l : List ℤ). l ++ (pos 0 ∷ [])) (zeros-joined k) ∙ zeros-more k
-
-zeroed-is : (k : ℕ) (l : List ℤ) → k ≤ length l → zeroed k l ≡ zeros k ++ drop k l
-zeroed-is k l h =
-    let e : 0 + k * 1 ≡ k = omega arith in
-    blocks-parts 1 (λ (i : ℕ). pos 0 ∷ []) (λ i. refl) l 0 k (omega arith) ∙ (λ i. zeros-joined k i ++ drop (e i) l)
+abbrev zeros : ℕ → List ℤ
+zeros k = replicate k (pos 0)
 
 module _ (n m : ℕ) (σ : List ℕ) (l : Limits) (ws : List ℕ) (r w : List ℤ) (e : accepts n m σ l ws r w ≡ true) where
   is-sound : Sound n m σ (gatesOf ws) (length r) (length w)
@@ -70,7 +57,7 @@ module _ (n m : ℕ) (σ : List ℕ) (l : Limits) (ws : List ℕ) (r w : List �
     room = channel-room is-sound;
     result = result-is;
     workRoom = is-sound .workRoom;
-    work = ap (λ (b : Bool). cond b (zeroed (worked n m ws) w) w) e ∙ zeroed-is (worked n m ws) w (is-sound .workRoom);
+    work = ap (λ (b : Bool). cond b (overwritten (zeros (worked n m ws)) w) w) e ∙ ap (λ (k : ℕ). zeros (worked n m ws) ++ drop k w) (length-replicate (worked n m ws) (pos 0));
     matrices = λ k. all-imp (λ (b : Branch). (i : ℕ) → i < 2 ^ n * 2 ^ n → Kraus krausExponent (getD (b .matrix) i (exact .𝟘))) (λ (b : Branch). (i : ℕ) → i < 2 ^ n * 2 ^ n → narrow (getD (b .matrix) i (exact .𝟘)) ≡ true)
         (branches n σ (take k (gatesOf ws))) (λ b h i p. h i p .is-narrow) (enough is-sound k .entries);
     blocks = block-fine is-sound;
@@ -81,7 +68,7 @@ demand1 n m σ l ws r w = record {
   verdict = refl;
   refusal = λ xs ys q is e f. ap firstNo is ∙ decided xs ys q e f;
   acceptance = channel-accepts n m σ l ws (length r) (length w);
-  refused = λ e. (ap (λ (b : Bool). cond b (overwritten (circuitWords n m σ (gatesOf ws)) r) r) e, ap (λ (b : Bool). cond b (zeroed (worked n m ws) w) w) e);
+  refused = λ e. (ap (λ (b : Bool). cond b (overwritten (circuitWords n m σ (gatesOf ws)) r) r) e, ap (λ (b : Bool). cond b (overwritten (zeros (worked n m ws)) w) w) e);
   accepted = delivers n m σ l ws r w;
 }
 

@@ -4,9 +4,9 @@ use mathlib.Core.Path.{_≡_}
 use mathlib.Core.Logic.{_≢_}
 use mathlib.Core.Bool.{Bool, true, false}
 use mathlib.Core.List.{List, [], _∷_, _++_, map, foldl}
-use Prim.Native.Nat.{ℕ, zero, suc, _+_, _*_, _%_, _^_, _≤_, _<_}
+use Prim.Native.Nat.{ℕ, _+_, _*_, _%_, _^_, _≤_, _<_}
 use lib.Dec.{eqb}
-use lib.ListN.{length, getD, take, drop}
+use lib.ListN.{length, getD, take, drop, replicate}
 use lib.IntN.{ℤ, pos}
 use Rattle.algebra.specs.Lists.{All, every, some}
 use Rattle.algebra.specs.Sum.{δ}
@@ -19,49 +19,31 @@ use Rattle.kraus.specs.Branch.{Store, Branch, branches}
 use Rattle.kraus.specs.Blocks.{survivors, stores, block}
 use Rattle.verdict.specs.Questions.{Question, firstNo, decidedBy}
 use Rattle.circuit.specs.declared.limits.Limits.{Limits}
-use Rattle.circuit.specs.Questions.{channelQuestions}
 use Rattle.channel.specs.declared.compare.Found.the-variants.{Same}
 use Rattle.store.specs.Store.{bits}
 use Rattle.channel.specs.Layout.{Block, side, effectOf, dimAt, bitsAt, countAt, readBack}
 use Rattle.channel.specs.WellFormed.{wellFormed}
 use Rattle.channel.specs.Compare.{plain, compareOf}
 use Rattle.judge.specs.Delivered.{circuitWords}
-use Rattle.judge.specs.Call.{worked, verdictOf, accepts, resultAfter, workAfter}
-
-abbrev pub zeros : ℕ → List ℤ
-zeros zero = []
-zeros (suc k) = pos 0 ∷ zeros k
-
-abbrev pub yes : Question → Bool
-yes q = q .answer
-
--- the questions of a call
-abbrev pub asked : ℕ → ℕ → List ℕ → Limits → List ℕ → List ℤ → List ℤ → List Question
-asked n m σ l ws r w = channelQuestions n m σ l ws (length r) (length w)
-
--- the words of the channel of a list of gate words
-abbrev pub delivered : ℕ → ℕ → List ℕ → List ℕ → List ℤ
-delivered n m σ ws = circuitWords n m σ (gatesOf ws)
+use Rattle.judge.specs.Call.{worked, asked, verdictOf, accepts, resultAfter, workAfter}
 
 -- ---- demand 1: refused by the first question that fails, with both buffers untouched; accepted every other circuit, and its whole channel delivered
 module _ (n m : ℕ) (σ : List ℕ) (l : Limits) (ws : List ℕ) (r w : List ℤ) where
-  -- of an accepted call
+  -- of an accepted call: the whole channel stands in the result, and the words after it are as they were; the work words are zero, and those after them as they were;
+  -- no number grows too large: after every k gates each entry of each Kraus matrix is narrow, and each entry of each block is in range
   pub record Delivers : Type 0 where
-    -- the whole channel stands in the result, and the words after it are as they were
-    pub room : length (delivered n m σ ws) ≤ length r
-    pub result : resultAfter n m σ l ws r w ≡ delivered n m σ ws ++ drop (length (delivered n m σ ws)) r
-    -- the work words are zero, and those after them as they were
+    pub room : length (circuitWords n m σ (gatesOf ws)) ≤ length r
+    pub result : resultAfter n m σ l ws r w ≡ circuitWords n m σ (gatesOf ws) ++ drop (length (circuitWords n m σ (gatesOf ws))) r
     pub workRoom : worked n m ws ≤ length w
-    pub work : workAfter n m σ l ws r w ≡ zeros (worked n m ws) ++ drop (worked n m ws) w
-    -- no number grows too large: after every k gates each entry of each Kraus matrix is narrow, and each entry of each block is in range
+    pub work : workAfter n m σ l ws r w ≡ replicate (worked n m ws) (pos 0) ++ drop (worked n m ws) w
     pub matrices : (k : ℕ) → All (λ (b : Branch). (i : ℕ) → i < 2 ^ n * 2 ^ n → narrow (getD (b .matrix) i (exact .𝟘)) ≡ true) (branches n σ (take k (gatesOf ws)))
     pub blocks : (τ : Store) (i j : ℕ) → i < side (2 ^ n) → j < side (2 ^ n) → scalar.wellFormed (block (survivors (branches n σ (gatesOf ws))) τ i j) ≡ true
 
+  -- the first question that is answered by no decides; accepted is what answers each by yes, and nothing else
   pub record Judges : Type 0 where
-    -- the first question that is answered by no decides; accepted is what answers each by yes, and nothing else
     pub verdict : verdictOf n m σ l ws r w ≡ firstNo (asked n m σ l ws r w)
-    pub refusal : (xs ys : List Question) (q : Question) → asked n m σ l ws r w ≡ xs ++ (q ∷ ys) → every yes xs ≡ true → q .answer ≡ false → verdictOf n m σ l ws r w ≡ q .refusal
-    pub acceptance : accepts n m σ l ws r w ≡ every yes (asked n m σ l ws r w)
+    pub refusal : (xs ys : List Question) (q : Question) → asked n m σ l ws r w ≡ xs ++ (q ∷ ys) → every (λ (p : Question). p .answer) xs ≡ true → q .answer ≡ false → verdictOf n m σ l ws r w ≡ q .refusal
+    pub acceptance : accepts n m σ l ws r w ≡ every (λ (q : Question). q .answer) (asked n m σ l ws r w)
     pub refused : accepts n m σ l ws r w ≡ false → (resultAfter n m σ l ws r w ≡ r) × (workAfter n m σ l ws r w ≡ w)
     pub accepted : accepts n m σ l ws r w ≡ true → Delivers
 
@@ -69,25 +51,21 @@ abbrev pub Demand1 : Type 0
 Demand1 = (n m : ℕ) (σ : List ℕ) (l : Limits) (ws : List ℕ) (r w : List ℤ) → Judges n m σ l ws r w
 
 -- ---- demand 2: the channel delivered is that of the definitions, whatever the result held
--- of the result of an accepted call; bs are the surviving branches
+-- of the result of an accepted call; bs are the surviving branches. The stores along the chain are theirs, each with its block, which is Hermitian;
+-- the effects add up to the identity
 pub record IsChannel (n m : ℕ) (bs : List Branch) (l : List ℤ) : Type 0 where
   pub formed : wellFormed l ≡ true
   pub dim : dimAt l ≡ 2 ^ n
   pub bitCount : bitsAt l ≡ m
-  -- a block for each of the stores, and at least one
   pub count : countAt l ≡ length (stores bs)
   pub nonempty : 1 ≤ countAt l
-  -- the stores along the chain are those of the surviving branches
   pub listed : (s : ℕ) → some (λ (a : Block). eqb (a .store) s) (readBack l) ≡ some (λ (b : Branch). eqb (fromBits (b .store)) s) bs
-  -- each with its block, which is Hermitian
   pub entries : All (λ (a : Block). (i j : ℕ) → i < side (2 ^ n) → j < side (2 ^ n) → a .entry (i * side (2 ^ n) + j) ≡ block bs (bits m (a .store)) i j) (readBack l)
   pub hermitian : All (λ (a : Block). (i j : ℕ) → i < side (2 ^ n) → j < side (2 ^ n) → a .entry (i * side (2 ^ n) + j) ≡ conj (a .entry (j * side (2 ^ n) + i))) (readBack l)
-  -- the effects add up to the identity
   pub effects : (r c : ℕ) → r < 2 ^ n → c < 2 ^ n → foldl (λ (x : Exact) (a : Block). exact ._⊕_ x (effectOf (2 ^ n) (a .entry) r c)) (exact .𝟘) (readBack l) ≡ δ exact r c
 
 abbrev pub Demand2 : Type 0
-Demand2 =
-    (n m : ℕ) (σ : List ℕ) (l : Limits) (ws : List ℕ) (r w : List ℤ) → accepts n m σ l ws r w ≡ true
+Demand2 = (n m : ℕ) (σ : List ℕ) (l : Limits) (ws : List ℕ) (r w : List ℤ) → accepts n m σ l ws r w ≡ true
     → IsChannel n m (survivors (branches n σ (gatesOf ws))) (resultAfter n m σ l ws r w)
 
 -- ---- demand 3: schedules
@@ -104,31 +82,25 @@ ofGates k = elem k (4 ∷ 5 ∷ 6 ∷ [])
 abbrev pub noBlock : Block
 noBlock = record { store = 0; entry = λ (k : ℕ). exact .𝟘 }
 
--- two channels, record places and chain indices apart
+-- two channels, record places and chain indices apart: the same stores and entries along the chain, and the same for compare, whichever is on the left
 pub record SameChannel (l r : List ℤ) : Type 0 where
   pub count : countAt l ≡ countAt r
-  -- along the chain
   pub stores : map (λ (b : Block). b .store) (readBack l) ≡ map (λ (b : Block). b .store) (readBack r)
   pub entries : (j row col : ℕ) → row < side (dimAt l) → col < side (dimAt l)
       → getD (readBack l) j noBlock .entry (row * side (dimAt l) + col) ≡ getD (readBack r) j noBlock .entry (row * side (dimAt l) + col)
-  -- whichever is on the left
   pub compared : compareOf l r ≡ plain Same
   pub comparedBack : compareOf r l ≡ plain Same
 
 -- a circuit with the buffers r and w, and a schedule of it with the buffers s and x
 module _ (n m : ℕ) (σ : List ℕ) (l : Limits) (ws vs : List ℕ) (r w s x : List ℤ) where
-  abbrev pub decided : ℕ
-  decided = decidedBy (asked n m σ l ws r w)
-
+  -- a question of the gates, 4 to 6, decides for both or for neither; any other refusal is the same
   pub record Alike : Type 0 where
     pub acceptance : accepts n m σ l vs s x ≡ accepts n m σ l ws r w
-    -- a question of the gates, 4 to 6, decides for both or for neither; any other refusal is the same
-    pub gates : ofGates (decidedBy (asked n m σ l vs s x)) ≡ ofGates decided
-    pub refusal : ofGates decided ≡ false → verdictOf n m σ l vs s x ≡ verdictOf n m σ l ws r w
+    pub gates : ofGates (decidedBy (asked n m σ l vs s x)) ≡ ofGates (decidedBy (asked n m σ l ws r w))
+    pub refusal : ofGates (decidedBy (asked n m σ l ws r w)) ≡ false → verdictOf n m σ l vs s x ≡ verdictOf n m σ l ws r w
     pub channels : accepts n m σ l ws r w ≡ true → SameChannel (resultAfter n m σ l ws r w) (resultAfter n m σ l vs s x)
 
 -- for every circuit, sound or faulty, and every schedule of it, whatever buffers of the same lengths held
 abbrev pub Demand3 : Type 0
-Demand3 =
-    (n m : ℕ) (σ : List ℕ) (l : Limits) (ws vs table : List ℕ) → ScheduleOf ws vs table
+Demand3 = (n m : ℕ) (σ : List ℕ) (l : Limits) (ws vs table : List ℕ) → ScheduleOf ws vs table
     → (r w s x : List ℤ) → length s ≡ length r → length x ≡ length w → Alike n m σ l ws vs r w s x

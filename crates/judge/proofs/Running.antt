@@ -1,17 +1,17 @@
 -- An accepted call: what is asked of its run, of its delivery and of its buffers, and what they leave.
-use mathlib.Core.Path.{_≡_, sym, ap, _∙_, subst, subst₂}
+use mathlib.Core.Path.{_≡_, refl, sym, ap, _∙_, subst, subst₂}
 use mathlib.Core.Bool.{Bool, true, false, cond}
-use mathlib.Core.List.{List, []}
-use Prim.Native.Nat.{ℕ, suc, _+_, _*_, _^_, _≤_, _<_}
+use mathlib.Core.List.{List, [], _∷_, _++_}
+use Prim.Native.Nat.{ℕ, zero, suc, _+_, _*_, _^_, _≤_, _<_}
 use native.Mathlib.Nat.{mul-comm, mul-le-mul}
 use native.Mathlib.Decide.{decLt}
 use native.Mathlib.Omega.{arith}
 use lib.Pow.{pow-mono}
-use lib.ListN.{length}
+use lib.ListN.{length, drop, replicate, length-replicate}
 use lib.IntN.{ℤ, pos}
 use Rattle.algebra.specs.Lists.{every, total}
-use Rattle.algebra.specs.Words.{fillWords}
-use Rattle.algebra.proofs.Blocks.{written-over}
+use Rattle.algebra.specs.Words.{fillWords, joined}
+use Rattle.algebra.proofs.Blocks.{blocks-parts, written-over}
 use Rattle.gate.specs.Gate.{Gate, gatesOf, splits}
 use Rattle.gate.specs.Inner.Entries.{valid}
 use Rattle.kraus.specs.Branch.{Branch, branches}
@@ -25,11 +25,29 @@ use Rattle.circuit.proofs.Products.{square-is}
 use Rattle.collect.specs.Bank.{bankIn}
 use Rattle.collect.specs.Delivered.{blockNo, branchesWords, overwritten, Deliverable}
 use Rattle.collect.proofs.Held.{Held, circuit-held, bank-is, deliverable}
-use Rattle.judge.specs.Delivered.{circuitWords, zeroed}
+use Rattle.judge.specs.Delivered.{circuitWords}
 use Rattle.judge.specs.Call.{accepts, resultAfter, workAfter}
 use Rattle.judge.proofs.Accepted.{Sound, sound, channel-room}
 use Rattle.channel.proofs.Written.{length-channel}
 use Rattle.judge.specs.Inner.Accepted.{Accepted}
+
+-- ---- zeros at the start of a buffer
+abbrev zeroed : ℕ → List ℤ → List ℤ
+zeroed k l = overwritten (replicate k (pos 0)) l
+
+zeros-joined : (k : ℕ) → joined k (λ (i : ℕ). pos 0 ∷ []) ≡ replicate k (pos 0)
+unfolding joined
+zeros-joined zero = refl
+zeros-joined (suc k) = ap (λ (l : List ℤ). l ++ (pos 0 ∷ [])) (zeros-joined k) ∙ more k
+  where
+    more : (k : ℕ) → replicate k (pos 0) ++ (pos 0 ∷ []) ≡ pos 0 ∷ replicate k (pos 0)
+    more zero = refl
+    more (suc k) = ap (λ (l : List ℤ). pos 0 ∷ l) (more k)
+
+zeroed-is : (k : ℕ) (l : List ℤ) → k ≤ length l → fillWords l 0 k (λ (i : ℕ). pos 0) ≡ zeroed k l
+zeroed-is k l h =
+    let e : 0 + k * 1 ≡ length (replicate k (pos 0)) = omega (arith, length-replicate k (pos 0)) in
+    blocks-parts 1 (λ (i : ℕ). pos 0 ∷ []) (λ i. refl) l 0 k (omega arith) ∙ (λ i. zeros-joined k i ++ drop (e i) l)
 
 -- so many splits make the largest number of branches
 at-most : (s : ℕ) → 2 ^ s ≤ maxBranches → s ≤ maxSplits
@@ -118,7 +136,7 @@ module _ {n m : ℕ} {σ : List ℕ} {ws : List ℕ} {r w : List ℤ} (a : Accep
         cleared h =
             h ∙ ap (λ (x : ℕ). fillWords b 0 x (λ (i : ℕ). pos 0)) used-is
             ∙ written-over w b (workSize d k) (λ (i : ℕ). pos 0) (runs .room) (record { long = ran .long; word = λ i p q. ran .kept i p })
-            ∙ ap (λ (x : ℕ). zeroed x w) ((λ i. workSize (e i) (f i)) ∙ size-is (2 ^ n) B)
+            ∙ zeroed-is (workSize d k) w (runs .room) ∙ ap (λ (x : ℕ). zeroed x w) ((λ i. workSize (e i) (f i)) ∙ size-is (2 ^ n) B)
 
 -- ---- what a call leaves, accepted or refused
 chosen : {A : Type 0} (x y : A) {b : Bool} → b ≡ true → {q : A} → q ≡ x → q ≡ cond b x y

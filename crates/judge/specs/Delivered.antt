@@ -1,8 +1,7 @@
 -- The words that circuit_channel delivers: the channel of a circuit, as words of the result.
 use mathlib.Core.List.{List}
 use Prim.Native.Nat.{ℕ, _^_}
-use lib.IntN.{ℤ, pos}
-use Rattle.algebra.specs.Words.{fillWords}
+use lib.IntN.{ℤ}
 use Rattle.gate.specs.Gate.{Gate}
 use Rattle.kraus.specs.Branch.{Store, branches}
 use Rattle.kraus.specs.Blocks.{survivors}
@@ -11,7 +10,3 @@ use Rattle.collect.specs.Delivered.{branchesWords}
 -- the words of a circuit's channel: n qubits, m bits, the initial store σ
 abbrev pub circuitWords : ℕ → ℕ → Store → List Gate → List ℤ
 circuitWords n m σ gs = branchesWords (2 ^ n) m (survivors (branches n σ gs))
-
--- a work buffer whose first k words are zero
-abbrev pub zeroed : ℕ → List ℤ → List ℤ
-zeroed k l = fillWords l 0 k (λ (i : ℕ). pos 0)

@@ -9,11 +9,13 @@ use matrix::words::clear;
 use verdict::Verdict;
 ghost use mathlib.Core.Path.{_≡_};
 ghost use Prim.Native.Nat.{_^_};
+ghost use lib.ListN.{replicate};
+ghost use lib.IntN.{pos};
 ghost use Rattle.algebra.specs.Lists.{total};
 ghost use Rattle.gate.specs.Gate.{gatesOf, splits};
 ghost use Rattle.circuit.specs.Sizes.{workWords};
 ghost use Rattle.collect.specs.Delivered.{overwritten};
-ghost use Rattle.judge.specs.Delivered.{circuitWords, zeroed};
+ghost use Rattle.judge.specs.Delivered.{circuitWords};
 ghost use Rattle.judge.specs.Call.{verdictOf, resultAfter, workAfter};
 ghost use Rattle.judge.specs.Inner.Accepted.{Accepted};
 
@@ -28,7 +30,8 @@ fn run_and_deliver(
     work: &mut [i64],
 )
     requires { ⌜ (split_count ≡ total splits (gatesOf (now gates))) × Accepted qubits bits (now store) (now gates) (now result) (now work) ⌝ }
-    ensures { λ _. ⌜ (now (result .exit) ≡ overwritten (circuitWords qubits bits (now (store .entry)) (gatesOf (now (gates .entry)))) (now (result .entry))) × (now (work .exit) ≡ zeroed (workWords (2 ^ total splits (gatesOf (now (gates .entry)))) (2 ^ qubits)) (now (work .entry))) ⌝ }
+    ensures { λ _. ⌜ now (result .exit) ≡ overwritten (circuitWords qubits bits (now (store .entry)) (gatesOf (now (gates .entry)))) (now (result .entry)) ⌝ }
+    ensures { λ _. ⌜ now (work .exit) ≡ overwritten (replicate (workWords (2 ^ total splits (gatesOf (now (gates .entry)))) (2 ^ qubits)) (pos 0)) (now (work .entry)) ⌝ }
 {
     let d = power(qubits as u64) as usize;
     let banks = power(split_count) as usize;

@@ -6,10 +6,11 @@ use Prim.Native.Nat.{ℕ, _≤_}
 use native.Mathlib.Omega.{arith}
 use lib.ListN.{length, drop, length-append, length-drop}
 use lib.IntN.{ℤ}
+use Rattle.gate.specs.Gate.{gatesOf}
 use Rattle.circuit.specs.Limits.{ceilings}
 use Rattle.verdict.specs.Verdict.{verdictNumber, verdictIndex}
 use Rattle.judge.specs.Call.{verdictOf, accepts, resultAfter}
-use Rattle.demands.specs.Demands.{delivered}
+use Rattle.judge.specs.Delivered.{circuitWords}
 use Rattle.demands.proofs.Demands.{demand1, demand2}
 use Rattle.circuit_text.specs.Input.{bitsIn, storeIn, wordsIn, circuitIn, numbersOf, isInputText}
 use Rattle.listing.specs.Listing.{listing, listingOf, refusalLine, inputLine}
@@ -28,7 +29,7 @@ module _ (n m : ℕ) (σ ws : List ℕ) (r w : List ℤ) (h : length r ≤ 5200)
   channel-most : accepts n m σ ceilings ws r w ≡ true → length (resultAfter n m σ ceilings ws r w) ≤ 5200
   channel-most e =
       let d = demand1 n m σ ceilings ws r w .accepted e in
-      let c = delivered n m σ ws in
+      let c = circuitWords n m σ (gatesOf ws) in
       omega (arith, ap length (d .result), length-append c (drop (length c) r), length-drop (length c) r, d .room)
 
   lines-most : length (linesOf n m σ ws r w) ≤ maxListing

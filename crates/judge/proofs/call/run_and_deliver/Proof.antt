@@ -31,19 +31,22 @@ deliver-requires c κs =
 
 mul-used : tie.Need-mul-used
 mul-used c =
-    let a = c .before .before .before .before .before .before .before in
+    let g = c .before .before .before .before .before in
+    let a = g .before .before in
     let p = a .before in
     omega (arith, count-small (p .before .before .before .pre .1) (p .power .ensures) (many a))
 
 add-used : tie.Need-add-used
 add-used c =
-    let a = c .before .before .before .before .before .before .before in
+    let g = c .before .before .before .before .before in
+    let a = g .before .before in
     let p = a .before in
     omega (arith, count-small (p .before .before .before .pre .1) (p .power .ensures) (many a))
 
 branch-size-requires : tie.Need-branch-size-requires
 branch-size-requires c κs =
-    let a = c .before .before .before .before .before .before .before in
+    let g = c .before .before .before .before .before in
+    let a = g .before .before in
     let p = a .before in
     omega (arith, dim-small (p .before .before .before .pre .1) (p .power .ensures) (many a))
 
