@@ -59,7 +59,7 @@ module _ (n i : ℕ) (p : ℕ → Bool) where
 -- ---- of all n
 module _ (n : ℕ) (p : ℕ → Bool) where
   -- the first that fails, or that all hold
-  Found : Type 0
+  abbrev Found : Type 0
   Found = First n 0 p (firstNot n 0 p) ⊎ (firstNot n 0 p ≡ 0 + n) × ((j : ℕ) → 0 ≤ j → j < 0 + n → p j ≡ true)
 
   pub first-is : allBelow n p ≡ false → (firstNot n 0 p < n) × (p (firstNot n 0 p) ≡ false)
