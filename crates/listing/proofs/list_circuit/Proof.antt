@@ -1,4 +1,5 @@
 -- `list_circuit` meets its contract.
+use Prim.Native.Nat.{ℕ}
 use mathlib.Core.Path.{_≡_, sym, ap, _∙_, subst}
 use mathlib.Core.Bool.{true}
 use mathlib.Core.List.{List}
@@ -10,7 +11,7 @@ use Rattle.circuit.specs.Limits.{ceilings}
 use Rattle.channel.specs.WellFormed.{wellFormed}
 use Rattle.demands.proofs.Demands.{demand2}
 use Rattle.judge.specs.Call.{resultAfter, workAfter}
-use Rattle.text.specs.Page.{page, write}
+use Rattle.text.specs.Page.{Page, page, write}
 use Rattle.listing.specs.Listing.{refusalLine}
 use Rattle.listing.specs.Answer.{linesFor, linesOf}
 use Rattle.listing.proofs.Answers.{listed, refused, lines-is}
@@ -21,33 +22,49 @@ module _ (j : tie.After-circuit-channel) where
   abbrev known : tie.After-defaults
   known = j .before .before .before
 
-  abbrev args : tie.Args
-  args = known .before .before .before .before .args
+  abbrev start : tie.Start
+  start = known .before .before .before .before
+
+  abbrev qubits : ℕ
+  qubits = start .args .qubits
+
+  abbrev bits : ℕ
+  bits = start .args .bits
+
+  abbrev store : List ℕ
+  store = start .args .store .now
+
+  abbrev gates : List ℕ
+  gates = start .args .gates .now
+
+  abbrev result : List ℤ
+  result = start .args .result .now
+
+  abbrev work : List ℤ
+  work = start .args .work .now
+
+  -- the page to write to
+  abbrev blank : Page
+  blank = page (start .args .out .now) 0
 
   -- the words that the call leaves in the result
   abbrev left : List ℤ
   left = j .circuit-channel .last .1 .1 .1 .1 .1 .0
 
-  is : linesFor (j .circuit-channel .result) left ≡ linesOf (args .qubits) (args .bits) (args .store .now) (args .gates .now) (args .result .now) (args .work .now)
-  is =
-      lines-is (args .qubits) (args .bits) (args .store .now) (args .gates .now) (args .result .now) (args .work .now)
-      (known .defaults .ensures)
-      (j .circuit-channel .ensures .0)
-      (j .circuit-channel .ensures .1 .0)
+  is : linesFor (j .circuit-channel .result) left ≡ linesOf qubits bits store gates result work
+  is = lines-is qubits bits store gates result work (known .defaults .ensures) (j .circuit-channel .ensures .0) (j .circuit-channel .ensures .1 .0)
 
-  buffers :
-      (left ≡ resultAfter (args .qubits) (args .bits) (args .store .now) ceilings (args .gates .now) (args .result .now) (args .work .now))
-      × (j .circuit-channel .last .1 .1 .1 .1 .1 .1 .0 ≡ workAfter (args .qubits) (args .bits) (args .store .now) ceilings (args .gates .now) (args .result .now) (args .work .now))
-  buffers = (
-    j .circuit-channel .ensures .1 .0 ∙ ap (λ (x : Limits). resultAfter (args .qubits) (args .bits) (args .store .now) x (args .gates .now) (args .result .now) (args .work .now)) (known .defaults .ensures),
-    j .circuit-channel .ensures .1 .1 ∙ ap (λ (x : Limits). workAfter (args .qubits) (args .bits) (args .store .now) x (args .gates .now) (args .result .now) (args .work .now)) (known .defaults .ensures),
-  )
+  result-is : left ≡ resultAfter qubits bits store ceilings gates result work
+  result-is = j .circuit-channel .ensures .1 .0 ∙ ap (λ (x : Limits). resultAfter qubits bits store x gates result work) (known .defaults .ensures)
+
+  work-is : j .circuit-channel .last .1 .1 .1 .1 .1 .1 .0 ≡ workAfter qubits bits store ceilings gates result work
+  work-is = j .circuit-channel .ensures .1 .1 ∙ ap (λ (x : Limits). workAfter qubits bits store x gates result work) (known .defaults .ensures)
 
   -- an accepted call leaves a channel
   formed : accepted (j .circuit-channel .result) ≡ true → wellFormed left ≡ true
   formed e =
       subst (λ (q : List ℤ). wellFormed q ≡ true) (sym (j .circuit-channel .ensures .1 .0))
-      (demand2 (args .qubits) (args .bits) (args .store .now) _ (args .gates .now) (args .result .now) (args .work .now) (ap accepted (sym (j .circuit-channel .ensures .0)) ∙ e) .formed)
+      (demand2 qubits bits store (known .defaults .result) gates result work (ap accepted (sym (j .circuit-channel .ensures .0)) ∙ e) .formed)
 
 defaults-requires : tie.Need-defaults-requires
 defaults-requires c κs = search needs
@@ -76,7 +93,7 @@ returns c =
     let t = l .before .before .before in
     let j = t .before .before .before .before in
     let e = sym (t .before .is-accepted .ensures) ∙ t .if1 .taken in
-    (l .put-channel .ensures .is ∙ ap (write (page (args j .out .now) 0)) (listed (j .circuit-channel .result) (left j) e ∙ is j), buffers j)
+    (l .put-channel .ensures .is ∙ ap (write (blank j)) (listed (j .circuit-channel .result) (left j) e ∙ is j), (result-is j, work-is j))
 
 number-requires : tie.Need-number-requires
 number-requires c κs = search needs
@@ -107,9 +124,9 @@ returns-2 c =
     let j = t .before .before .before .before in
     let e = sym (t .before .is-accepted .ensures) ∙ t .if1 .left in (
       f .write-refusal .ensures
-          ∙ (λ k. write (page (args j .out .now) 0) (refusalLine (i .before .number .ensures k) (i .index .ensures k)))
-          ∙ ap (write (page (args j .out .now) 0)) (refused (j .circuit-channel .result) (left j) e ∙ is j),
-      buffers j,
+          ∙ (λ k. write (blank j) (refusalLine (i .before .number .ensures k) (i .index .ensures k)))
+          ∙ ap (write (blank j)) (refused (j .circuit-channel .result) (left j) e ∙ is j),
+      (result-is j, work-is j),
     )
 
 pub list-circuit-spec : {M : Type 1} → statement M
