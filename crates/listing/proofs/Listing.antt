@@ -5,7 +5,10 @@ use mathlib.Core.List.{List, [], _∷_, _++_, map}
 use Prim.Native.Nat.{ℕ, zero, suc, _+_, _*_, _-_, _/_, _%_, _^_, _<_, _≤_}
 use native.Mathlib.Numerals.{add-one}
 use native.Mathlib.Omega.{arith}
+use lib.Dec.{leb}
+use lib.ListN.{length}
 use lib.IntN.{ℤ, pos, natAbs}
+use borrow.Author.Tests.{leb-true}
 use lib.Signed.{mag}
 use mir.Syntax.{w64}
 use mir.Val.{toZ, ofZ}
@@ -16,15 +19,15 @@ use Rattle.exact.specs.Exact.{Exact, isZero}
 use Rattle.cells.specs.Cells.{cellWords}
 use Rattle.algebra.proofs.Tests.{and-split}
 use Rattle.store.specs.Store.{maxWord, bits}
-use Rattle.channel.specs.Layout.{side, word, storeAt, chain, dimAt, bitsAt, readBack, blockAt}
-use Rattle.channel.specs.WellFormed.{storeOk, rises, entriesOk, wellFormed}
-use Rattle.channel.specs.Inner.Shapes.{shapeAt, Onward}
-use Rattle.channel.specs.declared.Shape.{Shape}
+use Rattle.channel.specs.Layout.{headerSize, recordSize, side, word, storeAt, chain, dimAt, bitsAt, readBack, blockAt}
+use Rattle.channel.specs.WellFormed.{storeOk, rises, entriesOk, isDim, headerOk, chained, wellFormed}
+use Rattle.channel.specs.Inner.Shapes.{Onward}
+use Rattle.channel.proofs.Words.{dim-range}
 use Rattle.channel.proofs.Chain.{on-record}
 use Rattle.text.specs.Decimal.{decimal}
 use Rattle.text.specs.Page.{Page}
 use Rattle.text.specs.Inner.Written.{Written}
-use Rattle.listing.specs.Listing.{newline, spaced, firstLine, storeBits, entryLine, entryLines, blockLines, listing, listingOf}
+use Rattle.listing.specs.Listing.{newline, spaced, storeBits, entryLine, entryLines, listing, listingOf}
 use Rattle.text.proofs.Put.{text}
 
 -- ---- bits
@@ -84,11 +87,24 @@ pub chain-end : (l : List ℤ) (n at : ℕ) → n ≤ 0 → chain l n at ≡ []
 chain-end l n at h = let e : n ≡ 0 = omega arith in ap (λ (k : ℕ). chain l k at) e
 
 -- ---- the listing
+-- the words of a well-formed channel's header
+pub record Header (l : List ℤ) : Type 0 where
+  pub long : headerSize ≤ length l
+  pub dim : upTo 16 (word l 0) ≡ true
+  pub bits : upTo 64 (word l 1) ≡ true
+  pub count : upTo ((length l - headerSize) / recordSize (side (dimAt l))) (word l 2) ≡ true
+
+pub header : (l : List ℤ) → wellFormed l ≡ true → Header l
+unfolding wellFormed
+header l e =
+    let t = and-split (leb headerSize (length l)) _ (and-split (headerOk l) (chained l) e .0) in
+    let u = and-split (isDim (word l 0) && upTo 64 (word l 1)) _ (t .1) in
+    let v = and-split (isDim (word l 0)) _ (u .0) in
+    record { long = leb-true headerSize (length l) (t .0); dim = dim-range (word l 0) (v .0) .0; bits = v .1; count = u .1 }
+
 module _ (l : List ℤ) where
-  pub listed : (h : Shape) → wellFormed l ≡ true → h ≡ shapeAt l → firstLine (h .dim) (h .bits) (h .count) ++ concatMap (blockLines (h .bits) (h .dim * h .dim)) (readBack l) ≡ listingOf l
-  listed h e f =
-      ap (λ (h : Shape). firstLine (h .dim) (h .bits) (h .count) ++ concatMap (blockLines (h .bits) (h .dim * h .dim)) (readBack l)) f
-      ∙ ap (λ (t : Bool). cond t (listing l) []) (sym e)
+  pub all-listed : wellFormed l ≡ true → listing l ≡ listingOf l
+  all-listed e = ap (λ (t : Bool). cond t (listing l) []) (sym e)
 
   pub unlisted : wellFormed l ≡ false → [] ≡ listingOf l
   unlisted e = ap (λ (t : Bool). cond t (listing l) []) (sym e)

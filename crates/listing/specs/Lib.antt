@@ -1,2 +1,4 @@
 pub mod Listing
+pub mod Answer
 pub mod Claims
+pub mod Examples

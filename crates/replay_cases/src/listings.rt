@@ -1,5 +1,5 @@
 // Cases of the program that lists a channel.
-use list_text::list;
+use listing::list;
 use replay::record::Record;
 use replay::text::read;
 use replay::words::fitting;

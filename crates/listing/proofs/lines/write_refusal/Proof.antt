@@ -23,7 +23,12 @@ same-length : tie.Need-same-length
 same-length c = search needs
 
 returns : tie.Need-returns
-returns c = then (then (then (c .before .before .before .before .before .before .before .before .before .before .before .before .before .before .put-all .ensures) (c .before .before .before .before .before .before .before .before .before .before .put-natural .ensures)) (c .before .before .before .before .before .before .put-natural2 .ensures)) (c .before .before .put .ensures) .is
+returns c =
+    let d = c .before .before in
+    let k = d .before .before .before .before in
+    let b = k .before .before .before .before in
+    let a = b .before .before .before .before in
+    then (then (then (a .put-all .ensures) (b .put-natural .ensures)) (k .put-natural2 .ensures)) (d .put .ensures) .is
 
 pub write-refusal-spec : {M : Type 1} → statement M
 write-refusal-spec =

@@ -18,7 +18,9 @@ same-length c = search needs
 
 returns : tie.Need-returns
 returns c =
-    text (ap spaced (toZ-ofZ (c .before .before .before .before .before .before .before .before .before .fits .z))) (then (c .before .before .before .before .before .before .put .ensures) (c .before .before .put-signed .ensures))
+    let k = c .before .before in
+    let p = k .before .before .before .before in
+    text (ap spaced (toZ-ofZ (p .before .before .before .fits .z))) (then (p .put .ensures) (k .put-signed .ensures))
 
 pub put-spaced-spec : {M : Type 1} → statement M
 put-spaced-spec = tie.close (tie.spec put-requires put-signed-requires same-length returns)

@@ -1,4 +1,0 @@
-pub mod Answers
-pub mod Inputs
-pub mod Printing
-pub mod Examples

@@ -1,0 +1,13 @@
+-- All examples hold, by computation.
+use mathlib.Core.Path.{refl}
+use Rattle.algebra.specs.Words.{blocks, joined}
+use Rattle.store.specs.Store.{before}
+use Rattle.listing.specs.Listing.{storeBits, entryLines}
+use Rattle.text.specs.Decimal.{value, isNumber, digits}
+use Rattle.circuit_text.specs.Text.{bodyLength, pieces}
+use Rattle.circuit_text.specs.Input.{isInput, isInputText}
+use Rattle.listing.specs.Examples.{Examples}
+
+pub examples : Examples
+unfolding blocks joined before digits storeBits entryLines bodyLength pieces value isNumber isInput isInputText
+examples = refl

@@ -1,0 +1,48 @@
+-- Document 01's examples that are marked P, with more at the edges, as rows of one list, and the claim that all of them hold. Scalar calls and verdicts are listed
+-- where their definitions are; the others are texts, with the whole answer of the program.
+use mathlib.Core.Path.{_≡_}
+use mathlib.Core.Bool.{Bool, true}
+use mathlib.Core.List.{List, [], _∷_, _++_, map}
+use Prim.Native.Nat.{ℕ}
+use lib.ListN.{replicate}
+use lib.IntN.{ℤ, pos}
+use Rattle.algebra.specs.Lists.{every}
+use Rattle.scalar.specs.Claims as scalars
+use Rattle.circuit.specs.Claims as circuits
+use Rattle.gate.specs.Operators.{sameBits}
+use Rattle.text.specs.Ascii.{ascii}
+use Rattle.listing.specs.Answer.{answerOf}
+
+pub data Row : Type 0 where
+  scalar : scalars.Row → Row
+  verdict : circuits.Row → Row
+  -- a text and its answer
+  listing : List ℕ → List ℕ → Row
+
+-- the buffers that the program lends
+abbrev pub words : ℕ → List ℤ
+words n = replicate n (pos 0)
+
+abbrev pub holds : Row → Bool
+holds (scalar r) = scalars.holds r
+holds (verdict r) = circuits.holds r
+holds (listing t a) = sameBits (answerOf t (words 5200) (words 2000)) a
+
+abbrev pub listings : List Row
+listings =
+    -- no qubits, no bits, no gates
+    listing (ascii "0 0 0") (ascii "dim 1 cbits 0 blocks 1\nstore -\n0 0 1 0 0 0 0\n")
+    -- reset alone on 1 qubit
+    ∷ listing (ascii "1 0 1 13 0 0 0 0") (ascii "dim 2 cbits 0 blocks 1\nstore -\n0 0 1 0 0 0 0\n1 1 1 0 0 0 0\n")
+    -- h, then measure
+    ∷ listing (ascii "1 1 0 2 0 0 0 0 0 12 0 0 0 0") (
+    ascii "dim 2 cbits 1 blocks 2\n"
+    ++ ascii "store 0\n0 0 1 0 0 0 1\n0 1 1 0 0 0 1\n1 0 1 0 0 0 1\n1 1 1 0 0 0 1\n"
+    ++ ascii "store 1\n2 2 1 0 0 0 1\n2 3 -1 0 0 0 1\n3 2 -1 0 0 0 1\n3 3 1 0 0 0 1\n")
+    ∷ []
+
+abbrev pub rows : List Row
+rows = map scalar scalars.rows ++ map verdict circuits.rows ++ listings
+
+abbrev pub Examples : Type 0
+Examples = every holds rows ≡ true

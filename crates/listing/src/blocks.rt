@@ -1,0 +1,137 @@
+// The lines of a well-formed channel.
+use super::spaced::put_natural;
+use super::spaced::put_spaced;
+use cells::zero_at;
+use channel::layout::entry_place;
+use channel::layout::follow;
+use channel::layout::read_store;
+use text::page::put;
+use text::page::put_all;
+use text::page::put_decimal;
+ghost use mathlib.Core.Path.{_≡_};
+ghost use mathlib.Core.Bool.{true};
+ghost use Prim.Native.Nat.{_+_, _*_, _≤_};
+ghost use lib.ListN.{length};
+ghost use Rattle.algebra.specs.Lists.{concatMap};
+ghost use Rattle.cells.specs.Cells.{cellSize, cellAt, cellWords, exponentAt, wellFormedAt};
+ghost use Rattle.channel.specs.Layout.{recordSize, side, entryAt, blockAt, dimAt, bitsAt, countAt, readBack};
+ghost use Rattle.channel.specs.WellFormed.{storeOk, entriesOk, wellFormed};
+ghost use Rattle.text.specs.Page.{page};
+ghost use Rattle.text.specs.Inner.Written.{Written};
+ghost use Rattle.listing.specs.Listing.{spaced, firstLine, storeBits, storeLine, entryLine, entryLines, blockLines, listing};
+
+// The bits of a store from bit 0 on, or "-" where there are none.
+fn put_bits(out: &mut [u8], at: usize, store: u64, m: u32) -> usize
+    ensures { λ r. ⌜ Written (page (now (out .entry)) at) (storeBits m store) (page (now (out .exit)) r) ⌝ }
+{
+    if m == 0 {
+        return put(out, at, b'-');
+    }
+    let mut p = at;
+    let mut rest = store;
+    let mut left = m;
+    while 0 < left {
+        p = put(out, p, b'0' + (rest % 2) as u8);
+        rest = rest / 2;
+        left -= 1;
+    }
+    p
+}
+
+fn put_store(out: &mut [u8], at: usize, store: u64, m: u32) -> usize
+    ensures { λ r. ⌜ Written (page (now (out .entry)) at) (storeLine m store) (page (now (out .exit)) r) ⌝ }
+{
+    let a = put_all(out, at, b"store ");
+    let b = put_bits(out, a, store, m);
+    put(out, b, b'\n')
+}
+
+// The five numbers of a cell, each after a space.
+fn put_cell(out: &mut [u8], at: usize, s: &[i64], place: usize) -> usize
+    requires { ⌜ (place + cellSize ≤ length (now s)) × (exponentAt (now s) place ≡ true) ⌝ }
+    ensures { λ r. ⌜ Written (page (now (out .entry)) at) (concatMap spaced (cellWords (cellAt (now (s .entry)) place))) (page (now (out .exit)) r) ⌝ }
+{
+    let a = put_spaced(out, at, s[place]);
+    let b = put_spaced(out, a, s[place + 1]);
+    let c = put_spaced(out, b, s[place + 2]);
+    let d = put_spaced(out, c, s[place + 3]);
+    put_spaced(out, d, s[place + 4])
+}
+
+// The line of an entry that is not zero.
+fn put_entry(out: &mut [u8], at: usize, s: &[i64], place: usize, row: usize, column: usize) -> usize
+    requires { ⌜ (place + cellSize ≤ length (now s)) × (wellFormedAt (now s) place ≡ true) ⌝ }
+    ensures { λ r. ⌜ Written (page (now (out .entry)) at) (entryLine row column (cellAt (now (s .entry)) place)) (page (now (out .exit)) r) ⌝ }
+{
+    if zero_at(s, place) {
+        return at;
+    }
+    let a = put_decimal(out, at, row as u64);
+    let b = put_natural(out, a, column as u64);
+    let c = put_cell(out, b, s, place);
+    put(out, c, b'\n')
+}
+
+// The entries of the record of side w at `place`, rows then columns.
+fn put_entries(out: &mut [u8], at: usize, s: &[i64], place: usize, w: usize) -> usize
+    requires { ⌜ (w ≤ 256) × ((place + recordSize w ≤ length (now s)) × (entriesOk (now s) place (w * w) ≡ true)) ⌝ }
+    ensures { λ r. ⌜ Written (page (now (out .entry)) at) (entryLines w (w * w) (entryAt (now (s .entry)) place)) (page (now (out .exit)) r) ⌝ }
+{
+    let n = w * w;
+    let mut p = at;
+    let mut k = 0;
+    while k < n {
+        p = put_entry(out, p, s, entry_place(place, k), k / w, k % w);
+        k += 1;
+    }
+    p
+}
+
+// The block of the record of side w at `place`: its store, then its entries.
+fn put_block(out: &mut [u8], at: usize, s: &[i64], place: usize, w: usize, m: u32) -> usize
+    requires { ⌜ (w ≤ 256) × ((place + recordSize w ≤ length (now s)) × ((storeOk (now s) place m ≡ true) × (entriesOk (now s) place (w * w) ≡ true))) ⌝ }
+    ensures { λ r. ⌜ Written (page (now (out .entry)) at) (blockLines m w (blockAt (now (s .entry)) place)) (page (now (out .exit)) r) ⌝ }
+{
+    let a = put_store(out, at, read_store(s, place), m);
+    put_entries(out, a, s, place, w)
+}
+
+// The blocks of a well-formed channel, along its chain.
+fn put_blocks(out: &mut [u8], at: usize, s: &[i64], w: usize, m: u32, count: usize) -> usize
+    requires { ⌜ (wellFormed (now s) ≡ true) × ((w ≡ side (dimAt (now s))) × ((m ≡ bitsAt (now s)) × (count ≡ countAt (now s)))) ⌝ }
+    ensures { λ r. ⌜ Written (page (now (out .entry)) at) (concatMap (blockLines m w) (readBack (now (s .entry)))) (page (now (out .exit)) r) ⌝ }
+{
+    let mut p = at;
+    let mut place = follow(s, 3);
+    let mut left = count;
+    while 0 < left {
+        p = put_block(out, p, s, place, w, m);
+        place = follow(s, place);
+        left -= 1;
+    }
+    p
+}
+
+fn put_first(out: &mut [u8], at: usize, dim: u64, bits: u64, count: u64) -> usize
+    ensures { λ r. ⌜ Written (page (now (out .entry)) at) (firstLine dim bits count) (page (now (out .exit)) r) ⌝ }
+{
+    let a = put_all(out, at, b"dim");
+    let b = put_natural(out, a, dim);
+    let c = put_all(out, b, b" cbits");
+    let d = put_natural(out, c, bits);
+    let e = put_all(out, d, b" blocks");
+    let f = put_natural(out, e, count);
+    put(out, f, b'\n')
+}
+
+// The lines of a channel, from the page's start on.
+pub fn put_channel(out: &mut [u8], s: &[i64]) -> usize
+    requires { ⌜ wellFormed (now s) ≡ true ⌝ }
+    ensures { λ r. ⌜ Written (page (now (out .entry)) 0) (listing (now (s .entry))) (page (now (out .exit)) r) ⌝ }
+{
+    let dim = s[0] as usize;
+    let bits = s[1] as u32;
+    let count = s[2] as usize;
+    let a = put_first(out, 0, dim as u64, bits as u64, count as u64);
+    put_blocks(out, a, s, dim * dim, bits, count)
+}
