@@ -3,6 +3,7 @@ use mathlib.Core.Path.{_≡_, refl, sym, ap, _∙_}
 use mathlib.Core.Bool.{Bool, true, false, cond, _&&_}
 use mathlib.Core.List.{List, [], _∷_, map}
 use Prim.Native.Nat.{ℕ, suc, _+_, _-_, _<_, _≤_}
+use Prim.Native.Char.{code}
 use native.Mathlib.Numerals.{add-one}
 use native.Mathlib.Omega.{arith}
 use lib.Dec.{eqb, leb, leb·suc-suc}
@@ -21,21 +22,21 @@ module _ (t : List ℕ) where
   unfolding bodyLength
   body-empty e = by t e
     where
-      by : (t : List ℕ) → length t ≡ 0 → length t ≡ cond (eqb (getD t (length t - 1) 0) 10) (length t - 1) (length t)
+      by : (t : List ℕ) → length t ≡ 0 → length t ≡ cond (eqb (getD t (length t - 1) 0) (code "\n")) (length t - 1) (length t)
       by [] e = refl
       by (b ∷ bs) e = absurd (omega arith)
 
-  pub body-less : getD t (length t - 1) 0 ≡ 10 → length t - 1 ≡ bodyLength t
+  pub body-less : getD t (length t - 1) 0 ≡ code "\n" → length t - 1 ≡ bodyLength t
   unfolding bodyLength
-  body-less e = ap (λ (c : Bool). cond c (length t - 1) (length t)) (sym (eq-eqb _ 10 e))
+  body-less e = ap (λ (c : Bool). cond c (length t - 1) (length t)) (sym (eq-eqb _ (code "\n") e))
 
-  pub body-whole : (getD t (length t - 1) 0 ≡ 10 → ⊥) → length t ≡ bodyLength t
+  pub body-whole : (getD t (length t - 1) 0 ≡ code "\n" → ⊥) → length t ≡ bodyLength t
   unfolding bodyLength
-  body-whole e = ap (λ (c : Bool). cond c (length t - 1) (length t)) (sym (ne-eqb _ 10 e))
+  body-whole e = ap (λ (c : Bool). cond c (length t - 1) (length t)) (sym (ne-eqb _ (code "\n") e))
 
   pub body-inside : bodyLength t ≤ length t
   unfolding bodyLength
-  body-inside = by (eqb (getD t (length t - 1) 0) 10)
+  body-inside = by (eqb (getD t (length t - 1) 0) (code "\n"))
     where
       by : (c : Bool) → cond c (length t - 1) (length t) ≤ length t
       by true = omega arith

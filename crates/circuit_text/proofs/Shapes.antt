@@ -17,33 +17,33 @@ use Rattle.circuit_text.specs.declared.input.Circuit.{Circuit}
 use Rattle.circuit_text.specs.declared.input.Seen.{Seen}
 use Rattle.text.specs.Decimal.{value, isNumber}
 use Rattle.circuit_text.specs.Text.{maxBytes, bodyLength, body, pieces}
-use Rattle.circuit_text.specs.Input.{maxBits, maxGates, maxNumbers, bitsIn, gatesIn, storeIn, circuitIn, bytes, isInput, numbersOf, isInputText, inputOf, filled, stored}
+use Rattle.circuit_text.specs.Input.{maxBits, maxGates, numberCount, maxNumbers, maxByte, bitsIn, gatesIn, storeIn, circuitIn, bytes, isInput, numbersOf, isInputText, inputOf, filled, stored}
 use Rattle.circuit_text.specs.Inner.Reading.{noneSeen, seenWith, seenOk, seenInput, inputIn}
 
 -- what holds of the numbers of an input
 pub record Right (ns : List ℕ) : Type 0 where
-  pub bits : bitsIn ns ≤ 64
-  pub gates : gatesIn ns ≤ 64
-  pub size : length ns ≡ 3 + bitsIn ns + 5 * gatesIn ns
+  pub bits : bitsIn ns ≤ maxBits
+  pub gates : gatesIn ns ≤ maxGates
+  pub size : length ns ≡ numberCount (bitsIn ns) (gatesIn ns)
   pub store : bytes ns (bitsIn ns) ≡ true
 
 module _ (ns : List ℕ) where
   pub right : isInput ns ≡ true → Right ns
   unfolding isInput
   right e =
-      let t = and-split (leb (bitsIn ns) 64 && leb (gatesIn ns) 64) _ e in
-      let u = and-split (leb (bitsIn ns) 64) _ (t .0) in
-      let v = and-split (eqb (length ns) (3 + bitsIn ns + 5 * gatesIn ns)) _ (t .1) in
+      let t = and-split (leb (bitsIn ns) maxBits && leb (gatesIn ns) maxGates) _ e in
+      let u = and-split (leb (bitsIn ns) maxBits) _ (t .0) in
+      let v = and-split (eqb (length ns) (numberCount (bitsIn ns) (gatesIn ns))) _ (t .1) in
       record {
-        bits = leb-true (bitsIn ns) 64 (u .0);
-        gates = leb-true (gatesIn ns) 64 (u .1);
-        size = eqb-true (length ns) (3 + bitsIn ns + 5 * gatesIn ns) (v .0);
+        bits = leb-true (bitsIn ns) maxBits (u .0);
+        gates = leb-true (gatesIn ns) maxGates (u .1);
+        size = eqb-true (length ns) (numberCount (bitsIn ns) (gatesIn ns)) (v .0);
         store = v .1;
       }
 
   pub is-input : Right ns → isInput ns ≡ true
   unfolding isInput
-  is-input r = λ i. (le-leb (bitsIn ns) 64 (r .bits) i && le-leb (gatesIn ns) 64 (r .gates) i) && (eq-eqb (length ns) (3 + bitsIn ns + 5 * gatesIn ns) (r .size) i && r .store i)
+  is-input r = λ i. (le-leb (bitsIn ns) maxBits (r .bits) i && le-leb (gatesIn ns) maxGates (r .gates) i) && (eq-eqb (length ns) (numberCount (bitsIn ns) (gatesIn ns)) (r .size) i && r .store i)
 
   pub not-input : (Right ns → ⊥) → isInput ns ≡ false
   not-input f = by (isInput ns) refl
@@ -113,20 +113,20 @@ module _ (ns : List ℕ) (s : Seen) (g : Seeing ns s) where
   store-more = go (decLt i 2) (decLt i (2 + s .bits))
     where
       -- no number of the store
-      past : (ltb i 2 || (leb (2 + s .bits) i || leb v 255)) ≡ true → seenBits i (s .bits) ≡ seenBits (i + 1) (next .bits) → next .bytes ≡ bytes ns (seenBits (i + 1) (next .bits))
+      past : (ltb i 2 || (leb (2 + s .bits) i || leb v maxByte)) ≡ true → seenBits i (s .bits) ≡ seenBits (i + 1) (next .bits) → next .bytes ≡ bytes ns (seenBits (i + 1) (next .bits))
       past e f = and-yes (s .bytes) _ e ∙ g .store ∙ ap (bytes ns) f
 
       go : Dec (i < 2) → Dec (i < 2 + s .bits) → next .bytes ≡ bytes ns (seenBits (i + 1) (next .bits))
-      go (yes h) d = past (ap (λ (c : Bool). c || (leb (2 + s .bits) i || leb v 255)) (lt-ltb i 2 h)) (omega arith)
+      go (yes h) d = past (ap (λ (c : Bool). c || (leb (2 + s .bits) i || leb v maxByte)) (lt-ltb i 2 h)) (omega arith)
       go (no h) (no l) =
           let same = bits-kept (λ e. omega arith) in
-          past (or-right (ltb i 2) _ (ap (λ (c : Bool). c || leb v 255) (le-leb (2 + s .bits) i (omega arith)))) (omega (arith, same))
+          past (or-right (ltb i 2) _ (ap (λ (c : Bool). c || leb v maxByte) (le-leb (2 + s .bits) i (omega arith)))) (omega (arith, same))
       go (no h) (yes l) =
           let same = bits-kept (λ e. omega arith) in
           let here : seenBits i (s .bits) ≡ i - 2 = omega arith in
           let there : suc (i - 2) ≡ seenBits (i + 1) (next .bits) = omega (arith, same) in
           let place : i ≡ 2 + (i - 2) = omega arith in
-          (λ k. (g .store ∙ ap (bytes ns) here) k && (le-ltb i 2 (omega arith) k || (lt-leb (2 + s .bits) i l k || leb (getD ns (place k) 0) 255)))
+          (λ k. (g .store ∙ ap (bytes ns) here) k && (le-ltb i 2 (omega arith) k || (lt-leb (2 + s .bits) i l k || leb (getD ns (place k) 0) maxByte)))
           ∙ ap (bytes ns) there
 
   pub seeing-more : Seeing ns (seenWith s (getD ns (s .count) 0))
@@ -148,7 +148,7 @@ module _ (ns : List ℕ) (s : Seen) (g : Seeing ns s) where
       same-test : seenOk s ≡ isInput ns
       unfolding isInput
       same-test =
-          λ k. (leb (same-bits k) maxBits && leb (same-gates k) maxGates) && (eqb (n k) (3 + same-bits k + 5 * same-gates k) && same-store k)
+          λ k. (leb (same-bits k) maxBits && leb (same-gates k) maxGates) && (eqb (n k) (numberCount (same-bits k) (same-gates k)) && same-store k)
 
       same-circuit : _≡_ {A = Circuit} (record { qubits = s .qubits; bits = s .bits; gates = s .gates }) (circuitIn ns)
       same-circuit = λ k. record { qubits = g .qubits (omega arith) k; bits = same-bits k; gates = same-gates k }
@@ -160,7 +160,7 @@ module _ (ns : List ℕ) (s : Seen) (g : Seeing ns s) where
         go (yes h) = λ k. cond (same-test h k) (Input.Given (same-circuit h k)) Input.Refused
         go (no h) =
             let short : seenOk s ≡ false =
-            and-no (leb (s .bits) maxBits && leb (s .gates) maxGates) _ (ap (λ (c : Bool). c && s .bytes) (ne-eqb i (3 + s .bits + 5 * s .gates) (λ e. omega arith))) in
+            and-no (leb (s .bits) maxBits && leb (s .gates) maxGates) _ (ap (λ (c : Bool). c && s .bytes) (ne-eqb i (numberCount (s .bits) (s .gates)) (λ e. omega arith))) in
             let none : isInput ns ≡ false = not-input ns (λ r. omega (arith, r .size, g .bits (omega (arith, r .size)))) in
             ap (λ (c : Bool). cond c (Input.Given (record { qubits = s .qubits; bits = s .bits; gates = s .gates })) Input.Refused) short
             ∙ ap (λ (c : Bool). cond c (Input.Given (circuitIn ns)) Input.Refused) (sym none)

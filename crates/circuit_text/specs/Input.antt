@@ -17,9 +17,19 @@ maxBits = 64
 abbrev pub maxGates : ℕ
 maxGates = 64
 
--- an input has at most as many numbers
+-- the words of a gate
+abbrev pub gateWords : ℕ
+gateWords = 5
+
+-- how many numbers an input of m bits and g gates has
+abbrev pub numberCount : ℕ → ℕ → ℕ
+numberCount m g = 3 + m + gateWords * g
+
 abbrev pub maxNumbers : ℕ
-maxNumbers = 3 + maxBits + 5 * maxGates
+maxNumbers = numberCount maxBits maxGates
+
+abbrev pub maxByte : ℕ
+maxByte = 255
 
 abbrev pub bitsIn : List ℕ → ℕ
 bitsIn ns = getD ns 1 0
@@ -39,10 +49,10 @@ circuitIn ns = record { qubits = getD ns 0 0; bits = bitsIn ns; gates = gatesIn 
 
 -- m numbers from the third on are bytes
 abbrev pub bytes : List ℕ → ℕ → Bool
-bytes ns m = allBelow m (λ (i : ℕ). leb (getD ns (2 + i) 0) 255)
+bytes ns m = allBelow m (λ (i : ℕ). leb (getD ns (2 + i) 0) maxByte)
 
 unfoldable pub isInput : List ℕ → Bool
-isInput ns = (leb (bitsIn ns) maxBits && leb (gatesIn ns) maxGates) && (eqb (length ns) (3 + bitsIn ns + 5 * gatesIn ns) && bytes ns (bitsIn ns))
+isInput ns = (leb (bitsIn ns) maxBits && leb (gatesIn ns) maxGates) && (eqb (length ns) (numberCount (bitsIn ns) (gatesIn ns)) && bytes ns (bitsIn ns))
 
 -- ---- of a text
 abbrev pub numbersOf : List ℕ → List ℕ

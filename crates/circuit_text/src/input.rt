@@ -12,14 +12,20 @@ ghost use Rattle.circuit_text.specs.Text.{maxBytes, pieces};
 ghost use Rattle.circuit_text.specs.Input.{maxBits, maxNumbers, bytes, inputOf, filled, stored};
 ghost use Rattle.circuit_text.specs.Inner.Reading.{noneSeen, seenWith, seenInput, inputIn};
 
-// The most bytes that a text has, numbers that an input has, bits and gates.
-const MAX_BYTES: usize = 2048;
+// The most bytes that a text has.
+pub const MAX_BYTES: usize = 2048;
 
-pub const MAX_NUMBERS: usize = 387;
-
+// The most bits and gates of a circuit, the words of a gate, and the most numbers of an input.
 pub const MAX_BITS: usize = 64;
 
 const MAX_GATES: usize = 64;
+
+pub const GATE_WORDS: usize = 5;
+
+pub const MAX_NUMBERS: usize = 3 + MAX_BITS + GATE_WORDS * MAX_GATES;
+
+// The largest byte.
+const MAX_BYTE: u32 = 255;
 
 // How many qubits, bits and gates a circuit has. In the numbers of its text the store begins at 2, and the gates' words at 3 + bits.
 pub struct Circuit {
@@ -76,7 +82,7 @@ impl Seen {
             qubits: pick(i == 0, v, self.qubits),
             bits: pick(i == 1, v, self.bits),
             gates: pick(i == end, v, self.gates),
-            bytes: self.bytes & ((i < 2) | ((end <= i) | (v <= 255))),
+            bytes: self.bytes & ((i < 2) | ((end <= i) | (v <= MAX_BYTE))),
         }
     }
 
@@ -87,7 +93,7 @@ impl Seen {
         let m = self.bits as usize;
         let g = self.gates as usize;
         let sized = (m <= MAX_BITS) & (g <= MAX_GATES);
-        if !(sized & ((self.count == 3 + m + 5 * g) & self.bytes)) {
+        if !(sized & ((self.count == 3 + m + GATE_WORDS * g) & self.bytes)) {
             return Input::Refused;
         }
         Input::Given(Circuit {

@@ -3,6 +3,7 @@ use mathlib.Core.Path.{_≡_, refl, sym, ap, _∙_, subst}
 use mathlib.Core.Bool.{Bool, true, false, cond}
 use mathlib.Core.List.{List, [], _∷_, _++_}
 use Prim.Native.Nat.{ℕ, zero, suc, _+_, _/_, _%_, _^_, _<_, _≤_}
+use Prim.Native.Char.{code}
 use native.Mathlib.Nat.{pow-suc}
 use native.Mathlib.Omega.{arith}
 use lib.Dec.{T, ltb}
@@ -84,8 +85,8 @@ module _ (z : ℤ) (f : SFits w64 z) (e : ltZ (toZ w64 (ofZ w64 z)) (pos 0) ≡ 
   pub size-is : natAbs (toZ w64 (ofZ w64 (pos 0 -ℤ toZ w64 (ofZ w64 (toZ w64 (ofZ w64 z) +ℤ pos 1))))) + 1 ≡ natAbs z
   size-is = omega (arith, ap natAbs turned, ap natAbs below)
 
-  pub signed-below : 45 ∷ decimal (natAbs z) ≡ signed z
-  signed-below = ap (λ (x : ℤ). 45 ∷ decimal (natAbs x)) below ∙ ap signed (sym below)
+  pub signed-below : code "-" ∷ decimal (natAbs z) ≡ signed z
+  signed-below = ap (λ (x : ℤ). code "-" ∷ decimal (natAbs x)) below ∙ ap signed (sym below)
 
 pub signed-natural : (z : ℤ) → SFits w64 z → ltZ (toZ w64 (ofZ w64 z)) (pos 0) ≡ false → decimal (natAbs z) ≡ signed z
 signed-natural z f e = ap signed (sym (not-neg z (subst (λ (x : ℤ). ltZ x (pos 0) ≡ false) (toZ-ofZ f) e)))

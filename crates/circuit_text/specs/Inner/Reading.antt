@@ -7,7 +7,7 @@ use Rattle.algebra.specs.Lists.{every}
 use Rattle.circuit_text.specs.declared.input.Seen.{Seen}
 use Rattle.circuit_text.specs.declared.input.Input.{Input}
 use Rattle.text.specs.Decimal.{isBlank, value, isNumber}
-use Rattle.circuit_text.specs.Input.{maxBits, maxGates, circuitIn, isInput}
+use Rattle.circuit_text.specs.Input.{maxBits, maxGates, numberCount, maxByte, circuitIn, isInput}
 
 -- how many bytes stand before the first blank
 unfoldable pub run : List ℕ → ℕ
@@ -25,11 +25,11 @@ seenWith s v = record {
   qubits = cond (eqb (s .count) 0) v (s .qubits);
   bits = cond (eqb (s .count) 1) v (s .bits);
   gates = cond (eqb (s .count) (2 + s .bits)) v (s .gates);
-  bytes = s .bytes && (ltb (s .count) 2 || (leb (2 + s .bits) (s .count) || leb v 255));
+  bytes = s .bytes && (ltb (s .count) 2 || (leb (2 + s .bits) (s .count) || leb v maxByte));
 }
 
 abbrev pub seenOk : Seen → Bool
-seenOk s = (leb (s .bits) maxBits && leb (s .gates) maxGates) && (eqb (s .count) (3 + s .bits + 5 * s .gates) && s .bytes)
+seenOk s = (leb (s .bits) maxBits && leb (s .gates) maxGates) && (eqb (s .count) (numberCount (s .bits) (s .gates)) && s .bytes)
 
 abbrev pub seenInput : Seen → Input
 seenInput s = cond (seenOk s) (Input.Given (record { qubits = s .qubits; bits = s .bits; gates = s .gates })) Input.Refused

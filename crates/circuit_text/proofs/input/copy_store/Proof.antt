@@ -5,6 +5,7 @@ use lib.Dec.{leb}
 use lib.ListN.{getD}
 use borrow.Author.Tests.{leb-true}
 use Rattle.algebra.proofs.Tests.{all-at}
+use Rattle.circuit_text.specs.Input.{maxByte}
 use Rattle.circuit_text.proofs.Shapes.{Copied, copied-none, copied-more, copied-all}
 use Rattle.circuit_text.proofs.input.copy_store.Statement.{statement}
 use Rattle.circuit_text.proofs.input.copy_store.Tie as tie
@@ -31,7 +32,7 @@ cast-store : tie.Need-cast-store Inv-loop μ-loop
 cast-store c =
     let l = c .before .before in
     let s = l .before in
-    omega (arith, leb-true (getD (s .args .numbers .now) (2 + l .loop .i) 0) 255 (all-at (s .args .m) (λ (i : ℕ). leb (getD (s .args .numbers .now) (2 + i) 0) 255) (s .pre .1) (l .loop .i) (c .before .loop-test .taken)))
+    omega (arith, leb-true (getD (s .args .numbers .now) (2 + l .loop .i) 0) maxByte (all-at (s .args .m) (λ (i : ℕ). leb (getD (s .args .numbers .now) (2 + i) 0) maxByte) (s .pre .1) (l .loop .i) (c .before .loop-test .taken)))
 
 slice-write-store : tie.Need-slice-write-store Inv-loop μ-loop
 slice-write-store c = omega (arith, c .before .before .loop .inv .same)

@@ -116,8 +116,10 @@ put-decimal-returns-2 : (t : ℕ) → put-decimal-lts.Need-returns-2 (
   put-decimal.Post,
 ) (put-decimal-at t) put-decimal.Post
 put-decimal-returns-2 t c =
-    let s = c .before .before .before .before .before .before .before .before .before .before in
-    text (sym (decimal-more (s .args .n) (omega arith) (s .fits .n .fits))) (then (c .before .before .before .before .before .before .put-decimal .ensures) (c .before .before .put2 .ensures))
+    let l = c .before .before in
+    let d = l .before .before .before .before in
+    let s = d .before .before .before .before in
+    text (sym (decimal-more (s .args .n) (omega arith) (s .fits .n .fits))) (then (d .put-decimal .ensures) (l .put2 .ensures))
 
 pub +put-decimal-spec : {M : Type 1} → statement M
 +put-decimal-spec = close μ-put-decimal λ t. put-decimal-lts.spec (

@@ -1,5 +1,6 @@
 -- `page::put_signed` meets its contract.
 use Prim.Native.Nat.{ℕ}
+use Prim.Native.Char.{code}
 use mathlib.Core.Path.{ap, _∙_}
 use mathlib.Core.List.{_∷_}
 use lib.IntN.{natAbs}
@@ -26,9 +27,11 @@ same-length c = search needs
 returns : tie.Need-returns
 returns c =
     let m = c .before .before .before in
-    let s = m .before .before .before .before .before .before .before .before in
-    text (ap (λ (n : ℕ). 45 ∷ decimal n) (m .magnitude .ensures ∙ ap natAbs (toZ-ofZ (s .fits .z))) ∙ signed-below (s .args .z) (s .fits .z) (m .before .before .before .before .before .before .if1 .taken))
-    (then (m .before .before .before .before .put .ensures) (c .before .before .put-decimal .ensures))
+    let p = m .before .before .before .before in
+    let b = p .before .before in
+    let s = b .before .before in
+    let sign = signed-below (s .args .z) (s .fits .z) (b .if1 .taken) in
+    text (ap (λ (n : ℕ). code "-" ∷ decimal n) (m .magnitude .ensures ∙ ap natAbs (toZ-ofZ (s .fits .z))) ∙ sign) (then (p .put .ensures) (c .before .before .put-decimal .ensures))
 
 magnitude-requires-2 : tie.Need-magnitude-requires-2
 magnitude-requires-2 c κs = search needs

@@ -3,6 +3,7 @@ use Prim.Native.Nat.{_+_}
 use mathlib.Core.Bool.{_&&_, _||_}
 use lib.Dec.{leb, ltb}
 use borrow.Author.Needs.{needs}
+use Rattle.circuit_text.specs.Input.{maxByte}
 use Rattle.circuit_text.proofs.input.Seen.with.Statement.{statement}
 use Rattle.circuit_text.proofs.input.Seen.with.Tie as tie
 
@@ -33,7 +34,7 @@ returns c =
       qubits = k .pick .ensures i;
       bits = c .before .before .pick2 .ensures i;
       gates = c .before .pick3 .ensures i;
-      bytes = a .self .bytes && (ltb (a .self .count) 2 || (leb (2 + a .self .bits) (a .self .count) || leb (a .v) 255));
+      bytes = a .self .bytes && (ltb (a .self .count) 2 || (leb (2 + a .self .bits) (a .self .count) || leb (a .v) maxByte));
     }
 
 pub with-spec : {M : Type 1} → statement M
