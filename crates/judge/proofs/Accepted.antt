@@ -15,6 +15,7 @@ use Rattle.algebra.specs.Lists.{All, every, total, marks}
 use Rattle.algebra.proofs.Tests.{and-split, exhaust, holds-true}
 use Rattle.algebra.proofs.Totals.{sub-whole, sub-filter}
 use Rattle.exact.specs.Exact as scalar
+use Rattle.cells.specs.Cells.{cellSize}
 use Rattle.gate.specs.declared.judge.Asking.the-variants.{Channel}
 use Rattle.gate.specs.Gate.{Gate, gateSize, gatesOf, splits, weight, maxWeight}
 use Rattle.gate.specs.Inner.Entries.{valid}
@@ -158,6 +159,6 @@ module _ {n m : ℕ} {σ : List ℕ} {gs : List Gate} {result work : ℕ} (s : S
 
       by : (d c v : ℕ) (ws : List ℤ) → c ≤ v → length ws ≡ 4 + c * recordSize (side d) → resultWords v d ≤ result → length ws ≤ result
       by d c v ws h e r =
-          let f : recordSize (side d) ≡ 3 + 5 * d ^ 4 = omega (arith, fourth-is d, mul-assoc (d * d) d d) in
-          let g : c * recordSize (side d) ≤ v * (3 + 5 * d ^ 4) = subst (λ (x : ℕ). c * recordSize (side d) ≤ v * x) f (mul-le-mul h (le-refl (recordSize (side d)))) in
+          let f : recordSize (side d) ≡ 3 + cellSize * d ^ 4 = omega (arith, fourth-is d, mul-assoc (d * d) d d) in
+          let g : c * recordSize (side d) ≤ v * (3 + cellSize * d ^ 4) = subst (λ (x : ℕ). c * recordSize (side d) ≤ v * x) f (mul-le-mul h (le-refl (recordSize (side d)))) in
           omega arith

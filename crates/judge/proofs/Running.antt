@@ -12,6 +12,7 @@ use lib.IntN.{ℤ, pos}
 use Rattle.algebra.specs.Lists.{every, total}
 use Rattle.algebra.specs.Words.{fillWords, joined}
 use Rattle.algebra.proofs.Blocks.{blocks-parts, written-over}
+use Rattle.cells.specs.Cells.{cellSize}
 use Rattle.gate.specs.Gate.{Gate, gatesOf, splits}
 use Rattle.gate.specs.Inner.Entries.{valid}
 use Rattle.kraus.specs.Branch.{Branch, branches}
@@ -78,7 +79,7 @@ module _ {n m : ℕ} {σ : List ℕ} {ws : List ℕ} {r w : List ℤ} (a : Accep
 
   -- the words of work, as they are counted
   size-is : (d k : ℕ) → workSize d k ≡ workWords k d
-  size-is d k = ap (λ (x : ℕ). (2 * k + 2) * (x + 2)) (mul-comm (d * d) 5 ∙ ap (λ (x : ℕ). 5 * x) (square-is d))
+  size-is d k = ap (λ (x : ℕ). (2 * k + 2) * (x + 2)) (mul-comm (d * d) cellSize ∙ ap (λ (x : ℕ). cellSize * x) (square-is d))
 
   fits : workSize (2 ^ n) B ≤ length w
   fits = subst (λ (k : ℕ). k ≤ length w) (sym (size-is (2 ^ n) B)) (known .workRoom)

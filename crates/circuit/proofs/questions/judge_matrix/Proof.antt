@@ -1,10 +1,11 @@
 -- Each way out is one answer to the last two questions, or the verdict on the gates.
 use mathlib.Core.Path.{_≡_, refl, sym, ap, _∙_}
-use mathlib.Core.Bool.{true}
+use mathlib.Core.Bool.{Bool, true, cond}
 use native.Mathlib.Omega.{arith}
 use borrow.Author.Needs.{needs}
 use borrow.Author.Tests.{le-leb, lt-leb}
 use Rattle.verdict.specs.declared.Verdict.{Verdict}
+use Rattle.verdict.specs.declared.Verdict.the-variants.{Accepted, ShortBuffer}
 use Rattle.verdict.specs.Verdict.{accepted}
 use Rattle.verdict.specs.Questions.{firstNo}
 use Rattle.verdict.proofs.Questions.{after-yes, after-no}
@@ -38,23 +39,22 @@ last c h =
     after-yes (gatesQuestions Unitary (a .n) 0 (gatesOf (a .words .now))) (lastQuestions (a .n) (a .words .now) (a .result) (a .work))
     (gates-refuse Unitary (a .n) 0 (gatesOf (a .words .now))) (g .judge-gates .ensures) (sym (t .before .is-accepted .ensures) ∙ t .if1 .taken) h
 
-returns : tie.Need-returns
-returns c =
-    let r = c .before in
-    let o = r .before .before .before in
+-- every answer but the last is yes
+ended : (c : tie.After-has-unitary-room) {b : Bool} → c .has-unitary-room .result ≡ b → let o = c .before .before .before in
+    let a = o .before .before .before .before .before .args in
+    cond b Accepted ShortBuffer ≡ firstNo (matrixQuestions (a .n) (a .words .now) (a .result) (a .work))
+ended c e =
+    let o = c .before .before .before in
     let s = o .before .before .before .before .before in
     let a = s .args in
-    last o (last-answers (a .n) (a .words .now) (a .result) (a .work) (o .of .ensures) (le-leb _ _ (r .before .if2 .taken))
-    (room-found (a .n) (a .words .now) (a .result) (a .work) (s .pre .0) (r .has-unitary-room .ensures) (c .if3 .taken)))
+    last o (last-answers (a .n) (a .words .now) (a .result) (a .work) (o .of .ensures) (le-leb _ _ (c .before .if2 .taken))
+    (room-found (a .n) (a .words .now) (a .result) (a .work) (s .pre .0) (c .has-unitary-room .ensures) e))
+
+returns : tie.Need-returns
+returns c = ended (c .before) (c .if3 .taken)
 
 returns-2 : tie.Need-returns-2
-returns-2 c =
-    let r = c .before in
-    let o = r .before .before .before in
-    let s = o .before .before .before .before .before in
-    let a = s .args in
-    last o (last-answers (a .n) (a .words .now) (a .result) (a .work) (o .of .ensures) (le-leb _ _ (r .before .if2 .taken))
-    (room-found (a .n) (a .words .now) (a .result) (a .work) (s .pre .0) (r .has-unitary-room .ensures) (c .if3 .left)))
+returns-2 c = ended (c .before) (c .if3 .left)
 
 returns-3 : tie.Need-returns-3
 returns-3 c =

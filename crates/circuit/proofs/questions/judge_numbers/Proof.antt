@@ -1,11 +1,14 @@
 -- Each way out is one answer to the four questions.
 use mathlib.Core.Path.{_≡_, refl, sym, ap, _∙_}
+use mathlib.Core.Bool.{Bool, cond}
 use native.Mathlib.Omega.{arith}
 use borrow.Author.Needs.{needs}
 use borrow.Author.Tests.{le-leb, lt-leb}
+use Rattle.verdict.specs.declared.Verdict.the-variants.{Accepted, ShortBuffer}
+use Rattle.verdict.specs.Questions.{firstNo}
 use Rattle.store.specs.Store.{storeFits}
 use Rattle.circuit.specs.declared.sizes.Sizes.{Sizes}
-use Rattle.circuit.specs.Questions.{withinLimits, roomFor, sizesOf}
+use Rattle.circuit.specs.Questions.{withinLimits, roomFor, sizesOf, numberQuestions}
 use Rattle.circuit.proofs.Numbers.{Low, all-low, few-small, too-many, within-found, four-answers}
 use Rattle.circuit.proofs.questions.judge_numbers.Statement.{statement}
 use Rattle.circuit.proofs.questions.judge_numbers.Tie as tie
@@ -45,23 +48,22 @@ is-within-requires c κs = (c .of .ensures .1, omega (arith, low (c .before) .op
 has-room-requires : tie.Need-has-room-requires
 has-room-requires c κs = search needs
 
-returns : tie.Need-returns
-returns c =
-    let t = c .before .before .before .before in
+-- every answer but the last is yes
+last : (c : tie.After-has-room) {d : Bool} → c .has-room .result ≡ d → let a = begun (c .before .before .before .before .before .before) .args in
+    cond d Accepted ShortBuffer ≡ firstNo (numberQuestions (a .f) (a .n) (a .bits) (a .store .now) (a .l) (a .result) (a .work))
+last c e =
+    let t = c .before .before .before in
     let i = t .before in
     let s = i .before .before in
     let a = begun s .args in
     four-answers (a .f) (a .n) (a .bits) (a .store .now) (a .l) (a .result) (a .work) (stored s ∙ s .before .before .before .before .if1 .taken) (within i ∙ t .if3 .taken)
-    (le-leb _ _ (c .before .before .if4 .taken)) (room (c .before) ∙ c .if5 .taken)
+    (le-leb _ _ (c .before .if4 .taken)) (room c ∙ e)
+
+returns : tie.Need-returns
+returns c = last (c .before) (c .if5 .taken)
 
 returns-2 : tie.Need-returns-2
-returns-2 c =
-    let t = c .before .before .before .before in
-    let i = t .before in
-    let s = i .before .before in
-    let a = begun s .args in
-    four-answers (a .f) (a .n) (a .bits) (a .store .now) (a .l) (a .result) (a .work) (stored s ∙ s .before .before .before .before .if1 .taken) (within i ∙ t .if3 .taken)
-    (le-leb _ _ (c .before .before .if4 .taken)) (room (c .before) ∙ c .if5 .left)
+returns-2 c = last (c .before) (c .if5 .left)
 
 returns-3 : tie.Need-returns-3
 returns-3 c =
