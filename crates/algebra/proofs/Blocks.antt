@@ -230,7 +230,8 @@ joined-rows (suc m) n f =
     ap (λ (l : List ℤ). l ++ joined n (λ (c : ℕ). f (m * n + c))) (joined-rows m n f) ∙ sym (joined-more (m * n) n f) ∙ ap (λ (k : ℕ). joined k f) (sym (suc-mul m n))
 
 -- one word more
-pub again-word : {l : List ℤ} {at n : ℕ} (f : ℕ → ℤ) {b : List ℤ} {i : ℕ} → Writing 1 l at n (λ (k : ℕ). f k ∷ []) b i → {x : ℤ} → i < n → x ≡ f i → Writing 1 l at n (λ (k : ℕ). f k ∷ []) (set b (at + i) x) (i + 1)
+pub again-word : {l : List ℤ} {at n : ℕ} (f : ℕ → ℤ) {b : List ℤ} {i : ℕ} → Writing 1 l at n (λ (k : ℕ). f k ∷ []) b i → {x : ℤ} → i < n → x ≡ f i
+    → Writing 1 l at n (λ (k : ℕ). f k ∷ []) (set b (at + i) x) (i + 1)
 again-word {at = at} f {b} {i} w {x} h q = again w {ws = x ∷ []} h (ap (λ (k : ℕ). set b (at + k) x) (sym (mul-one i))) (ap (λ (z : ℤ). z ∷ []) q)
 
 abbrev single : (ℕ → ℤ) → ℕ → List ℤ
