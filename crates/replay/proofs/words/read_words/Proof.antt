@@ -51,7 +51,8 @@ loop-again c =
     let r4 = p .before .before .before in
     let r3 = r4 .before in
     let l = r3 .before .before in
-    let t = l .before .before .before .before .before .before .before .args .text .now in
+    let k = l .before .before in
+    let t = k .before .before .before .before .before .args .text .now in
     let v = a-word t (r3 .read3 .result .next) (r4 .read4 .ensures) in
     let e = p .put .ensures ∙ ap (set (l .loop .buf) (r3 .read3 .result .size)) v in
     (search needs, l .loop .inv .1 ∙ placed-more t (l .loop .left) (l .loop .next) (l .loop .buf) (r3 .before .loop-test .taken) (r3 .read3 .ensures) (r4 .read4 .ensures) e)
