@@ -58,7 +58,7 @@ module _ (t : List ℕ) (i : ℕ) where
       ap run (drop-cons t i 0 h) ∙ ap (λ (c : Bool). cond c 0 (suc (run (drop (suc i) t)))) e
       ∙ ap (λ (k : ℕ). suc (run (drop k t))) (sym (add-one i))
 
-pub run-inside : (bs : List ℕ) → run bs ≤ length bs
+run-inside : (bs : List ℕ) → run bs ≤ length bs
 unfolding run
 run-inside [] = omega arith
 run-inside (b ∷ bs) = by (isBlank b) (run-inside bs)
@@ -66,9 +66,6 @@ run-inside (b ∷ bs) = by (isBlank b) (run-inside bs)
     by : (c : Bool) → run bs ≤ length bs → cond c 0 (suc (run bs)) ≤ suc (length bs)
     by true h = omega arith
     by false h = omega arith
-
-pub run-ends : (t : List ℕ) (at e : ℕ) → at ≤ length t → e ≡ at + run (drop at t) → (at ≤ e) × (e ≤ length t)
-run-ends t at e h q = let r = run-inside (drop at t) in (omega arith, omega (arith, length-drop at t))
 
 -- ---- the pieces from `at` on; none past the text's end
 abbrev pub from : List ℕ → ℕ → List (List ℕ)
@@ -94,7 +91,7 @@ first-piece (b ∷ bs) = by (isBlank b) (first-piece bs)
     by true e = ap (λ (c : Bool). [] ∷ cond c (pieces bs) []) (sym (le-leb 1 (suc (length bs)) (omega arith)))
     by false e = ap (onto b) e ∙ ap (λ (c : Bool). (b ∷ take (run bs) bs) ∷ cond c (pieces (drop (suc (run bs)) bs)) []) (sym (leb·suc-suc (suc (run bs)) (length bs)))
 
-pub from-more : (t : List ℕ) (at e : ℕ) → at ≤ length t → e ≡ at + run (drop at t) → from t at ≡ take (e - at) (drop at t) ∷ from t (e + 1)
+from-more : (t : List ℕ) (at e : ℕ) → at ≤ length t → e ≡ at + run (drop at t) → from t at ≡ take (e - at) (drop at t) ∷ from t (e + 1)
 from-more t at e h q =
     ap (λ (c : Bool). cond c (pieces (drop at t)) []) (le-leb at (length t) h)
     ∙ first-piece (drop at t)
@@ -108,6 +105,17 @@ from-more t at e h q =
 
     later : drop (suc (run (drop at t))) (drop at t) ≡ drop (e + 1) t
     later = let k : at + suc (run (drop at t)) ≡ e + 1 = omega arith in drop-drop (suc (run (drop at t))) at t ∙ ap (λ (k : ℕ). drop k t) k
+
+-- the piece of t from `at` on ends at e
+pub record Piece (t : List ℕ) (at e : ℕ) : Type 0 where
+  pub start : at ≤ e
+  pub end : e ≤ length t
+  pub next : from t at ≡ take (e - at) (drop at t) ∷ from t (e + 1)
+
+pub piece : (t : List ℕ) (at e : ℕ) → at ≤ length t → e ≡ at + run (drop at t) → Piece t at e
+piece t at e h q =
+    let r = run-inside (drop at t) in
+    record { start = omega arith; end = omega (arith, length-drop at t); next = from-more t at e h q }
 
 -- ---- what is read
 -- `count` pieces of the text t are read, all of them numbers, and those from `at` on are left

@@ -1,12 +1,11 @@
 -- `input::judge` meets its contract.
-use Prim.Native.Nat.{ℕ, _+_, _-_, _≤_}
-use mathlib.Core.Path.{_≡_}
-use mathlib.Core.List.{List, _∷_}
+use Prim.Native.Nat.{ℕ, _+_, _-_}
+use mathlib.Core.List.{List}
 use native.Mathlib.Omega.{arith}
 use lib.ListN.{length, take, drop}
 use borrow.Author.Needs.{needs}
 use borrow.Author.Tests.{not-true, not-false}
-use Rattle.circuit_text.proofs.Pieces.{run-ends, from, from-more}
+use Rattle.circuit_text.proofs.Pieces.{Piece, piece}
 use Rattle.circuit_text.proofs.Judging.{Judging, judging-none, judging-bad, judging-more, judging-all}
 use Rattle.circuit_text.proofs.input.judge.Statement.{statement}
 use Rattle.circuit_text.proofs.input.judge.Tie as tie
@@ -24,14 +23,11 @@ module _ (c : tie.After-next-blank Inv-loop μ-loop) where
   abbrev at : ℕ
   at = c .before .before .loop .at
 
-  ends : (at ≤ c .next-blank .result) × (c .next-blank .result ≤ length text)
-  ends = run-ends text at (c .next-blank .result) (c .before .loop-test .taken) (c .next-blank .ensures)
+  step : Piece text at (c .next-blank .result)
+  step = piece text at (c .next-blank .result) (c .before .loop-test .taken) (c .next-blank .ensures)
 
-  abbrev piece : List ℕ
-  piece = take (c .next-blank .result - at) (drop at text)
-
-  next : from text at ≡ piece ∷ from text (c .next-blank .result + 1)
-  next = from-more text at (c .next-blank .result) (c .before .loop-test .taken) (c .next-blank .ensures)
+  abbrev bytes : List ℕ
+  bytes = take (c .next-blank .result - at) (drop at text)
 
 none-requires : tie.Need-none-requires Inv-loop μ-loop
 none-requires c κs = search needs
@@ -43,13 +39,13 @@ next-blank-requires : tie.Need-next-blank-requires Inv-loop μ-loop
 next-blank-requires c κs = c .loop-test .taken
 
 sub-number-in : tie.Need-sub-number-in Inv-loop μ-loop
-sub-number-in c = ends c .0
+sub-number-in c = step c .start
 
 part-number-in-start : tie.Need-part-number-in-start Inv-loop μ-loop
-part-number-in-start c = let q = ends c in search needs
+part-number-in-start c = let q = step c .start in let r = step c .end in search needs
 
 part-number-in-end : tie.Need-part-number-in-end Inv-loop μ-loop
-part-number-in-end c = let q = ends c in search needs
+part-number-in-end c = let q = step c .start in let r = step c .end in search needs
 
 number-in-requires : tie.Need-number-in-requires Inv-loop μ-loop
 number-in-requires c κs = search needs
@@ -58,7 +54,7 @@ returns : tie.Need-returns Inv-loop μ-loop
 returns c =
     let n = c .before .before in
     let k = n .before .before in
-    judging-bad (text k) (k .before .before .loop .inv) (piece k) (k .next-blank .result + 1) (n .number-in .result) (next k) (n .number-in .ensures) (not-true _ (c .if1 .taken))
+    judging-bad (text k) (k .before .before .loop .inv) (bytes k) (k .next-blank .result + 1) (n .number-in .result) (step k .next) (n .number-in .ensures) (not-true _ (c .if1 .taken))
 
 with-requires : tie.Need-with-requires Inv-loop μ-loop
 with-requires c κs =
@@ -68,18 +64,18 @@ with-requires c κs =
 add-at : tie.Need-add-at Inv-loop μ-loop
 add-at c =
     let k = c .before .before .before .before .before in
-    omega (arith, ends k .1, k .before .before .before .before .before .pre)
+    omega (arith, step k .end, k .before .before .before .before .before .pre)
 
 loop-less : tie.Need-loop-less Inv-loop μ-loop
 loop-less c =
     let k = c .before .before .before .before .before in
-    omega (arith, ends k .0, k .before .loop-test .taken)
+    omega (arith, step k .start, k .before .loop-test .taken)
 
 loop-again : tie.Need-loop-again Inv-loop μ-loop
 loop-again c =
     let n = c .before .before .before in
     let k = n .before .before in
-    judging-more (text k) (k .before .before .loop .inv) (piece k) (k .next-blank .result + 1) (n .number-in .result) (next k) (n .number-in .ensures) (let q = ends k .0 in omega arith) (not-false _ (c .before .if1 .left)) (c .with .ensures)
+    judging-more (text k) (k .before .before .loop .inv) (bytes k) (k .next-blank .result + 1) (n .number-in .result) (step k .next) (n .number-in .ensures) (let q = step k .start in omega arith) (not-false _ (c .before .if1 .left)) (c .with .ensures)
 
 input-requires : tie.Need-input-requires Inv-loop μ-loop
 input-requires c κs = search needs

@@ -1,14 +1,14 @@
 -- `numbers::read_numbers` meets its contract.
-use Prim.Native.Nat.{ℕ, _+_, _-_, _≤_, _<_}
+use Prim.Native.Nat.{ℕ, _+_, _-_, _<_}
 use mathlib.Core.Path.{_≡_, sym, _∙_, subst}
 use mathlib.Core.Bool.{true}
-use mathlib.Core.List.{List, _∷_}
+use mathlib.Core.List.{List}
 use native.Mathlib.Omega.{arith}
 use lib.ListN.{length, take, drop, set}
 use borrow.Author.Needs.{needs}
 use Rattle.text.specs.Decimal.{isNumber, value}
 use Rattle.text.proofs.Read.{number-test, number-value}
-use Rattle.circuit_text.proofs.Pieces.{run-ends, from, from-more, along-count, along-sound, along-inside, Taken, taken-none, taken-more, taken-all}
+use Rattle.circuit_text.proofs.Pieces.{Piece, piece, along-count, along-sound, along-inside, Taken, taken-none, taken-more, taken-all}
 use Rattle.circuit_text.proofs.numbers.read_numbers.Statement.{statement}
 use Rattle.circuit_text.proofs.numbers.read_numbers.Tie as tie
 
@@ -25,22 +25,19 @@ module _ (c : tie.After-next-blank Inv-loop μ-loop) where
   abbrev at : ℕ
   at = c .before .before .loop .at
 
-  ends : (at ≤ c .next-blank .result) × (c .next-blank .result ≤ length text)
-  ends = run-ends text at (c .next-blank .result) (c .before .loop-test .taken) (c .next-blank .ensures)
+  step : Piece text at (c .next-blank .result)
+  step = piece text at (c .next-blank .result) (c .before .loop-test .taken) (c .next-blank .ensures)
 
-  abbrev piece : List ℕ
-  piece = take (c .next-blank .result - at) (drop at text)
+  abbrev bytes : List ℕ
+  bytes = take (c .next-blank .result - at) (drop at text)
 
-  next : from text at ≡ piece ∷ from text (c .next-blank .result + 1)
-  next = from-more text at (c .next-blank .result) (c .before .loop-test .taken) (c .next-blank .ensures)
-
-  good : isNumber piece ≡ true
-  good = along-sound text (c .before .before .loop .inv .along) piece (c .next-blank .result + 1) next (c .before .before .before .before .before .pre .1 .0)
+  good : isNumber bytes ≡ true
+  good = along-sound text (c .before .before .loop .inv .along) bytes (c .next-blank .result + 1) (step .next) (c .before .before .before .before .before .pre .1 .0)
 
   room : c .before .before .loop .count < length (c .before .before .loop .numbers)
   room =
       let l = c .before .before in
-      let q = along-inside text (l .loop .inv .along) piece (c .next-blank .result + 1) next in
+      let q = along-inside text (l .loop .inv .along) bytes (c .next-blank .result + 1) (step .next) in
       omega (arith, l .loop .inv .same, l .before .before .before .pre .1 .1)
 
 loop-holds : tie.Need-loop-holds Inv-loop μ-loop
@@ -50,13 +47,13 @@ next-blank-requires : tie.Need-next-blank-requires Inv-loop μ-loop
 next-blank-requires c κs = c .loop-test .taken
 
 sub-number-in : tie.Need-sub-number-in Inv-loop μ-loop
-sub-number-in c = ends c .0
+sub-number-in c = step c .start
 
 part-number-in-start : tie.Need-part-number-in-start Inv-loop μ-loop
-part-number-in-start c = let q = ends c in search needs
+part-number-in-start c = let q = step c .start in let r = step c .end in search needs
 
 part-number-in-end : tie.Need-part-number-in-end Inv-loop μ-loop
-part-number-in-end c = let q = ends c in search needs
+part-number-in-end c = let q = step c .start in let r = step c .end in search needs
 
 number-in-requires : tie.Need-number-in-requires Inv-loop μ-loop
 number-in-requires c κs = search needs
@@ -71,10 +68,10 @@ add-count : tie.Need-add-count Inv-loop μ-loop
 add-count c = let q = room (c .before .before) in omega (arith, c .before .before .before .before .loop .inv .same)
 
 add-at : tie.Need-add-at Inv-loop μ-loop
-add-at c = let k = c .before .before in omega (arith, ends k .1, k .before .before .before .before .before .pre .0)
+add-at c = let k = c .before .before in omega (arith, step k .end, k .before .before .before .before .before .pre .0)
 
 loop-less : tie.Need-loop-less Inv-loop μ-loop
-loop-less c = let k = c .before .before in omega (arith, ends k .0, k .before .loop-test .taken)
+loop-less c = let k = c .before .before in omega (arith, step k .start, k .before .loop-test .taken)
 
 loop-again : tie.Need-loop-again Inv-loop μ-loop
 loop-again c =
@@ -82,9 +79,9 @@ loop-again c =
     let l = k .before .before in
     let s = l .before .before .before in
     let e = k .next-blank .result in
-    let ok = number-test (piece k) (c .number-in .result) (c .number-in .ensures) ∙ good k in
-    subst (λ (v : ℕ). Taken (text k) (s .args .numbers .now) (set (l .loop .numbers) (l .loop .count) v) (e + 1) (l .loop .count + 1)) (sym (number-value (piece k) (c .number-in .result) (c .number-in .ensures) ok))
-    (taken-more (text k) (s .args .numbers .now) (l .loop .numbers) (l .loop .inv) (piece k) (e + 1) (next k) (let q = ends k .0 in omega arith) (good k))
+    let ok = number-test (bytes k) (c .number-in .result) (c .number-in .ensures) ∙ good k in
+    subst (λ (v : ℕ). Taken (text k) (s .args .numbers .now) (set (l .loop .numbers) (l .loop .count) v) (e + 1) (l .loop .count + 1)) (sym (number-value (bytes k) (c .number-in .result) (c .number-in .ensures) ok))
+    (taken-more (text k) (s .args .numbers .now) (l .loop .numbers) (l .loop .inv) (bytes k) (e + 1) (step k .next) (let q = step k .start in omega arith) (good k))
 
 same-length : tie.Need-same-length Inv-loop μ-loop
 same-length c = c .before .loop .inv .same
