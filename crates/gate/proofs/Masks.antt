@@ -302,6 +302,19 @@ row-entry i {n} {g} {j} ready few em eh el eu l =
     go true = h .in-own
     go false = h .in-other
 
+-- the two entries of row r, by their numbers among the entries of the rows
+pub side-own : (f : ℕ → Pair) (r : ℕ) → f r .own ≡ side (f (r * 2 / 2)) (r * 2)
+side-own f r =
+    let e : r * 2 / 2 ≡ r = omega arith in
+    let h : r * 2 % 2 ≡ 0 = omega arith in
+    sym (ap (λ (t : Bool). cond t (f (r * 2 / 2) .own) (f (r * 2 / 2) .other)) (eq-eqb (r * 2 % 2) 0 h) ∙ ap (λ (k : ℕ). f k .own) e)
+
+pub side-other : (f : ℕ → Pair) (r : ℕ) → f r .other ≡ side (f ((r * 2 + 1) / 2)) (r * 2 + 1)
+side-other f r =
+    let e : (r * 2 + 1) / 2 ≡ r = omega arith in
+    let h : (r * 2 + 1) % 2 ≡ 1 = omega arith in
+    sym (ap (λ (t : Bool). cond t (f ((r * 2 + 1) / 2) .own) (f ((r * 2 + 1) / 2) .other)) (ne-eqb ((r * 2 + 1) % 2) 0 (λ z. absurd (omega (arith, h, z)))) ∙ ap (λ (k : ℕ). f k .other) e)
+
 -- the pair by the tests of the code
 pub pair-by : (low high : Pair) (held m r : ℕ) {s t u : Bool} → eqb (bitAnd r held) held ≡ s → eqb (bitAnd r m) 0 ≡ t → eqb (bitAnd r m) m ≡ u
     → cond s (cond t low (cond u high exchanged)) kept ≡ rowPair low high held m r

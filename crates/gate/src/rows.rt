@@ -10,11 +10,11 @@ use scalar::ONE;
 use scalar::Scalar;
 use scalar::ZERO;
 ghost use mathlib.Core.Path.{_≡_};
-ghost use Prim.Native.Nat.{_+_, _-_, _*_, _/_, _^_, _≤_, _<_};
+ghost use Prim.Native.Nat.{_+_, _-_, _*_, _^_, _≤_, _<_};
 ghost use lib.ListN.{length};
 ghost use Rattle.cells.specs.Cells.{cellSize, fill};
 ghost use Rattle.gate.specs.Verdict.{gateOf};
-ghost use Rattle.gate.specs.Inner.Entries.{Ready, flips, controls, rowEntry, pairOf, side, rowPair};
+ghost use Rattle.gate.specs.Inner.Entries.{Ready, flips, controls, rowEntry, pairOf, rowPair};
 
 // The entries of a row in its own column and in its partner's.
 pub struct Pair {
@@ -95,28 +95,21 @@ const EXCHANGED: Pair = Pair {
     other: ONE,
 };
 
-fn side(p: Pair, i: usize) -> Scalar
-    ensures { λ r. ⌜ r ≡ side p i ⌝ }
+// The pair of row r: `low` where the bits m that the gate may change are 0, and `high` where they are 1; `held` are the controls.
+fn row_pair(low: Pair, high: Pair, held: usize, m: usize, r: usize) -> Pair
+    ensures { λ p. ⌜ p ≡ rowPair low high held m r ⌝ }
 {
-    if i % 2 == 0 { p.own } else { p.other }
-}
-
-// Entry i of the rows: the pair is `low` where the bits m that the gate may change are 0, and `high` where they are 1; `held` are the controls.
-fn row_entry(low: Pair, high: Pair, held: usize, m: usize, i: usize) -> Scalar
-    ensures { λ r. ⌜ r ≡ side (rowPair low high held m (i / 2)) i ⌝ }
-{
-    let r = i / 2;
     if r & held != held {
-        return side(KEPT, i);
+        return KEPT;
     }
     let x = r & m;
     if x == 0 {
-        return side(low, i);
+        return low;
     }
     if x == m {
-        return side(high, i);
+        return high;
     }
-    side(EXCHANGED, i)
+    EXCHANGED
 }
 
 // Write the two entries of each row of operator j, on n qubits with d rows and columns, to `at` on; m are the bits that the gate may change.
@@ -128,12 +121,13 @@ pub fn write_rows(buf: &mut [i64], at: usize, n: u32, d: usize, g: GateWords, j:
     let low = pair_of(u, 0);
     let high = pair_of(u, 1);
     let held = controls(g, n, j);
-    let count = d * 2;
-    let mut i = 0;
-    while i < count {
-        let v = row_entry(low, high, held, m, i);
-        let to = at + i * CELL;
-        write_cell(buf, to, v);
-        i += 1;
+    let mut r = 0;
+    while r < d {
+        let p = row_pair(low, high, held, m, r);
+        let to = at + r * 2 * CELL;
+        let next = at + (r * 2 + 1) * CELL;
+        write_cell(buf, to, p.own);
+        write_cell(buf, next, p.other);
+        r += 1;
     }
 }
