@@ -4,7 +4,8 @@ use mathlib.Core.List.{List}
 use Prim.Native.Nat.{_+_}
 use lib.IntN.{ℤ}
 use native.Mathlib.Omega.{arith}
-use Rattle.exact.specs.Exact.{lowest, numberOf}
+use Rattle.exact.specs.Exact.{lowest, numberOf, narrowNumerator}
+use Rattle.exact.specs.Inner.Sizes.{Within}
 use Rattle.exact.proofs.Align.{factor-within}
 use Rattle.scalar.specs.Calls.{value, scalarOf}
 use borrow.Author.Needs.{needs}
@@ -18,7 +19,11 @@ add-f : tie.Need-add-f
 add-f c = search needs
 
 conj-product-requires : tie.Need-conj-product-requires
-conj-product-requires c κs = let s = start c in (factor-within (value (s .args .x)) (s .pre .0), factor-within (value (s .args .y)) (s .pre .1))
+conj-product-requires c κs =
+    let s = start c in
+    let left : Within narrowNumerator (value (s .args .x) .num) = factor-within (value (s .args .x)) (s .pre .0) in
+    let right : Within narrowNumerator (value (s .args .y) .num) = factor-within (value (s .args .y)) (s .pre .1) in
+    search needs
 
 reduce-requires : tie.Need-reduce-requires
 reduce-requires c κs = let s = start (c .before) in omega (arith, s .pre .0 .exponent, s .pre .1 .exponent)
