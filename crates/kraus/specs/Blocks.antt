@@ -1,4 +1,4 @@
--- The channel of a list of branches: a block for each store, in the order of the stores' first surviving branches.
+-- The channel of a list of branches: for each store its Choi block, the Choi matrix of the map that ends in that store, Σ |K⟩⟩⟨⟨K| over its branches' Kraus matrices.
 use mathlib.Core.Bool.{Bool, not}
 use mathlib.Core.List.{List, [], _∷_, foldl}
 use Prim.Native.Nat.{ℕ}
@@ -22,7 +22,7 @@ having τ b = sameBits τ (b .store)
 abbrev pub overlap : ℕ → ℕ → Branch → Exact
 overlap i j b = exact ._⊗_ (getD (b .matrix) i (exact .𝟘)) (conj (getD (b .matrix) j (exact .𝟘)))
 
--- entry (i, j) of the block of the store τ, summed over its branches in order
+-- entry (i, j) of the Choi block of the store τ, summed over its branches in order
 abbrev pub block : List Branch → Store → ℕ → ℕ → Exact
 block bs τ i j = foldl (λ (x : Exact) (b : Branch). exact ._⊕_ x (overlap i j b)) (exact .𝟘) (filterBy (having τ) bs)
 
