@@ -29,7 +29,7 @@ fn run_and_deliver(
     result: &mut [i64],
     work: &mut [i64],
 )
-    requires { ⌜ (split_count ≡ total splits (gatesOf (now gates))) × Accepted qubits bits (now store) (now gates) (now result) (now work) ⌝ }
+    requires { ⌜ («split_count» ≡ total splits (gatesOf (now gates))) × Accepted qubits bits (now store) (now gates) (now result) (now work) ⌝ }
     ensures { λ _. ⌜ now (result .exit) ≡ overwritten (circuitWords qubits bits (now (store .entry)) (gatesOf (now (gates .entry)))) (now (result .entry)) ⌝ }
     ensures { λ _. ⌜ now (work .exit) ≡ overwritten (replicate (workWords (2 ^ total splits (gatesOf (now (gates .entry)))) (2 ^ qubits)) (pos 0)) (now (work .entry)) ⌝ }
 {
