@@ -9,7 +9,8 @@ use Rattle.verdict.specs.Verdict.{verdictNumber, verdictIndex}
 
 -- under the limits l the call's verdict is verdict l, and it leaves left l in the result and worked l in the work words
 module _ (verdict : Limits → Verdict) (left worked : Limits → List ℤ) {l m : Limits} {v : Verdict} {number index : ℕ} {result work : List ℤ} where
-  pub reported : (v ≡ verdict l) × ((result ≡ left l) × (work ≡ worked l)) → (number ≡ verdictNumber v) × (index ≡ verdictIndex v) → l ≡ m → (number ≡ verdictNumber (verdict m)) × ((index ≡ verdictIndex (verdict m)) × ((result ≡ left m) × (work ≡ worked m)))
+  pub reported : (v ≡ verdict l) × ((result ≡ left l) × (work ≡ worked l)) → (number ≡ verdictNumber v) × (index ≡ verdictIndex v) → l ≡ m →
+      (number ≡ verdictNumber (verdict m)) × ((index ≡ verdictIndex (verdict m)) × ((result ≡ left m) × (work ≡ worked m)))
   reported h r e =
       let v : v ≡ verdict m = h .0 ∙ ap verdict e in
       (r .0 ∙ ap verdictNumber v, (r .1 ∙ ap verdictIndex v, (h .1 .0 ∙ ap left e, h .1 .1 ∙ ap worked e)))
