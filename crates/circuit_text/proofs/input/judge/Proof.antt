@@ -75,7 +75,8 @@ loop-again : tie.Need-loop-again Inv-loop μ-loop
 loop-again c =
     let n = c .before .before .before in
     let k = n .before .before in
-    judging-more (text k) (k .before .before .loop .inv) (bytes k) (k .next-blank .result + 1) (n .number-in .result) (step k .next) (n .number-in .ensures) (let q = step k .start in omega arith) (not-false _ (c .before .if1 .left)) (c .with .ensures)
+    judging-more (text k) (k .before .before .loop .inv) (bytes k) (k .next-blank .result + 1) (n .number-in .result) (step k .next) (n .number-in .ensures)
+    (let q = step k .start in omega arith) (not-false _ (c .before .if1 .left)) (c .with .ensures)
 
 input-requires : tie.Need-input-requires Inv-loop μ-loop
 input-requires c κs = search needs

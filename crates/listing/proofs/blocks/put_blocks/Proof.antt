@@ -89,7 +89,8 @@ same-length c = c .before .loop .inv .1 .same
 returns : tie.Need-returns Inv-loop μ-loop
 returns c =
     let l = c .before in
-    left-none (left-is (ap (concatMap (blockLines (l .before .before .before .args .m) (l .before .before .before .args .w))) (chain-end (l .before .before .before .args .s .now) (l .loop .left) (l .loop .place) (c .loop-test .left))) (l .loop .inv .1))
+    let a = l .before .before .before .args in
+    left-none (left-is (ap (concatMap (blockLines (a .m) (a .w))) (chain-end (a .s .now) (l .loop .left) (l .loop .place) (c .loop-test .left))) (l .loop .inv .1))
 
 pub put-blocks-spec : {M : Type 1} → statement M
 put-blocks-spec =
