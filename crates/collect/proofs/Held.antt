@@ -16,6 +16,7 @@ use Rattle.algebra.proofs.Totals.{sub-whole, sub-filter, sub-take}
 use Rattle.algebra.proofs.Bits.{bits-below, bits-parts}
 use Rattle.exact.specs.Exact.{Exact, exact}
 use Rattle.exact.specs.Inner.Sizes.{Room}
+use Rattle.cells.specs.Cells.{cellSize}
 use Rattle.matrix.specs.Inner.Factors.{Factor}
 use Rattle.gate.specs.Gate.{Gate, weight, splits, maxWeight}
 use Rattle.gate.specs.Inner.Entries.{valid}
@@ -107,7 +108,7 @@ module _ {l : List ℤ} {at n m : ℕ} {bs : List Branch} (h : Held l at n m bs)
     kraus-of : (i : ℕ) → i < d * d → Kraus krausExponent (getD (at-place j .matrix) i (exact .𝟘))
     kraus-of = all-getD (λ (b : Branch). (i : ℕ) → i < d * d → Kraus krausExponent (getD (b .matrix) i (exact .𝟘))) bs (h .enough .entries) j hj z
 
-    factor-of : (i : ℕ) → i < d * d → Factor l (place at d j + i * 5)
+    factor-of : (i : ℕ) → i < d * d → Factor l (place at d j + i * cellSize)
     factor-of i hi = read-factor (bank-read d bs (h .words) z j hj) krausExponent (omega arith) i hi (kraus-of i hi)
 
     branch-is : branchIn l at d m j ≡ at-place j

@@ -18,7 +18,7 @@ use Rattle.cells.specs.Cells.{cells, fill}
 use Rattle.cells.proofs.Cell.{fill-block, length-cells}
 use Rattle.store.specs.Inner.Held.{StoreAt}
 use Rattle.store.specs.Store.{maxWord, storeFrom}
-use Rattle.channel.specs.Layout.{headerSize, recordSize, side, word, recordWords, Block}
+use Rattle.channel.specs.Layout.{recordHead, headerSize, recordSize, side, word, recordWords, Block}
 use Rattle.collect.specs.Bank.{storeOf, starts, storesOf, overlaps, recordOf, records, Bank, Begun}
 
 -- ---- one record
@@ -44,10 +44,10 @@ module _ {l : List ℤ} {at : ℕ} (s : StoreAt l at) where
 
 -- three words, then the entries
 pub record-written : (m : List ℤ) (to : ℕ) {l : List ℤ} {at : ℕ} → StoreAt l at → (n : ℕ) (f : ℕ → Exact) {x y : ℤ} → x ≡ word l at → y ≡ word l (at + 1) → {b : List ℤ}
-    → b ≡ fill (set (set (set m to (pos 0)) (to + 1) x) (to + 2) y) (to + 3) n f
+    → b ≡ fill (set (set (set m to (pos 0)) (to + 1) x) (to + 2) y) (to + recordHead) n f
     → b ≡ sets m to (pos 0 ∷ pos (storeFrom (word l at) (word l (at + 1)) % 2 ^ 32) ∷ pos (storeFrom (word l at) (word l (at + 1)) / 2 ^ 32) ∷ cells n f)
 record-written m to {l} {at} s n f {x} {y} p q {b} e =
-    append-block m (pos 0 ∷ pos (number s % 2 ^ 32) ∷ pos (number s / 2 ^ 32) ∷ []) (cells n f) to 3 refl heads (e ∙ fill-block f _ (to + 3) n)
+    append-block m (pos 0 ∷ pos (number s % 2 ^ 32) ∷ pos (number s / 2 ^ 32) ∷ []) (cells n f) to recordHead refl heads (e ∙ fill-block f _ (to + recordHead) n)
   where
     first : to + 1 ≡ suc to
     first = omega arith

@@ -11,10 +11,11 @@ use Rattle.algebra.specs.Dyadic.{frac, halfℤ, by}
 use Rattle.algebra.proofs.Parts.{abs-neg, abs-add}
 use Rattle.algebra.proofs.Quadratic.{ℤ√2i}
 use Rattle.algebra.proofs.Dyadic.{low-exp}
-use Rattle.exact.specs.Exact.{Exact, Number, numbers, numberHalves, exact, lowest, conj}
+use Rattle.exact.specs.Exact.{maxExponent, narrowExponent, Exact, Number, numbers, numberHalves, exact, lowest, conj}
 use Rattle.exact.specs.Inner.Sizes.{Within, Coords, Room, roomNumerator, roomExponent}
 use Rattle.exact.proofs.Exact.{exacts, exactHalving}
 use Rattle.exact.proofs.Align.{widen, power-within, raised, scaled-none, aligned, fused, product-within, small}
+use Rattle.collect.specs.Overlap.{sumNumerator}
 
 -- ---- conjugates
 pub conj-coords : (m k : ℕ) (x : Exact) → Coords m k x → Coords m k (conj x)
@@ -48,16 +49,16 @@ lowest-within m (suc e) z h = go (numberHalves .even z) (lowest-within m e (numb
 
 -- ---- numbers that can be read, and their conjugates taken
 pub record Fits (x : Exact) : Type 0 where
-  pub exponent : x .exp ≤ 60
-  pub size : Within (2 ^ 62) (x .num)
+  pub exponent : x .exp ≤ maxExponent
+  pub size : Within sumNumerator (x .num)
 
-lowest-fits : (z : Number) (e : ℕ) → e ≤ 60 → Within (2 ^ 62) z → Fits (lowest z e)
-lowest-fits z e h w = record { exponent = le-trans (low-exp ℤ√2i exactHalving z e) h; size = lowest-within (2 ^ 62) e z w }
+lowest-fits : (z : Number) (e : ℕ) → e ≤ maxExponent → Within sumNumerator z → Fits (lowest z e)
+lowest-fits z e h w = record { exponent = le-trans (low-exp ℤ√2i exactHalving z e) h; size = lowest-within sumNumerator e z w }
 
-pub factor-fits : (x : Exact) → Coords 1 28 x → Within (2 ^ 62) (x .num)
-factor-fits x c = widen (1 * 2 ^ 28) (2 ^ 62) (x .num) (lit≤ tt) (power-within 1 (x .exp) 28 (x .num) (c .exponent) (c .size))
+pub factor-fits : (x : Exact) → Coords 1 narrowExponent x → Within sumNumerator (x .num)
+factor-fits x c = widen (1 * 2 ^ narrowExponent) sumNumerator (x .num) (lit≤ tt) (power-within 1 (x .exp) narrowExponent (x .num) (c .exponent) (c .size))
 
-module _ (x y : Exact) (cx : Coords 1 28 x) (cy : Coords 1 28 y) where
+module _ (x y : Exact) (cx : Coords 1 narrowExponent x) (cy : Coords 1 narrowExponent y) where
   term : Within (8 * 2 ^ (x .exp + y .exp)) (numbers ._⊗_ (x .num) (y .num))
   term = product-within x y (cx .size) (cy .size)
 
@@ -65,12 +66,12 @@ module _ (x y : Exact) (cx : Coords 1 28 x) (cy : Coords 1 28 y) where
   under = omega (arith, cx .exponent, cy .exponent)
 
   pub product-fits : Fits (exact ._⊗_ x y)
-  product-fits = lowest-fits (numbers ._⊗_ (x .num) (y .num)) (x .exp + y .exp) (omega (arith, under)) (widen roomNumerator (2 ^ 62) (numbers ._⊗_ (x .num) (y .num)) (lit≤ tt) (small (x .exp + y .exp) _ under term))
+  product-fits = lowest-fits (numbers ._⊗_ (x .num) (y .num)) (x .exp + y .exp) (omega (arith, under)) (widen roomNumerator sumNumerator (numbers ._⊗_ (x .num) (y .num)) (lit≤ tt) (small (x .exp + y .exp) _ under term))
 
   pub sum-fits : (a : Exact) → Room (x .exp + y .exp) a → Fits (exact ._⊕_ a (exact ._⊗_ x y))
   sum-fits a r = subst Fits (sym (fused a x y)) (go (decLe (a .exp) (x .exp + y .exp)))
     where
-      plus-within : (u v : Number) → Within roomNumerator u → Within roomNumerator v → Within (2 ^ 62) (numbers ._⊕_ u v)
+      plus-within : (u v : Number) → Within roomNumerator u → Within roomNumerator v → Within sumNumerator (numbers ._⊕_ u v)
       plus-within u v h k = record {
         w0 = omega (arith, abs-add (u .re .re) (v .re .re), h .w0, k .w0);
         w1 = omega (arith, abs-add (u .re .im) (v .re .im), h .w1, k .w1);

@@ -16,7 +16,7 @@ use Rattle.algebra.proofs.Blocks.{Writing, wrote, long, length-blocks, block-in
 use Rattle.exact.specs.Exact.{Exact, exact, conj, isLowest, maxExponent}
 use Rattle.exact.specs.Inner.Sizes.{Room}
 use Rattle.exact.proofs.Exact.{add-lowest, mul-lowest, zero-plus, conj-𝟘}
-use Rattle.cells.specs.Cells.{cellAt, cellWords, exponentAt, fill}
+use Rattle.cells.specs.Cells.{cellSize, cellAt, cellWords, exponentAt, fill}
 use Rattle.cells.proofs.Cell.{cell-filled, exponent-filled}
 use Rattle.branches.specs.Inner.Bank.{branchSize}
 use Rattle.collect.specs.Overlap.{blockOverlap, blockOverlapped, Sum, NewBlock, Block}
@@ -70,7 +70,7 @@ module _ (l : List ℤ) (at d : ℕ) where
 
 -- ---- b is m with the block of the first j branches that have the store s, written to `out`
 pub record Summed (m : List ℤ) (out : ℕ) (l : List ℤ) (at d s : ℕ) (b : List ℤ) (j : ℕ) : Type 0 where
-  pub writing : Writing 5 m out (d * d * (d * d)) (λ (k : ℕ). cellWords (overlaps l at d j s (k / (d * d)) (k % (d * d)))) b (d * d * (d * d))
+  pub writing : Writing cellSize m out (d * d * (d * d)) (λ (k : ℕ). cellWords (overlaps l at d j s (k / (d * d)) (k % (d * d)))) b (d * d * (d * d))
 
 module _ (l : List ℤ) (at d s : ℕ) where
   -- entry k of the block after j branches
@@ -79,11 +79,11 @@ module _ (l : List ℤ) (at d s : ℕ) where
 
 module _ {m : List ℤ} {out : ℕ} {l : List ℤ} {at d s : ℕ} where
   written : {b : List ℤ} {j : ℕ} → b ≡ fill m out (d * d * (d * d)) (after l at d s j) → Summed m out l at d s b j
-  written e = record { writing = wrote (λ k. le-refl 5) e }
+  written e = record { writing = wrote (λ k. le-refl cellSize) e }
 
-  module _ (room : out + d * d * (d * d) * 5 ≤ length m) {b : List ℤ} {j : ℕ} (ws : Summed m out l at d s b j) where
-    at-is : (k : ℕ) → k < d * d * (d * d) → cellAt b (out + k * 5) ≡ after l at d s j k
-    at-is k h = ap (λ (n : List ℤ). cellAt n (out + k * 5)) (ws .writing .is) ∙ cell-filled (after l at d s j) m out (d * d * (d * d)) k h room
+  module _ (room : out + d * d * (d * d) * cellSize ≤ length m) {b : List ℤ} {j : ℕ} (ws : Summed m out l at d s b j) where
+    at-is : (k : ℕ) → k < d * d * (d * d) → cellAt b (out + k * cellSize) ≡ after l at d s j k
+    at-is k h = ap (λ (n : List ℤ). cellAt n (out + k * cellSize)) (ws .writing .is) ∙ cell-filled (after l at d s j) m out (d * d * (d * d)) k h room
 
     entry-is : (r c : ℕ) → r < d * d → c < d * d → after l at d s j (r * (d * d) + c) ≡ overlaps l at d j s r c
     entry-is r c hr hc = λ i. overlaps l at d j s (digits-div r hc i) (digits-mod r hc i)
@@ -92,13 +92,13 @@ module _ {m : List ℤ} {out : ℕ} {l : List ℤ} {at d s : ℕ} where
     pub summed-more : has l at d s j ≡ true → {n : List ℤ} → n ≡ fill b out (d * d * (d * d)) (blockOverlapped b out l (place at d j) (d * d)) → Summed m out l at d s n (j + 1)
     summed-more h f = written
         (f
-        ∙ blocks-same 5 b out (d * d * (d * d)) _ _ (λ k hk. ap cellWords (ap (more l at d j (k / (d * d)) (k % (d * d))) (at-is k hk) ∙ sym (overlaps-step l at d j s (k / (d * d)) (k % (d * d)) true h)))
+        ∙ blocks-same cellSize b out (d * d * (d * d)) _ _ (λ k hk. ap cellWords (ap (more l at d j (k / (d * d)) (k % (d * d))) (at-is k hk) ∙ sym (overlaps-step l at d j s (k / (d * d)) (k % (d * d)) true h)))
         ∙ ap (λ (p : List ℤ). fill p out (d * d * (d * d)) (after l at d s (j + 1))) (ws .writing .is)
-        ∙ blocks-over 5 m out (d * d * (d * d)) _ _ (λ i. refl) (λ i. refl) room)
+        ∙ blocks-over cellSize m out (d * d * (d * d)) _ _ (λ i. refl) (λ i. refl) room)
 
   -- branches that have not are passed over
   pub summed-past : {b : List ℤ} {j n k : ℕ} → Summed m out l at d s b j → Found (has l at d s) j n k → Summed m out l at d s b k
-  summed-past {b} {j} {n} {k} ws f = written (ws .writing .is ∙ blocks-same 5 m out (d * d * (d * d)) _ _ (λ i hi. ap cellWords (sym (past (i / (d * d)) (i % (d * d))))))
+  summed-past {b} {j} {n} {k} ws f = written (ws .writing .is ∙ blocks-same cellSize m out (d * d * (d * d)) _ _ (λ i hi. ap cellWords (sym (past (i / (d * d)) (i % (d * d))))))
     where
       back : j + (k - j) ≡ k
       back = omega (arith, f .low)
@@ -123,21 +123,21 @@ module _ (l : List ℤ) (at d i : ℕ) (e : starts l at d i ≡ true) where
 -- b is m with its block written to `out`
 pub record First (m : List ℤ) (out : ℕ) (l : List ℤ) (at d i : ℕ) (b : List ℤ) : Type 0 where
   pub first : starts l at d i ≡ true
-  pub room : out + d * d * (d * d) * 5 ≤ length m
+  pub room : out + d * d * (d * d) * cellSize ≤ length m
   pub is : b ≡ fill m out (d * d * (d * d)) (blockOverlap l (place at d i) (d * d))
 
 module _ {m : List ℤ} {out : ℕ} {l : List ℤ} {at d i : ℕ} {b : List ℤ} (f : First m out l at d i b) where
   over : (g : ℕ → Exact) → fill b out (d * d * (d * d)) g ≡ fill m out (d * d * (d * d)) g
-  over g = ap (λ (n : List ℤ). fill n out (d * d * (d * d)) g) (f .is) ∙ blocks-over 5 m out (d * d * (d * d)) _ _ (λ i. refl) (λ i. refl) (f .room)
+  over g = ap (λ (n : List ℤ). fill n out (d * d * (d * d)) g) (f .is) ∙ blocks-over cellSize m out (d * d * (d * d)) _ _ (λ i. refl) (λ i. refl) (f .room)
 
   pub first-summed : Summed b out l at d (storeOf l at d i) b (i + 1)
   first-summed = written
-      (f .is ∙ blocks-same 5 m out (d * d * (d * d)) _ _ (λ k h. ap cellWords (sym (alone l at d i (f .first) (k / (d * d)) (k % (d * d))))) ∙ sym (over (after l at d (storeOf l at d i) (i + 1))))
+      (f .is ∙ blocks-same cellSize m out (d * d * (d * d)) _ _ (λ k h. ap cellWords (sym (alone l at d i (f .first) (k / (d * d)) (k % (d * d))))) ∙ sym (over (after l at d (storeOf l at d i) (i + 1))))
 
   first-long : length b ≡ length m
-  first-long = ap length (f .is) ∙ length-blocks 5 m out _ (d * d * (d * d))
+  first-long = ap length (f .is) ∙ length-blocks cellSize m out _ (d * d * (d * d))
 
-  pub first-room : out + d * d * (d * d) * 5 ≤ length b
+  pub first-room : out + d * d * (d * d) * cellSize ≤ length b
   first-room = omega (arith, first-long, f .room)
 
   pub all-summed : {r : List ℤ} {j n : ℕ} → Summed b out l at d (storeOf l at d i) r j → j ≡ n → r ≡ fill m out (d * d * (d * d)) (λ (k : ℕ). overlaps l at d n (storeOf l at d i) (k / (d * d)) (k % (d * d)))
@@ -147,11 +147,11 @@ module _ {m : List ℤ} {out : ℕ} {l : List ℤ} {at d i : ℕ} {b : List ℤ}
   summed-long ws = long (ws .writing) ∙ first-long
 
 -- a bank's branch may be written as a block
-pub writable : {m : List ℤ} {out : ℕ} {l : List ℤ} {at d n : ℕ} → Bank l at d n → {i : ℕ} → i < n → out + d * d * (d * d) * 5 ≤ length m → NewBlock m out l (place at d i) (d * d)
+pub writable : {m : List ℤ} {out : ℕ} {l : List ℤ} {at d n : ℕ} → Bank l at d n → {i : ℕ} → i < n → out + d * d * (d * d) * cellSize ≤ length m → NewBlock m out l (place at d i) (d * d)
 writable bank {i} h room = record { room = room; entries = omega (arith, bank-branch bank i h .room); factors = λ k p. bank .entries i k h p }
 
 -- a bank's branch j may be added to the block of its branch i
-pub addable : {m : List ℤ} {out : ℕ} {l : List ℤ} {at d n : ℕ} (bank : Bank l at d n) {i j : ℕ} (hi : i < n) (hj : j < n) (room : out + d * d * (d * d) * 5 ≤ length m) {b : List ℤ}
+pub addable : {m : List ℤ} {out : ℕ} {l : List ℤ} {at d n : ℕ} (bank : Bank l at d n) {i j : ℕ} (hi : i < n) (hj : j < n) (room : out + d * d * (d * d) * cellSize ≤ length m) {b : List ℤ}
     → Summed m out l at d (storeOf l at d i) b j → Block b out l (place at d j) (d * d)
 addable {m} {out} {l} {at} {d} {n} bank {i} {j} hi hj room {b} ws =
     record {
@@ -164,17 +164,17 @@ addable {m} {out} {l} {at} {d} {n} bank {i} {j} hi hj room {b} ws =
     s : ℕ
     s = storeOf l at d i
 
-    is : (r c : ℕ) → r < d * d → c < d * d → cellAt b (out + (r * (d * d) + c) * 5) ≡ overlaps l at d j s r c
+    is : (r c : ℕ) → r < d * d → c < d * d → cellAt b (out + (r * (d * d) + c) * cellSize) ≡ overlaps l at d j s r c
     is r c hr hc = at-is room ws (r * (d * d) + c) (digits-lt hr hc) ∙ entry-is room ws r c hr hc
 
-    sums : (r c : ℕ) → r < d * d → c < d * d → Sum b (out + (r * (d * d) + c) * 5) (entry l at d j r .exp + entry l at d j c .exp)
+    sums : (r c : ℕ) → r < d * d → c < d * d → Sum b (out + (r * (d * d) + c) * cellSize) (entry l at d j r .exp + entry l at d j c .exp)
     sums r c hr hc =
         let k = r * (d * d) + c in
         let hk : k < d * d * (d * d) = digits-lt hr hc in
         let small = bank .sums i j r c hi hj hr hc in
         record {
-          room = omega (arith, room, long (ws .writing), block-in hk 5);
-          exponent = ap (λ (p : List ℤ). exponentAt p (out + k * 5)) (ws .writing .is) ∙ exponent-filled (after l at d s j) m out (d * d * (d * d)) k hk room
+          room = omega (arith, room, long (ws .writing), block-in hk cellSize);
+          exponent = ap (λ (p : List ℤ). exponentAt p (out + k * cellSize)) (ws .writing .is) ∙ exponent-filled (after l at d s j) m out (d * d * (d * d)) k hk room
               ∙ ap (λ (x : Exact). leb (x .exp) maxExponent) (entry-is room ws r c hr hc) ∙ le-leb (overlaps l at d j s r c .exp) maxExponent (omega (arith, small .exponent));
           lowest = ap isLowest (is r c hr hc) ∙ overlaps-lowest l at d j s r c;
           small = subst (Room _) (sym (is r c hr hc)) small;

@@ -85,8 +85,8 @@ module _ (l : List ℤ) (d m n : ℕ) (B : ℕ → Block) (room : headerSize + n
   headed-whole =
       sets-eq (header d m n B) whole 0 (omega (arith, length-blocks (recordSize (side d)) l headerSize (λ (j : ℕ). recordWords (side d) (next d m n B j) (B j)) n))
       ∙ ap (λ (t : List ℤ). header d m n B ++ t)
-      (ap (drop 4) (blocks-parts (recordSize (side d)) (λ (j : ℕ). recordWords (side d) (next d m n B j) (B j)) (λ j. sized (next d m n B j) j) l headerSize n room ∙ append-assoc (take 4 l) recs (drop (headerSize + n * recordSize (side d)) l))
-      ∙ drop-at (take 4 l) (recs ++ drop (headerSize + n * recordSize (side d)) l) 4 (simp length-take (omega arith)))
+      (ap (drop headerSize) (blocks-parts (recordSize (side d)) (λ (j : ℕ). recordWords (side d) (next d m n B j) (B j)) (λ j. sized (next d m n B j) j) l headerSize n room ∙ append-assoc (take headerSize l) recs (drop (headerSize + n * recordSize (side d)) l))
+      ∙ drop-at (take headerSize l) (recs ++ drop (headerSize + n * recordSize (side d)) l) headerSize (simp length-take (omega arith)))
       ∙ sym (append-assoc (header d m n B) recs (drop (headerSize + n * recordSize (side d)) l))
       ∙ ap (λ (k : ℕ). (header d m n B ++ recs) ++ drop k l) (sym size)
     where
@@ -94,7 +94,7 @@ module _ (l : List ℤ) (d m n : ℕ) (B : ℕ → Block) (room : headerSize + n
       recs = words.joined n (λ (j : ℕ). recordWords (side d) (next d m n B j) (B j))
 
       size : length (header d m n B ++ recs) ≡ headerSize + n * recordSize (side d)
-      size = length-append (header d m n B) recs ∙ ap (λ (k : ℕ). 4 + k) (length-joined (recordSize (side d)) (λ (j : ℕ). recordWords (side d) (next d m n B j) (B j)) (λ j. sized (next d m n B j) j) n)
+      size = length-append (header d m n B) recs ∙ ap (λ (k : ℕ). headerSize + k) (length-joined (recordSize (side d)) (λ (j : ℕ). recordWords (side d) (next d m n B j) (B j)) (λ j. sized (next d m n B j) j) n)
 
   -- what is left once the records are linked and headed
   pub delivered : {a b c : List ℤ} → a ≡ unlinked → b ≡ linked d n a → c ≡ headed d m n b → c ≡ overwritten (channelWords d m n B) l

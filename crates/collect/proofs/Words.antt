@@ -11,7 +11,7 @@ use lib.IntN.{ℤ, pos}
 use Rattle.algebra.specs.Words.{blocks}
 use Rattle.algebra.proofs.Signed.{word-is}
 use Rattle.exact.specs.Exact.{Exact, maxExponent}
-use Rattle.cells.specs.Cells.{cellWords, cellAt, exponentAt, fill}
+use Rattle.cells.specs.Cells.{cellSize, cellWords, cellAt, exponentAt, fill}
 
 pub sets-there : (vs l : List ℤ) (at : ℕ) → ((k : ℕ) → k < length vs → getD l (at + k) (pos 0) ≡ getD vs k (pos 0)) → sets l at vs ≡ l
 sets-there [] l at h = refl
@@ -26,7 +26,7 @@ sets-there (a ∷ vs) l at h = ap (λ (m : List ℤ). sets m (suc at) vs) first 
 pub cell-there : (l : List ℤ) (at : ℕ) → exponentAt l at ≡ true → sets l at (cellWords (cellAt l at)) ≡ l
 cell-there l at e = sets-there (cellWords (cellAt l at)) l at by
   where
-    by : (k : ℕ) → k < 5 → getD l (at + k) (pos 0) ≡ getD (cellWords (cellAt l at)) k (pos 0)
+    by : (k : ℕ) → k < cellSize → getD l (at + k) (pos 0) ≡ getD (cellWords (cellAt l at)) k (pos 0)
     by zero h = ap (λ (w : ℕ). getD l w (pos 0)) (add-zero at)
     by (suc zero) h = refl
     by (suc (suc zero)) h = refl
@@ -35,9 +35,9 @@ cell-there l at e = sets-there (cellWords (cellAt l at)) l at by
     by (suc (suc (suc (suc (suc k))))) h = absurd (omega arith)
 
 -- n numbers
-pub fill-there : (l : List ℤ) (at n : ℕ) (f : ℕ → Exact) → ((i : ℕ) → i < n → exponentAt l (at + i * 5) ≡ true) → ((i : ℕ) → i < n → f i ≡ cellAt l (at + i * 5)) → fill l at n f ≡ l
+pub fill-there : (l : List ℤ) (at n : ℕ) (f : ℕ → Exact) → ((i : ℕ) → i < n → exponentAt l (at + i * cellSize) ≡ true) → ((i : ℕ) → i < n → f i ≡ cellAt l (at + i * cellSize)) → fill l at n f ≡ l
 unfolding blocks
 fill-there l at zero f h e = refl
 fill-there l at (suc n) f h e =
-    (λ i. sets (fill-there l at n f (λ k p. h k (omega arith)) (λ k p. e k (omega arith)) i) (at + n * 5) (cellWords (e n (omega arith) i)))
-    ∙ cell-there l (at + n * 5) (h n (omega arith))
+    (λ i. sets (fill-there l at n f (λ k p. h k (omega arith)) (λ k p. e k (omega arith)) i) (at + n * cellSize) (cellWords (e n (omega arith) i)))
+    ∙ cell-there l (at + n * cellSize) (h n (omega arith))

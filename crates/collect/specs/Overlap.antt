@@ -6,7 +6,7 @@ use Prim.Native.Nat.{ℕ, _+_, _*_, _/_, _%_, _^_, _<_, _≤_}
 use lib.ListN.{length}
 use lib.IntN.{ℤ}
 use Rattle.exact.specs.Exact.{Exact, exact, conj, isLowest}
-use Rattle.exact.specs.Inner.Sizes.{Within, Room}
+use Rattle.exact.specs.Inner.Sizes.{Within, Room, roomNumerator}
 use Rattle.cells.specs.Cells.{cellSize, cellAt, exponentAt}
 use Rattle.cells.specs.Inner.Zero.{zeroAt}
 use Rattle.matrix.specs.Inner.Factors.{Factor}
@@ -27,15 +27,19 @@ blockOverlap m k w i = overlap (cellAt m (k + i / w * cellSize)) m (k + i % w * 
 abbrev pub blockOverlapped : List ℤ → ℕ → List ℤ → ℕ → ℕ → ℕ → Exact
 blockOverlapped l out m k w i = overlapped l (out + i * cellSize) (cellAt m (k + i / w * cellSize)) m (k + i % w * cellSize)
 
+-- no numerator of a sum of two terms is larger
+abbrev pub sumNumerator : ℕ
+sumNumerator = 2 * roomNumerator
+
 -- a number whose conjugate can be taken
 pub record Readable (l : List ℤ) (at : ℕ) : Type 0 where
-  pub room : at + 5 ≤ length l
+  pub room : at + cellSize ≤ length l
   pub exponent : exponentAt l at ≡ true
-  pub size : Within (2 ^ 62) (cellAt l at .num)
+  pub size : Within sumNumerator (cellAt l at .num)
 
 -- a sum in lowest form, to which a term over 2^e can be added
 pub record Sum (l : List ℤ) (at e : ℕ) : Type 0 where
-  pub room : at + 5 ≤ length l
+  pub room : at + cellSize ≤ length l
   pub exponent : exponentAt l at ≡ true
   pub lowest : isLowest (cellAt l at) ≡ true
   pub small : Room e (cellAt l at)
@@ -43,49 +47,49 @@ pub record Sum (l : List ℤ) (at e : ℕ) : Type 0 where
 -- a factor at p, and w factors from k on
 pub record Entries (m : List ℤ) (p k w : ℕ) : Type 0 where
   pub scale : Factor m p
-  pub factors : (c : ℕ) → c < w → Factor m (k + c * 5)
+  pub factors : (c : ℕ) → c < w → Factor m (k + c * cellSize)
 
 -- w sums from `to` on, to which the number at p times the conjugates of the w numbers from k on can be added
 pub record Row (l : List ℤ) (to : ℕ) (m : List ℤ) (p k w : ℕ) : Type 0 where
-  pub room : to + w * 5 ≤ length l
+  pub room : to + w * cellSize ≤ length l
   pub entries : Entries m p k w
-  pub sums : (c : ℕ) → c < w → Sum l (to + c * 5) (cellAt m p .exp + cellAt m (k + c * 5) .exp)
+  pub sums : (c : ℕ) → c < w → Sum l (to + c * cellSize) (cellAt m p .exp + cellAt m (k + c * cellSize) .exp)
 
 -- the first r numbers of column r of a block of w rows at `out`
 pub record Column (l : List ℤ) (out w r : ℕ) : Type 0 where
   pub inside : r < w
-  pub room : out + w * w * 5 ≤ length l
-  pub cells : (c : ℕ) → c < r → Readable l (out + (c * w + r) * 5)
+  pub room : out + w * w * cellSize ≤ length l
+  pub cells : (c : ℕ) → c < r → Readable l (out + (c * w + r) * cellSize)
 
 -- a number, and a place for its conjugate, which stands there if the number at q of m is zero
 pub record Mirrored (l : List ℤ) (from at : ℕ) (m : List ℤ) (q : ℕ) : Type 0 where
   pub source : Readable l from
-  pub room : at + 5 ≤ length l
+  pub room : at + cellSize ≤ length l
   pub exponent : exponentAt l at ≡ true
-  pub factor : q + 5 ≤ length m
+  pub factor : q + cellSize ≤ length m
   pub there : zeroAt m q ≡ true → conj (cellAt l from) ≡ cellAt l at
 
 -- row r of the block of the w factors from k on, where column r has its first r overlaps
 pub record NewRow (l : List ℤ) (out : ℕ) (m : List ℤ) (k w r : ℕ) : Type 0 where
   pub column : Column l out w r
-  pub factors : (c : ℕ) → c < w → Factor m (k + c * 5)
-  pub mirror : (c : ℕ) → c < r → conj (cellAt l (out + (c * w + r) * 5)) ≡ overlap (cellAt m (k + r * 5)) m (k + c * 5)
+  pub factors : (c : ℕ) → c < w → Factor m (k + c * cellSize)
+  pub mirror : (c : ℕ) → c < r → conj (cellAt l (out + (c * w + r) * cellSize)) ≡ overlap (cellAt m (k + r * cellSize)) m (k + c * cellSize)
 
 -- row r of a block of sums, where overlaps are added to the first r of column r
 pub record AddedRow (l : List ℤ) (out : ℕ) (m : List ℤ) (k w r : ℕ) : Type 0 where
   pub column : Column l out w r
-  pub row : Row l (out + r * w * 5) m (k + r * 5) k w
-  pub mirror : (c : ℕ) → c < r → conj (cellAt l (out + (c * w + r) * 5)) ≡ overlapped l (out + r * w * 5 + c * 5) (cellAt m (k + r * 5)) m (k + c * 5)
+  pub row : Row l (out + r * w * cellSize) m (k + r * cellSize) k w
+  pub mirror : (c : ℕ) → c < r → conj (cellAt l (out + (c * w + r) * cellSize)) ≡ overlapped l (out + r * w * cellSize + c * cellSize) (cellAt m (k + r * cellSize)) m (k + c * cellSize)
 
 -- a place for the block of the w factors from k on
 pub record NewBlock (l : List ℤ) (out : ℕ) (m : List ℤ) (k w : ℕ) : Type 0 where
-  pub room : out + w * w * 5 ≤ length l
-  pub entries : k + w * 5 ≤ length m
-  pub factors : (i : ℕ) → i < w → Factor m (k + i * 5)
+  pub room : out + w * w * cellSize ≤ length l
+  pub entries : k + w * cellSize ≤ length m
+  pub factors : (i : ℕ) → i < w → Factor m (k + i * cellSize)
 
 -- w·w sums from `out` on, a Hermitian matrix, to which the overlaps of the w numbers from k on can be added
 pub record Block (l : List ℤ) (out : ℕ) (m : List ℤ) (k w : ℕ) : Type 0 where
-  pub room : out + w * w * 5 ≤ length l
-  pub factors : (i : ℕ) → i < w → Factor m (k + i * 5)
-  pub sums : (r c : ℕ) → r < w → c < w → Sum l (out + (r * w + c) * 5) (cellAt m (k + r * 5) .exp + cellAt m (k + c * 5) .exp)
-  pub hermitian : (r c : ℕ) → r < w → c < w → conj (cellAt l (out + (c * w + r) * 5)) ≡ cellAt l (out + (r * w + c) * 5)
+  pub room : out + w * w * cellSize ≤ length l
+  pub factors : (i : ℕ) → i < w → Factor m (k + i * cellSize)
+  pub sums : (r c : ℕ) → r < w → c < w → Sum l (out + (r * w + c) * cellSize) (cellAt m (k + r * cellSize) .exp + cellAt m (k + c * cellSize) .exp)
+  pub hermitian : (r c : ℕ) → r < w → c < w → conj (cellAt l (out + (c * w + r) * cellSize)) ≡ cellAt l (out + (r * w + c) * cellSize)

@@ -1,4 +1,5 @@
 // Overlaps of a matrix's entries, written as a block or added to one.
+use cells::CELL;
 use cells::read_cell;
 use cells::write_cell;
 use cells::zero_at;
@@ -12,10 +13,10 @@ ghost use mathlib.Core.Bool.{not};
 ghost use Prim.Native.Nat.{_+_, _*_, _≤_};
 ghost use lib.ListN.{length};
 ghost use lib.Seq.{sets};
-ghost use Rattle.exact.specs.Exact.{conj};
+ghost use Rattle.exact.specs.Exact.{narrowExponent, conj};
 ghost use Rattle.exact.specs.Inner.Sizes.{Coords};
 ghost use Rattle.scalar.specs.Calls.{value, scalarOf};
-ghost use Rattle.cells.specs.Cells.{cellAt, cellWords, fill};
+ghost use Rattle.cells.specs.Cells.{cellSize, cellAt, cellWords, fill};
 ghost use Rattle.cells.specs.Inner.Zero.{zeroAt};
 ghost use Rattle.matrix.specs.Inner.Factors.{Factor};
 ghost use Rattle.collect.specs.Overlap.{overlap, overlapped, blockOverlap, blockOverlapped, Readable, Sum, Entries, Row, Column, Mirrored, NewRow, AddedRow, NewBlock, Block};
@@ -36,7 +37,7 @@ fn read_conj(s: &[i64], at: usize) -> Scalar
 
 // Write the conjugate of the scalar at `from` to `at`.
 fn write_conj(s: &mut [i64], from: usize, at: usize)
-    requires { ⌜ Readable (now s) from × (at + 5 ≤ length (now s)) ⌝ }
+    requires { ⌜ Readable (now s) from × (at + cellSize ≤ length (now s)) ⌝ }
     ensures { λ _. ⌜ now (s .exit) ≡ sets (now (s .entry)) at (cellWords (conj (cellAt (now (s .entry)) from))) ⌝ }
 {
     let v = read_conj(s, from);
@@ -45,7 +46,7 @@ fn write_conj(s: &mut [i64], from: usize, at: usize)
 
 // Write x times the conjugate of the scalar at q of `work` to `at` of `result`.
 fn write_overlap(result: &mut [i64], at: usize, x: Scalar, work: &[i64], q: usize)
-    requires { ⌜ (at + 5 ≤ length (now result)) × (Coords 1 28 (value x) × Factor (now work) q) ⌝ }
+    requires { ⌜ (at + cellSize ≤ length (now result)) × (Coords 1 narrowExponent (value x) × Factor (now work) q) ⌝ }
     ensures { λ _. ⌜ now (result .exit) ≡ sets (now (result .entry)) at (cellWords (overlap (value x) (now (work .entry)) q)) ⌝ }
 {
     if zero_at(work, q) {
@@ -59,7 +60,7 @@ fn write_overlap(result: &mut [i64], at: usize, x: Scalar, work: &[i64], q: usiz
 
 // Add x times the conjugate of the scalar at q of `work` to the scalar at `at` of `result`; a zero is passed over.
 fn add_overlap(result: &mut [i64], at: usize, x: Scalar, work: &[i64], q: usize)
-    requires { ⌜ Sum (now result) at (x .e + cellAt (now work) q .exp) × (Coords 1 28 (value x) × Factor (now work) q) ⌝ }
+    requires { ⌜ Sum (now result) at (x .e + cellAt (now work) q .exp) × (Coords 1 narrowExponent (value x) × Factor (now work) q) ⌝ }
     ensures { λ _. ⌜ now (result .exit) ≡ sets (now (result .entry)) at (cellWords (overlapped (now (result .entry)) at (value x) (now (work .entry)) q)) ⌝ }
 {
     if zero_at(work, q) {
@@ -73,13 +74,13 @@ fn add_overlap(result: &mut [i64], at: usize, x: Scalar, work: &[i64], q: usize)
 
 // Write the scalar at p of `work` times the conjugates of the w scalars from k on to `to` on of `result`.
 fn write_row(result: &mut [i64], to: usize, work: &[i64], p: usize, k: usize, w: usize)
-    requires { ⌜ (to + w * 5 ≤ length (now result)) × Entries (now work) p k w ⌝ }
-    ensures { λ _. ⌜ now (result .exit) ≡ fill (now (result .entry)) to w (λ c. overlap (cellAt (now (work .entry)) p) (now (work .entry)) (k + c * 5)) ⌝ }
+    requires { ⌜ (to + w * cellSize ≤ length (now result)) × Entries (now work) p k w ⌝ }
+    ensures { λ _. ⌜ now (result .exit) ≡ fill (now (result .entry)) to w (λ c. overlap (cellAt (now (work .entry)) p) (now (work .entry)) (k + c * cellSize)) ⌝ }
 {
     let x = read_cell(work, p);
     let mut c = 0;
     while c < w {
-        write_overlap(result, to + c * 5, x, work, k + c * 5);
+        write_overlap(result, to + c * CELL, x, work, k + c * CELL);
         c += 1;
     }
 }
@@ -87,12 +88,12 @@ fn write_row(result: &mut [i64], to: usize, work: &[i64], p: usize, k: usize, w:
 // Add the scalar at p of `work` times the conjugates of the w scalars from k on to the w scalars from `to` on of `result`.
 fn add_row(result: &mut [i64], to: usize, work: &[i64], p: usize, k: usize, w: usize)
     requires { ⌜ Row (now result) to (now work) p k w ⌝ }
-    ensures { λ _. ⌜ now (result .exit) ≡ fill (now (result .entry)) to w (λ c. overlapped (now (result .entry)) (to + c * 5) (cellAt (now (work .entry)) p) (now (work .entry)) (k + c * 5)) ⌝ }
+    ensures { λ _. ⌜ now (result .exit) ≡ fill (now (result .entry)) to w (λ c. overlapped (now (result .entry)) (to + c * cellSize) (cellAt (now (work .entry)) p) (now (work .entry)) (k + c * cellSize)) ⌝ }
 {
     let x = read_cell(work, p);
     let mut c = 0;
     while c < w {
-        add_overlap(result, to + c * 5, x, work, k + c * 5);
+        add_overlap(result, to + c * CELL, x, work, k + c * CELL);
         c += 1;
     }
 }
@@ -100,11 +101,11 @@ fn add_row(result: &mut [i64], to: usize, work: &[i64], p: usize, k: usize, w: u
 // Write the conjugates of the first r scalars of column r of the block at `out`, of w columns, to row r.
 fn mirror_column(s: &mut [i64], out: usize, w: usize, r: usize)
     requires { ⌜ Column (now s) out w r ⌝ }
-    ensures { λ _. ⌜ now (s .exit) ≡ fill (now (s .entry)) (out + r * w * 5) r (λ c. conj (cellAt (now (s .entry)) (out + (c * w + r) * 5))) ⌝ }
+    ensures { λ _. ⌜ now (s .exit) ≡ fill (now (s .entry)) (out + r * w * cellSize) r (λ c. conj (cellAt (now (s .entry)) (out + (c * w + r) * cellSize))) ⌝ }
 {
     let mut c = 0;
     while c < r {
-        write_conj(s, out + (c * w + r) * 5, out + r * w * 5 + c * 5);
+        write_conj(s, out + (c * w + r) * CELL, out + r * w * CELL + c * CELL);
         c += 1;
     }
 }
@@ -123,16 +124,16 @@ fn mirror_sum(result: &mut [i64], from: usize, at: usize, work: &[i64], q: usize
 // The same, where the conjugates of those stand already that belong to a zero of the scalars from k on of `work`.
 fn mirror_sums(result: &mut [i64], out: usize, work: &[i64], k: usize, w: usize, r: usize)
     requires { ⌜ AddedRow (now result) out (now work) k w r ⌝ }
-    ensures { λ _. ⌜ now (result .exit) ≡ fill (now (result .entry)) (out + r * w * 5) r (λ c. conj (cellAt (now (result .entry)) (out + (c * w + r) * 5))) ⌝ }
+    ensures { λ _. ⌜ now (result .exit) ≡ fill (now (result .entry)) (out + r * w * cellSize) r (λ c. conj (cellAt (now (result .entry)) (out + (c * w + r) * cellSize))) ⌝ }
 {
     let mut c = 0;
     while c < r {
         mirror_sum(
             result,
-            out + (c * w + r) * 5,
-            out + r * w * 5 + c * 5,
+            out + (c * w + r) * CELL,
+            out + r * w * CELL + c * CELL,
             work,
-            k + c * 5,
+            k + c * CELL,
         );
         c += 1;
     }
@@ -141,34 +142,34 @@ fn mirror_sums(result: &mut [i64], out: usize, work: &[i64], k: usize, w: usize,
 // Write row r of the block of the w scalars from k on of `work`, whose rows before it are written: from the diagonal on by products, and before it by column r.
 fn write_block_row(result: &mut [i64], out: usize, work: &[i64], k: usize, w: usize, r: usize)
     requires { ⌜ NewRow (now result) out (now work) k w r ⌝ }
-    ensures { λ _. ⌜ now (result .exit) ≡ fill (now (result .entry)) (out + r * w * 5) w (λ c. overlap (cellAt (now (work .entry)) (k + r * 5)) (now (work .entry)) (k + c * 5)) ⌝ }
+    ensures { λ _. ⌜ now (result .exit) ≡ fill (now (result .entry)) (out + r * w * cellSize) w (λ c. overlap (cellAt (now (work .entry)) (k + r * cellSize)) (now (work .entry)) (k + c * cellSize)) ⌝ }
 {
     mirror_column(result, out, w, r);
-    let p = k + r * 5;
-    write_row(result, out + r * w * 5 + r * 5, work, p, p, w - r);
+    let p = k + r * CELL;
+    write_row(result, out + r * w * CELL + r * CELL, work, p, p, w - r);
 }
 
 // Add row r of the block of the w scalars from k on of `work`, where the rows before it are added; a zero is passed over.
 fn add_block_row(result: &mut [i64], out: usize, work: &[i64], k: usize, w: usize, r: usize)
     requires { ⌜ AddedRow (now result) out (now work) k w r ⌝ }
-    ensures { λ _. ⌜ now (result .exit) ≡ fill (now (result .entry)) (out + r * w * 5) w (λ c. overlapped (now (result .entry)) (out + r * w * 5 + c * 5) (cellAt (now (work .entry)) (k + r * 5)) (now (work .entry)) (k + c * 5)) ⌝ }
+    ensures { λ _. ⌜ now (result .exit) ≡ fill (now (result .entry)) (out + r * w * cellSize) w (λ c. overlapped (now (result .entry)) (out + r * w * cellSize + c * cellSize) (cellAt (now (work .entry)) (k + r * cellSize)) (now (work .entry)) (k + c * cellSize)) ⌝ }
 {
-    let p = k + r * 5;
+    let p = k + r * CELL;
     if zero_at(work, p) {
         return;
     }
     mirror_sums(result, out, work, k, w, r);
-    add_row(result, out + r * w * 5 + r * 5, work, p, p, w - r);
+    add_row(result, out + r * w * CELL + r * CELL, work, p, p, w - r);
 }
 
 // The first of the w scalars from k on of `work`, from scalar r on, that is not zero; w where there is none.
 fn next_entry(work: &[i64], k: usize, w: usize, r: usize) -> usize
-    requires { ⌜ (r ≤ w) × (k + w * 5 ≤ length (now work)) ⌝ }
-    ensures { λ e. ⌜ Found (λ i. not (zeroAt (now (work .entry)) (k + i * 5))) r w e ⌝ }
+    requires { ⌜ (r ≤ w) × (k + w * cellSize ≤ length (now work)) ⌝ }
+    ensures { λ e. ⌜ Found (λ i. not (zeroAt (now (work .entry)) (k + i * cellSize))) r w e ⌝ }
 {
     let mut i = r;
     while i < w {
-        if !zero_at(work, k + i * 5) {
+        if !zero_at(work, k + i * CELL) {
             return i;
         }
         i += 1;
@@ -184,7 +185,7 @@ pub fn write_overlaps(result: &mut [i64], out: usize, work: &[i64], k: usize, w:
     let mut r = 0;
     while r < w {
         let e = next_entry(work, k, w, r);
-        clear(result, out + r * w * 5, (e - r) * w * 5);
+        clear(result, out + r * w * CELL, (e - r) * w * CELL);
         if e == w {
             return;
         }

@@ -3,7 +3,7 @@ use mathlib.Core.Path.{sym, ap, _∙_, subst}
 use Prim.Native.Nat.{_+_}
 use Rattle.scalar.specs.declared.Scalar.{Scalar}
 use lib.Seq.{sets}
-use Rattle.exact.specs.Exact.{Exact, exact}
+use Rattle.exact.specs.Exact.{narrowExponent, Exact, exact}
 use Rattle.exact.specs.Inner.Sizes.{Coords, Room}
 use Rattle.scalar.specs.Calls.{value}
 use Rattle.cells.specs.Cells.{cellAt, cellWords}
@@ -36,7 +36,7 @@ fma-requires c κs =
     let a = sym (ap value (c .read-cell .ensures)) in
     let v = sym (r .read-conj .ensures) in (
       subst (Room _) a (subst (λ (u : Scalar). Room (s .args .x .e + u .e) (cellAt (s .args .result .now) (s .args .at))) v (s .pre .0 .small)),
-      (s .pre .1 .0, subst (λ (u : Scalar). Coords 1 28 (value u)) v (conj-coords 1 28 y (s .pre .1 .1 .coords))),
+      (s .pre .1 .0, subst (λ (u : Scalar). Coords 1 narrowExponent (value u)) v (conj-coords 1 narrowExponent y (s .pre .1 .1 .coords))),
     )
 
 write-cell-requires : tie.Need-write-cell-requires

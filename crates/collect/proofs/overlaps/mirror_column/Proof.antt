@@ -5,7 +5,7 @@ use native.Mathlib.Nat.{le-refl}
 use native.Mathlib.Omega.{arith}
 use lib.ListN.{length}
 use Rattle.algebra.proofs.Blocks.{begin, again, done, long}
-use Rattle.cells.specs.Cells.{cellWords}
+use Rattle.cells.specs.Cells.{cellSize, cellWords}
 use Rattle.collect.proofs.Adding.{Mirroring, column-room, own-room, column-readable, column-is}
 use Rattle.collect.proofs.overlaps.mirror_column.Statement.{statement}
 use Rattle.collect.proofs.overlaps.mirror_column.Tie as tie
@@ -20,14 +20,14 @@ module _ (t : tie.In-loop Inv-loop μ-loop) where
   abbrev start : tie.Start Inv-loop μ-loop
   start = t .before .before
 
-  from-in : start .args .out + (t .before .loop .c * start .args .w + start .args .r) * 5 + 5 ≤ length (start .args .s .now)
+  from-in : start .args .out + (t .before .loop .c * start .args .w + start .args .r) * cellSize + cellSize ≤ length (start .args .s .now)
   from-in = column-room (start .pre) (t .before .loop .inv) (t .loop-test .taken)
 
-  to-in : start .args .out + start .args .r * start .args .w * 5 + t .before .loop .c * 5 + 5 ≤ length (start .args .s .now)
+  to-in : start .args .out + start .args .r * start .args .w * cellSize + t .before .loop .c * cellSize + cellSize ≤ length (start .args .s .now)
   to-in = own-room (start .pre) (t .before .loop .inv) (t .loop-test .taken)
 
 loop-holds : tie.Need-loop-holds Inv-loop μ-loop
-loop-holds c = begin (λ k. le-refl 5)
+loop-holds c = begin (λ k. le-refl cellSize)
 
 mul-write-conj : tie.Need-mul-write-conj Inv-loop μ-loop
 mul-write-conj c = omega (arith, from-in (c .before))

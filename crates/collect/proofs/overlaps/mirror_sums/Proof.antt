@@ -5,7 +5,7 @@ use native.Mathlib.Nat.{le-refl}
 use native.Mathlib.Omega.{arith}
 use lib.ListN.{length}
 use Rattle.algebra.proofs.Blocks.{begin, again, done, long}
-use Rattle.cells.specs.Cells.{cellWords}
+use Rattle.cells.specs.Cells.{cellSize, cellWords}
 use Rattle.collect.proofs.Adding.{Mirroring, column-room, own-room, column-is, mirrored}
 use Rattle.collect.proofs.overlaps.mirror_sums.Statement.{statement}
 use Rattle.collect.proofs.overlaps.mirror_sums.Tie as tie
@@ -20,17 +20,17 @@ module _ (t : tie.In-loop Inv-loop μ-loop) where
   abbrev start : tie.Start Inv-loop μ-loop
   start = t .before .before
 
-  from-in : start .args .out + (t .before .loop .c * start .args .w + start .args .r) * 5 + 5 ≤ length (start .args .result .now)
+  from-in : start .args .out + (t .before .loop .c * start .args .w + start .args .r) * cellSize + cellSize ≤ length (start .args .result .now)
   from-in = column-room (start .pre .column) (t .before .loop .inv) (t .loop-test .taken)
 
-  factor-in : start .args .k + t .before .loop .c * 5 + 5 ≤ length (start .args .work .now)
+  factor-in : start .args .k + t .before .loop .c * cellSize + cellSize ≤ length (start .args .work .now)
   factor-in = start .pre .row .entries .factors (t .before .loop .c) (omega (arith, t .loop-test .taken, start .pre .column .inside)) .room
 
-  to-in : start .args .out + start .args .r * start .args .w * 5 + t .before .loop .c * 5 + 5 ≤ length (start .args .result .now)
+  to-in : start .args .out + start .args .r * start .args .w * cellSize + t .before .loop .c * cellSize + cellSize ≤ length (start .args .result .now)
   to-in = own-room (start .pre .column) (t .before .loop .inv) (t .loop-test .taken)
 
 loop-holds : tie.Need-loop-holds Inv-loop μ-loop
-loop-holds c = begin (λ k. le-refl 5)
+loop-holds c = begin (λ k. le-refl cellSize)
 
 mul-mirror-sum : tie.Need-mul-mirror-sum Inv-loop μ-loop
 mul-mirror-sum c = omega (arith, from-in (c .before))

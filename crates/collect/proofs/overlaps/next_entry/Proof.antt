@@ -6,17 +6,18 @@ use native.Mathlib.Nat.{le-refl}
 use native.Mathlib.Omega.{arith}
 use lib.ListN.{length}
 use Rattle.cells.specs.Inner.Zero.{zeroAt}
+use Rattle.cells.specs.Cells.{cellSize}
 use Rattle.collect.proofs.Finding.{passed-more}
 use Rattle.collect.proofs.overlaps.next_entry.Statement.{statement}
 use Rattle.collect.proofs.overlaps.next_entry.Tie as tie
 
 abbrev Inv-loop : tie.InvT-loop
-Inv-loop work k w r i₀ i = (r ≤ i) × ((i ≤ w) × ((j : ℕ) → r ≤ j → j < i → not (zeroAt work (k + j * 5)) ≡ false))
+Inv-loop work k w r i₀ i = (r ≤ i) × ((i ≤ w) × ((j : ℕ) → r ≤ j → j < i → not (zeroAt work (k + j * cellSize)) ≡ false))
 
 abbrev μ-loop : tie.MeasureT-loop
 μ-loop work k w r i₀ i = w - i
 
-entry-in : (t : tie.In-loop Inv-loop μ-loop) → let n = t .before .before .args in n .k + t .before .loop .i * 5 + 5 ≤ length (n .work .now)
+entry-in : (t : tie.In-loop Inv-loop μ-loop) → let n = t .before .before .args in n .k + t .before .loop .i * cellSize + cellSize ≤ length (n .work .now)
 entry-in t = omega (arith, t .before .before .pre .1, t .loop-test .taken)
 
 loop-holds : tie.Need-loop-holds Inv-loop μ-loop
@@ -49,7 +50,7 @@ loop-again c =
     let t = a .before in
     let l = t .before in
     let n = l .before .args in
-    (omega (arith, l .loop .inv .0), (omega (arith, t .loop-test .taken), passed-more (λ (j : ℕ). not (zeroAt (n .work .now) (n .k + j * 5))) (n .r) (l .loop .i) (l .loop .inv .1 .1) (ap not (sym (a .zero-at .ensures)) ∙ c .if1 .left)))
+    (omega (arith, l .loop .inv .0), (omega (arith, t .loop-test .taken), passed-more (λ (j : ℕ). not (zeroAt (n .work .now) (n .k + j * cellSize))) (n .r) (l .loop .i) (l .loop .inv .1 .1) (ap not (sym (a .zero-at .ensures)) ∙ c .if1 .left)))
 
 returns-2 : tie.Need-returns-2 Inv-loop μ-loop
 returns-2 c =

@@ -10,13 +10,14 @@ use Rattle.exact.specs.Exact.{conj}
 use Rattle.exact.specs.Inner.Sizes.{Within}
 use Rattle.scalar.specs.declared.Scalar.{Scalar}
 use Rattle.scalar.specs.Calls.{value, scalarOf}
+use Rattle.collect.specs.Overlap.{sumNumerator}
 use borrow.Author.Needs.{needs}
 use Rattle.collect.proofs.overlaps.read_conj.Statement.{statement}
 use Rattle.collect.proofs.overlaps.read_conj.Tie as tie
 
 -- the numerators that were read
-size : (r : tie.After-read-cell) → Within (2 ^ 62) (value (r .read-cell .result) .num)
-size r = subst (λ (v : Scalar). Within (2 ^ 62) (value v .num)) (sym (r .read-cell .ensures)) (r .before .pre .size)
+size : (r : tie.After-read-cell) → Within sumNumerator (value (r .read-cell .result) .num)
+size r = subst (λ (v : Scalar). Within sumNumerator (value v .num)) (sym (r .read-cell .ensures)) (r .before .pre .size)
 
 read-cell-requires : tie.Need-read-cell-requires
 read-cell-requires c κs = search needs

@@ -3,16 +3,17 @@ use Prim.Native.Nat.{_+_, _*_, _≤_}
 use native.Mathlib.Omega.{arith}
 use lib.ListN.{length}
 use Rattle.algebra.proofs.Blocks.{block-in}
+use Rattle.cells.specs.Cells.{cellSize}
 use Rattle.collect.proofs.Adding.{later-factors, half-long, new-row}
 use borrow.Author.Needs.{needs}
 use Rattle.collect.proofs.overlaps.write_block_row.Statement.{statement}
 use Rattle.collect.proofs.overlaps.write_block_row.Tie as tie
 
 module _ (s : tie.Start) where
-  factor-in : s .args .k + s .args .r * 5 + 5 ≤ length (s .args .work .now)
+  factor-in : s .args .k + s .args .r * cellSize + cellSize ≤ length (s .args .work .now)
   factor-in = s .pre .factors (s .args .r) (s .pre .column .inside) .room
 
-  row-in : s .args .out + s .args .r * s .args .w * 5 + s .args .w * 5 ≤ length (s .args .result .now)
+  row-in : s .args .out + s .args .r * s .args .w * cellSize + s .args .w * cellSize ≤ length (s .args .result .now)
   row-in = omega (arith, s .pre .column .room, block-in (s .pre .column .inside) (s .args .w))
 
 abbrev start : tie.After-mirror-column → tie.Start

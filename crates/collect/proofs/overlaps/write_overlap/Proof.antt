@@ -1,7 +1,7 @@
 -- `collect::overlaps::write_overlap` meets its contract.
 use mathlib.Core.Path.{sym, ap, _∙_, subst}
 use lib.Seq.{sets}
-use Rattle.exact.specs.Exact.{Exact, exact, conj}
+use Rattle.exact.specs.Exact.{narrowExponent, Exact, exact, conj}
 use Rattle.exact.specs.Inner.Sizes.{Coords}
 use Rattle.scalar.specs.declared.Scalar.{Scalar}
 use Rattle.scalar.specs.Calls.{value}
@@ -35,7 +35,7 @@ read-cell-requires c κs = search needs
 times-conj-requires : tie.Need-times-conj-requires
 times-conj-requires c κs =
     let s = c .before .before .before in
-    (s .pre .1 .0, subst (λ (u : Scalar). Coords 1 28 (value u)) (sym (c .read-cell .ensures)) (s .pre .1 .1 .coords))
+    (s .pre .1 .0, subst (λ (u : Scalar). Coords 1 narrowExponent (value u)) (sym (c .read-cell .ensures)) (s .pre .1 .1 .coords))
 
 write-cell-requires-2 : tie.Need-write-cell-requires-2
 write-cell-requires-2 c κs = search needs

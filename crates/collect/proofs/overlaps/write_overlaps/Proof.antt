@@ -5,6 +5,7 @@ use native.Mathlib.Omega.{arith}
 use lib.ListN.{length}
 use borrow.Author.Tests.{not-false}
 use Rattle.algebra.proofs.Blocks.{done, long}
+use Rattle.cells.specs.Cells.{cellSize}
 use Rattle.collect.specs.Overlap.{blockOverlap}
 use Rattle.collect.proofs.Adding.{Rows, no-rows, rows-in, rows-cleared, new-row-asks, new-row-more}
 use Rattle.collect.proofs.overlaps.write_overlaps.Statement.{statement}
@@ -23,7 +24,7 @@ module _ (a : tie.After-next-entry Inv-loop μ-loop) where
   abbrev s : tie.Start Inv-loop μ-loop
   s = t .before .before
 
-  run : s .args .out + t .before .loop .r * s .args .w * 5 + (a .next-entry .result - t .before .loop .r) * s .args .w * 5 ≤ length (s .args .result .now)
+  run : s .args .out + t .before .loop .r * s .args .w * cellSize + (a .next-entry .result - t .before .loop .r) * s .args .w * cellSize ≤ length (s .args .result .now)
   run = rows-in (s .args .out) (t .before .loop .r) (a .next-entry .result) (s .args .w) _ (a .next-entry .ensures .low) (a .next-entry .ensures .high) (s .pre .room)
 
 -- the rows of zeros are written

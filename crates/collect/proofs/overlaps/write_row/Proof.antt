@@ -5,16 +5,16 @@ use native.Mathlib.Nat.{le-refl}
 use native.Mathlib.Omega.{arith}
 use lib.ListN.{length}
 use Rattle.algebra.proofs.Blocks.{Writing, begin, again, done, long}
-use Rattle.exact.specs.Exact.{exact, conj}
+use Rattle.exact.specs.Exact.{narrowExponent, exact, conj}
 use Rattle.exact.specs.Inner.Sizes.{Coords}
 use Rattle.scalar.specs.Calls.{value}
-use Rattle.cells.specs.Cells.{cellWords, cellAt}
+use Rattle.cells.specs.Cells.{cellSize, cellWords, cellAt}
 use Rattle.collect.specs.Overlap.{overlap}
 use Rattle.collect.proofs.overlaps.write_row.Statement.{statement}
 use Rattle.collect.proofs.overlaps.write_row.Tie as tie
 
 abbrev Inv-loop : tie.InvT-loop
-Inv-loop result₀ to work p k w x c₀ result c = Writing 5 result₀ to w (λ (c : ℕ). cellWords (overlap (cellAt work p) work (k + c * 5))) result c
+Inv-loop result₀ to work p k w x c₀ result c = Writing cellSize result₀ to w (λ (c : ℕ). cellWords (overlap (cellAt work p) work (k + c * cellSize))) result c
 
 abbrev μ-loop : tie.MeasureT-loop
 μ-loop result₀ to work p k w x c₀ result c = w - c
@@ -23,7 +23,7 @@ module _ (t : tie.In-loop Inv-loop μ-loop) where
   abbrev s : tie.Start Inv-loop μ-loop
   s = t .before .before .before
 
-  q-in : s .args .k + t .before .loop .c * 5 + 5 ≤ length (s .args .work .now)
+  q-in : s .args .k + t .before .loop .c * cellSize + cellSize ≤ length (s .args .work .now)
   q-in = s .pre .1 .factors (t .before .loop .c) (t .loop-test .taken) .room
 
   scale : value (t .before .before .read-cell .result) ≡ cellAt (s .args .work .now) (s .args .p)
@@ -33,7 +33,7 @@ read-cell-requires : tie.Need-read-cell-requires Inv-loop μ-loop
 read-cell-requires c κs = let s = c .pre .1 .scale in (s .room, s .exponent)
 
 loop-holds : tie.Need-loop-holds Inv-loop μ-loop
-loop-holds c = begin (λ k. le-refl 5)
+loop-holds c = begin (λ k. le-refl cellSize)
 
 mul-write-overlap : tie.Need-mul-write-overlap Inv-loop μ-loop
 mul-write-overlap c = omega (arith, s (c .before) .pre .0)
@@ -53,7 +53,7 @@ write-overlap-requires c κs =
     let i = t .before .loop .c in
     let h = t .loop-test .taken in (
       omega (arith, s t .pre .0, long (t .before .loop .inv)),
-      (subst (Coords 1 28) (sym (scale t)) (s t .pre .1 .scale .coords), s t .pre .1 .factors i h),
+      (subst (Coords 1 narrowExponent) (sym (scale t)) (s t .pre .1 .scale .coords), s t .pre .1 .factors i h),
     )
 
 add-c : tie.Need-add-c Inv-loop μ-loop
@@ -67,7 +67,7 @@ loop-again c =
     let a = c .before in
     let t = a .before .before in
     let n = s t .args in
-    let q = cellAt (n .work .now) (n .k + t .before .loop .c * 5) in
+    let q = cellAt (n .work .now) (n .k + t .before .loop .c * cellSize) in
     again (t .before .loop .inv) (t .loop-test .taken) (a .write-overlap .ensures) (ap cellWords (λ i. exact ._⊗_ (scale t i) (conj q)))
 
 same-length : tie.Need-same-length Inv-loop μ-loop

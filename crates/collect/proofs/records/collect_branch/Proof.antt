@@ -7,7 +7,8 @@ use lib.ListN.{length}
 use lib.Seq.{sets}
 use borrow.Author.Tests.{not-true, not-false}
 use Rattle.algebra.proofs.Tests.{and-no}
-use Rattle.channel.specs.Layout.{headerSize, recordSize, side}
+use Rattle.cells.specs.Cells.{cellSize}
+use Rattle.channel.specs.Layout.{recordHead, headerSize, recordSize, side}
 use Rattle.channel.proofs.Words.{square-small}
 use Rattle.collect.specs.Bank.{storeOf, survives, isFirst, starts, recordOf}
 use Rattle.collect.proofs.Summing.{bank-branch}
@@ -32,7 +33,7 @@ module _ (c : tie.Else2) where
   n-small : start .args .n ≤ start .args .n * recordSize (side (start .args .d))
   n-small = grows (start .args .n) (side (start .args .d) * side (start .args .d))
     where
-      grows : (n k : ℕ) → n ≤ n * (3 + k * 5)
+      grows : (n k : ℕ) → n ≤ n * (recordHead + k * cellSize)
       grows n k = omega arith
 
 -- the record's place
