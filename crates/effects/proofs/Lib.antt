@@ -1,3 +1,4 @@
 pub mod Summing
 pub mod Linking
+pub mod Strides
 pub mod Records

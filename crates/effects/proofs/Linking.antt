@@ -11,7 +11,7 @@ use mir.Val.{SFits, ofZ}
 use Rattle.algebra.proofs.Signed.{word-inj}
 use Rattle.channel.specs.Layout.{headerSize, recordSize, recordAt, side}
 use Rattle.effects.specs.Effects.{relink}
-use Rattle.effects.specs.Readable.{Dim, Linked}
+use Rattle.effects.specs.Inner.Readable.{Dim, Linked}
 
 pub zero-word : (z : ℤ) → SFits w64 z → ofZ w64 z ≡ 0 → z ≡ pos 0
 zero-word z f e = word-inj z (pos 0) f (record { sfits = lit< tt }) e

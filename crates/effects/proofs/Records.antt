@@ -7,21 +7,22 @@ use native.Mathlib.Nat.{mul-le-mul, le-refl}
 use native.Mathlib.Omega.{arith}
 use lib.ListN.{length}
 use lib.IntN.{ℤ, pos, natAbs}
+use Rattle.exact.specs.Exact.{Exact}
 use Rattle.cells.proofs.Cell.{length-cells}
-use Rattle.channel.specs.Layout.{headerSize, recordSize, recordAt, side, word, dimAt, countAt}
+use Rattle.channel.specs.Layout.{headerSize, recordHead, entrySize, recordSize, recordAt, side, word, dimAt, countAt}
 use Rattle.channel.specs.WellFormed.{wellFormed}
 use Rattle.channel.specs.Inner.Shapes.{Onward}
 use Rattle.channel.proofs.Judging.{formed}
 use Rattle.channel.proofs.Chain.{onward-begin, first-index, chain-from, on-inside, on-entry, on-index, on-next}
 use Rattle.channel.proofs.Visits.{each-record}
-use Rattle.effects.specs.Effects.{effectAt, effectRecord}
-use Rattle.effects.specs.Readable.{Dim, Linked, Readable, Records}
+use Rattle.effects.specs.Effects.{effectRecord}
+use Rattle.effects.specs.Inner.Readable.{Dim, Linked, Readable, Records}
 use Rattle.effects.proofs.Linking.{record-less}
 
-pub record-length : (l : List ℤ) (d at : ℕ) → length (effectRecord l d at) ≡ recordSize d
-record-length l d at = ap (λ (n : ℕ). suc (suc (suc n))) (length-cells (effectAt l at d) (d * d)) ∙ by (d * d * 5)
+pub record-length : (entry : List ℤ → ℕ → ℕ → ℕ → Exact) (l : List ℤ) (d at : ℕ) → length (effectRecord entry l d at) ≡ recordSize d
+record-length entry l d at = ap (λ (n : ℕ). suc (suc (suc n))) (length-cells (entry l at d) (d * d)) ∙ by (d * d * entrySize)
   where
-    by : (n : ℕ) → suc (suc (suc n)) ≡ 3 + n
+    by : (n : ℕ) → suc (suc (suc n)) ≡ recordHead + n
     by n = omega arith
 
 -- the effects' records are no longer than the channel's

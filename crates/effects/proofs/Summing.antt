@@ -17,7 +17,7 @@ use Rattle.verdict.specs.declared.Verdict.the-variants.{TooLarge, Malformed}
 use Rattle.scalar.specs.Calls.{value, scalarOf, accepted, refusedWith, fitting, addAnswer}
 use Rattle.channel.specs.Layout.{side}
 use Rattle.effects.specs.Effects.{termPlace, partialsFit}
-use Rattle.effects.specs.Readable.{Dim}
+use Rattle.effects.specs.Inner.Readable.{Dim}
 
 -- ---- the places that are summed
 square : (d : ℕ) → d ≤ 16 → d * d ≤ 256

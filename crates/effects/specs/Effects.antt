@@ -1,4 +1,4 @@
--- The effects of a channel: each block summed over the outputs, in words of the same layout.
+-- The effects of a channel, its transposed POVM elements: the Choi block of each store summed over the outputs, in words of the same layout.
 use mathlib.Core.Bool.{Bool, cond}
 use mathlib.Core.List.{List, [], _∷_}
 use Prim.Native.Nat.{ℕ, zero, suc, _+_, _*_, _-_, _/_, _%_}
@@ -49,16 +49,22 @@ relink d (negsuc a) = pos 0
 abbrev pub effectHeader : List ℤ → ℕ → List ℤ
 effectHeader l d = word l 0 ∷ word l 1 ∷ word l 2 ∷ relink d (word l 3) ∷ []
 
--- the record of the block at `at`: next, the store's two words, then d² entries
-abbrev pub effectRecord : List ℤ → ℕ → ℕ → List ℤ
-effectRecord l d at = relink d (word l at) ∷ word l (at + 1) ∷ word l (at + 2) ∷ cells (d * d) (effectAt l at d)
+-- entry i of the effect of the block at `at` is written as `entry l at d i`
+module _ (entry : List ℤ → ℕ → ℕ → ℕ → Exact) where
+  -- the record of the block at `at`: next, the store's two words, then d² entries
+  abbrev pub effectRecord : List ℤ → ℕ → ℕ → List ℤ
+  effectRecord l d at = relink d (word l at) ∷ word l (at + 1) ∷ word l (at + 2) ∷ cells (d * d) (entry l at d)
 
--- the first n records, in the channel's own order
-abbrev pub withRecords : List ℤ → ℕ → ℕ → List ℤ → List ℤ
-withRecords l d n res = blocks (recordSize d) res headerSize n (λ (j : ℕ). effectRecord l d (recordAt (side d) j))
+  -- the first n records, in the channel's own order
+  abbrev pub withRecords : List ℤ → ℕ → ℕ → List ℤ → List ℤ
+  withRecords l d n res = blocks (recordSize d) res headerSize n (λ (j : ℕ). effectRecord l d (recordAt (side d) j))
 
-abbrev pub effectsWords : List ℤ → List ℤ → List ℤ
-effectsWords l res = withRecords l (dimAt l) (countAt l) (sets res 0 (effectHeader l (dimAt l)))
+  abbrev pub effectsWords : List ℤ → List ℤ → List ℤ
+  effectsWords l res = withRecords l (dimAt l) (countAt l) (sets res 0 (effectHeader l (dimAt l)))
+
+  -- a refusal leaves the result as it was
+  abbrev pub resultBy : Verdict → List ℤ → List ℤ → List ℤ
+  resultBy v l res = cond (accepted v) (effectsWords l res) res
 
 -- ---- the call's answer, and what it leaves in the result
 abbrev pub effectsVerdict : List ℤ → List ℤ → Verdict
@@ -67,9 +73,5 @@ effectsVerdict l res =
     (cond (leb (headerSize + countAt l * recordSize (dimAt l)) (length res)) (cond (sumsFit l (dimAt l) (countAt l)) Accepted TooLarge) ShortBuffer)
     (formVerdict l)
 
--- a refusal leaves the result as it was
-abbrev pub resultBy : Verdict → List ℤ → List ℤ → List ℤ
-resultBy v l res = cond (accepted v) (effectsWords l res) res
-
 abbrev pub resultOf : List ℤ → List ℤ → List ℤ
-resultOf l res = resultBy (effectsVerdict l res) l res
+resultOf l res = resultBy effectAt (effectsVerdict l res) l res

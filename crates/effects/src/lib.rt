@@ -22,7 +22,8 @@ ghost use Rattle.verdict.specs.declared.Verdict.the-variants.{TooLarge};
 ghost use Rattle.cells.specs.Cells.{fill};
 ghost use Rattle.channel.specs.Layout.{headerSize, blockSize, recordSize, word};
 ghost use Rattle.effects.specs.Effects.{termPlace, term, effectAt, partialsFit, recordFits, sumsFit, relink, effectHeader, effectRecord, withRecords, effectsVerdict, resultOf};
-ghost use Rattle.effects.specs.Readable.{Dim, Readable, Records, Linked};
+ghost use Rattle.effects.specs.Inner.Readable.{Dim, Readable, Records, Linked};
+ghost use Rattle.effects.specs.Inner.Strides.{strided, stridedAt, Strides};
 
 // The place in a block of its entry (o·d + r, o·d + c), for i = r·d + c.
 fn term_place(d: usize, i: usize, o: usize) -> usize
@@ -107,15 +108,32 @@ fn relinked(d: usize, z: i64) -> i64
     to as i64
 }
 
+// Which entry of the transposed effect is written as entry i: for i = r·d + c, entry r·rows + c·cols.
+fn strided(d: usize, rows: usize, cols: usize, i: usize) -> usize
+    requires { ⌜ Strides d rows cols × (i < d * d) ⌝ }
+    ensures { λ r. ⌜ r ≡ strided d rows cols i ⌝ }
+{
+    i / d * rows + i % d * cols
+}
+
 // Write the d² entries of the effect of the block at `at` from `out` on.
-fn write_entries(s: &[i64], at: usize, d: usize, result: &mut [i64], out: usize)
-    requires { ⌜ Readable (now s) at d × ((recordFits (now s) at d ≡ true) × (out + blockSize d ≤ length (now result))) ⌝ }
-    ensures { λ _. ⌜ now (result .exit) ≡ fill (now (result .entry)) out (d * d) (effectAt (now (s .entry)) at d) ⌝ }
+fn write_entries(
+    s: &[i64],
+    at: usize,
+    d: usize,
+    rows: usize,
+    cols: usize,
+    result: &mut [i64],
+    out: usize,
+)
+    requires { ⌜ Readable (now s) at d × (Strides d rows cols × ((recordFits (now s) at d ≡ true) × (out + blockSize d ≤ length (now result)))) ⌝ }
+    ensures { λ _. ⌜ now (result .exit) ≡ fill (now (result .entry)) out (d * d) (stridedAt rows cols (now (s .entry)) at d) ⌝ }
 {
     let n = d * d;
     let mut i = 0;
     while i < n {
-        let a = sum_entry(s, at, d, i);
+        let k = strided(d, rows, cols, i);
+        let a = sum_entry(s, at, d, k);
         write_cell(result, out + i * ENTRY, a.value);
         i += 1;
     }
@@ -132,27 +150,35 @@ fn put_three(result: &mut [i64], at: usize, a: i64, b: i64, c: i64)
 }
 
 // Write the effect's record of the block at `at` from `out` on.
-fn write_record(s: &[i64], at: usize, d: usize, result: &mut [i64], out: usize)
-    requires { ⌜ Readable (now s) at d × ((recordFits (now s) at d ≡ true) × (out + recordSize d ≤ length (now result))) ⌝ }
-    ensures { λ _. ⌜ now (result .exit) ≡ sets (now (result .entry)) out (effectRecord (now (s .entry)) d at) ⌝ }
+fn write_record(
+    s: &[i64],
+    at: usize,
+    d: usize,
+    rows: usize,
+    cols: usize,
+    result: &mut [i64],
+    out: usize,
+)
+    requires { ⌜ Readable (now s) at d × (Strides d rows cols × ((recordFits (now s) at d ≡ true) × (out + recordSize d ≤ length (now result)))) ⌝ }
+    ensures { λ _. ⌜ now (result .exit) ≡ sets (now (result .entry)) out (effectRecord (stridedAt rows cols) (now (s .entry)) d at) ⌝ }
 {
     let next = s[at];
     let low = s[at + 1];
     let high = s[at + 2];
     put_three(result, out, relinked(d, next), low, high);
-    write_entries(s, at, d, result, out + RECORD_HEAD);
+    write_entries(s, at, d, rows, cols, result, out + RECORD_HEAD);
 }
 
 // Write the effects' records of n blocks, in the channel's own order.
-fn write_records(s: &[i64], d: usize, n: usize, result: &mut [i64])
-    requires { ⌜ Records (now s) d n × ((sumsFit (now s) d n ≡ true) × (headerSize + n * recordSize d ≤ length (now result))) ⌝ }
-    ensures { λ _. ⌜ now (result .exit) ≡ withRecords (now (s .entry)) d n (now (result .entry)) ⌝ }
+fn write_records(s: &[i64], d: usize, n: usize, rows: usize, cols: usize, result: &mut [i64])
+    requires { ⌜ Records (now s) d n × (Strides d rows cols × ((sumsFit (now s) d n ≡ true) × (headerSize + n * recordSize d ≤ length (now result)))) ⌝ }
+    ensures { λ _. ⌜ now (result .exit) ≡ withRecords (stridedAt rows cols) (now (s .entry)) d n (now (result .entry)) ⌝ }
 {
     let from = record_size(d * d);
     let to = record_size(d);
     let mut j = 0;
     while j < n {
-        write_record(s, HEADER + j * from, d, result, HEADER + j * to);
+        write_record(s, HEADER + j * from, d, rows, cols, result, HEADER + j * to);
         j += 1;
     }
 }
@@ -192,6 +218,6 @@ pub fn classical_blocks(channel: &[i64], result: &mut [i64]) -> Verdict
         return Verdict::TooLarge;
     }
     write_header(channel, d, result);
-    write_records(channel, d, n, result);
+    write_records(channel, d, n, d, 1, result);
     Verdict::Accepted
 }

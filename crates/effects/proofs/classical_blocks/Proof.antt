@@ -19,16 +19,17 @@ use Rattle.channel.specs.WellFormed.{wellFormed}
 use Rattle.channel.specs.Inner.Shapes.{shapeAt}
 use Rattle.channel.proofs.Judging.{verdictBy, shape-test, shape-is, shape-no}
 use Rattle.channel.proofs.Chain.{header-long}
-use Rattle.effects.specs.Effects.{sumsFit, effectHeader, withRecords, effectsVerdict, resultBy, resultOf}
-use Rattle.effects.specs.Readable.{Dim, Linked, Records}
+use Rattle.effects.specs.Effects.{effectAt, sumsFit, effectHeader, withRecords, effectsVerdict, resultBy, resultOf}
+use Rattle.effects.specs.Inner.Readable.{Dim, Linked, Records}
 use Rattle.effects.proofs.Records.{shorter, dim-of, first-linked, records-of}
+use Rattle.effects.proofs.Strides.{own, own-records}
 use borrow.Author.Needs.{needs}
 use Rattle.effects.proofs.classical_blocks.Statement.{statement}
 use Rattle.effects.proofs.classical_blocks.Tie as tie
 
 -- a verdict, and the words that go with it
-answered : (l res : List ℤ) (o : Verdict) (ws : List ℤ) → effectsVerdict l res ≡ o → ws ≡ resultBy o l res → (o ≡ effectsVerdict l res) × (ws ≡ resultOf l res)
-answered l res o ws e f = (sym e, f ∙ ap (λ (o : Verdict). resultBy o l res) (sym e))
+answered : (l res : List ℤ) (o : Verdict) (ws : List ℤ) → effectsVerdict l res ≡ o → ws ≡ resultBy effectAt o l res → (o ≡ effectsVerdict l res) × (ws ≡ resultOf l res)
+answered l res o ws e f = (sym e, f ∙ ap (λ (o : Verdict). resultBy effectAt o l res) (sym e))
 
 abbrev by : Bool → Bool → Bool → Verdict
 by p q s = cond (accepted (verdictBy p)) (cond q (cond s Accepted TooLarge) ShortBuffer) (verdictBy p)
@@ -99,7 +100,7 @@ returns c =
     answered (words k) (s .result .now) (shape k .verdict) (s .result .now)
     (ap (λ (p : Bool). by p (leb (needed (words k)) (length (s .result .now))) (sumsFit (words k) (dimAt (words k)) (countAt (words k)))) (sym (tested k) ∙ no)
     ∙ sym (ap (λ (h : Shape). h .verdict) shape-is-bad))
-    (sym (ap (λ (h : Shape). resultBy (h .verdict) (words k) (s .result .now)) shape-is-bad))
+    (sym (ap (λ (h : Shape). resultBy effectAt (h .verdict) (words k) (s .result .now)) shape-is-bad))
 
 record-size-requires : tie.Need-record-size-requires
 record-size-requires c κs = let q = dim c .small in omega arith
@@ -147,8 +148,11 @@ write-records-requires c κs =
     let l : length (h .write-header .last .1 .1 .0) ≡ length (start (known e) .args .result .now) = ap length (h .write-header .ensures) ∙ simp length-set in (
       records e,
       (
-        sym (f .sums-fit .ensures) ∙ not-false _ (h .before .before .if3 .left),
-        subst (λ (n : ℕ). n ≤ length (h .write-header .last .1 .1 .0)) (size (t .before)) (subst (λ (m : ℕ). 4 + shape (known e) .count * t .before .record-size .result ≤ m) (sym l) (t .if2 .left)),
+        own (dim e),
+        (
+          sym (f .sums-fit .ensures) ∙ not-false _ (h .before .before .if3 .left),
+          subst (λ (n : ℕ). n ≤ length (h .write-header .last .1 .1 .0)) (size (t .before)) (subst (λ (m : ℕ). 4 + shape (known e) .count * t .before .record-size .result ≤ m) (sym l) (t .if2 .left)),
+        ),
       ),
     )
 
@@ -166,8 +170,8 @@ returns-4 c =
     let k = known e in
     let s = start k .args in
     answered (words k) (s .result .now) Accepted _ (λ i. by (right e i) (room t i) ((sym (sums f) ∙ not-false _ (g .if3 .left)) i))
-    (w .write-records .ensures ∙ ap (withRecords (words k) (shape k .dim) (shape k .count)) (h .write-header .ensures)
-    ∙ ap (λ (x : Shape). withRecords (words k) (x .dim) (x .count) (sets (s .result .now) 0 (effectHeader (words k) (x .dim)))) (is e))
+    (w .write-records .ensures ∙ own-records (words k) (shape k .dim) (shape k .count) _ ∙ ap (withRecords effectAt (words k) (shape k .dim) (shape k .count)) (h .write-header .ensures)
+    ∙ ap (λ (x : Shape). withRecords effectAt (words k) (x .dim) (x .count) (sets (s .result .now) 0 (effectHeader (words k) (x .dim)))) (is e))
 
 pub classical-blocks-spec : {M : Type 1} → statement M
 classical-blocks-spec =

@@ -8,7 +8,7 @@ use borrow.Author.Tests.{not-true, not-false}
 use Rattle.algebra.proofs.Tests.{all-step, all-no}
 use Rattle.channel.specs.Layout.{recordAt, side}
 use Rattle.effects.specs.Effects.{recordFits, sumsFit}
-use Rattle.effects.specs.Readable.{Readable}
+use Rattle.effects.specs.Inner.Readable.{Readable}
 use Rattle.effects.proofs.Summing.{dim-square}
 use Rattle.effects.proofs.sums_fit.Statement.{statement}
 use Rattle.effects.proofs.sums_fit.Tie as tie

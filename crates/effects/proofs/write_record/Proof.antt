@@ -8,9 +8,10 @@ use lib.Seq.{sets}
 use Rattle.algebra.proofs.Blocks.{append-block}
 use Rattle.cells.specs.Cells.{cells}
 use Rattle.cells.proofs.Cell.{fill-block}
-use Rattle.channel.specs.Layout.{word}
+use Rattle.channel.specs.Layout.{recordHead, word}
 use Rattle.algebra.proofs.Signed.{reads}
-use Rattle.effects.specs.Effects.{effectAt, relink}
+use Rattle.effects.specs.Effects.{relink}
+use Rattle.effects.specs.Inner.Strides.{stridedAt}
 use borrow.Author.Needs.{needs}
 use Rattle.effects.proofs.write_record.Statement.{statement}
 use Rattle.effects.proofs.write_record.Tie as tie
@@ -53,7 +54,7 @@ write-entries-requires c κs =
     let p = c .before .before in
     let s = p .before .before .before .before .before .before in
     let e : length (p .put-three .last .0) ≡ length (s .args .result .now) = ap length (p .put-three .ensures) ∙ simp length-set in
-    (s .pre .0, (s .pre .1 .0, omega arith))
+    (s .pre .0, (s .pre .1 .0, (s .pre .1 .1 .0, omega arith)))
 
 same-length : tie.Need-same-length
 same-length c = search needs
@@ -70,8 +71,9 @@ returns c =
     ∙ (λ i. sets (s .result .now) (s .out)
     ((reads (k .relinked .result) (k .relinked .ok) ∙ k .relinked .ensures ∙ ap (relink (s .d)) (reads (word l (s .at)) (h .before .before .next .given))) i
     ∷ reads (word l (s .at + 1)) (h .before .low .given) i ∷ reads (word l (s .at + 2)) (h .high .given) i ∷ [])) in
-    append-block (s .result .now) (relink (s .d) (word l (s .at)) ∷ word l (s .at + 1) ∷ word l (s .at + 2) ∷ []) (cells (s .d * s .d) (effectAt l (s .at) (s .d))) (s .out) 3 refl three
-    (w .write-entries .ensures ∙ fill-block (effectAt l (s .at) (s .d)) _ (s .out + 3) (s .d * s .d))
+    let entries = stridedAt (s .rows) (s .cols) l (s .at) (s .d) in
+    append-block (s .result .now) (relink (s .d) (word l (s .at)) ∷ word l (s .at + 1) ∷ word l (s .at + 2) ∷ []) (cells (s .d * s .d) entries) (s .out) recordHead refl three
+    (w .write-entries .ensures ∙ fill-block entries _ (s .out + recordHead) (s .d * s .d))
 
 pub write-record-spec : {M : Type 1} → statement M
 write-record-spec =
