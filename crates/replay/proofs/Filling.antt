@@ -5,8 +5,8 @@ use Prim.Native.Nat.{ℕ, zero, suc, _+_, _-_, _%_, _≤_, _<_, min}
 use native.Mathlib.Omega.{arith}
 use lib.ListN.{length, set, length-set}
 use lib.IntN.{ℤ}
-use Rattle.replay.specs.declared.text.Word.{Word}
-use Rattle.replay.specs.Text.{wordAt, wordNo}
+use Rattle.replay.specs.declared.numeral.Word.{Word}
+use Rattle.replay.specs.Numerals.{wordAt, wordNo}
 use Rattle.replay.specs.Words.{filled, placed, numbers, numbersAt}
 use Rattle.replay.proofs.Reading.{following}
 

@@ -1,8 +1,9 @@
 -- Laws of a text's numbers: a byte more, where a number ends; and of a list that is folded place by place.
 use mathlib.Core.Path.{_≡_, refl, sym, ap, _∙_, subst}
-use mathlib.Core.Bool.{Bool, true, false, cond, _||_}
+use mathlib.Core.Bool.{Bool, true, false, cond}
 use mathlib.Core.List.{List, [], _∷_, foldl}
-use Prim.Native.Nat.{ℕ, suc, _+_, _*_, _-_, _≤_, _<_}
+use Prim.Native.Nat.{ℕ, suc, _+_, _≤_, _<_}
+use Prim.Native.Char.{code}
 use native.Mathlib.Numerals.{add-one}
 use lib.Dec.{eqb, ltb}
 use lib.ListN.{length, getD, drop, drop-of-length-le}
@@ -10,15 +11,17 @@ use lib.Seq.{drop-cons}
 use mir.Syntax.{w64}
 use mir.Val.{SFits, toZ, ofZ}
 use mir.Facts.{toZ-ofZ}
-use Rattle.replay.specs.declared.text.Digits.{Digits}
-use Rattle.replay.specs.declared.text.Word.{Word}
-use Rattle.replay.specs.Text.{digits, withByte, wordOf, wordFrom, wordAt, wordNo}
+use Rattle.text.specs.Decimal.{isBlank, isDigit, digit}
+use Rattle.text.specs.Number.{maxTenth}
+use Rattle.replay.specs.declared.numeral.Digits.{Digits}
+use Rattle.replay.specs.declared.numeral.Word.{Word}
+use Rattle.replay.specs.Numerals.{digits, withByte, wordOf, wordFrom, wordAt, wordNo}
 use Rattle.replay.proofs.Signs.{signed-fits}
 
-pub byte-is : (d : Digits) (b : ℕ) {minus low high full : Bool} → eqb b 45 ≡ minus → ltb b 48 ≡ low → ltb 57 b ≡ high → ltb 1844674407370955160 (d .size) ≡ full
-    → withByte d b ≡ cond minus (digits (d .size) true) (cond low d (cond high d (cond full d (digits (d .size * 10 + (b - 48)) (d .negative)))))
+pub byte-is : (d : Digits) (b : ℕ) {minus ten full : Bool} → eqb b (code "-") ≡ minus → isDigit b ≡ ten → ltb maxTenth (d .size) ≡ full
+    → withByte d b ≡ cond minus (digits (d .size) true) (cond ten (cond full d (digits (digit (d .size) b) (d .negative))) d)
 unfolding withByte
-byte-is d b m l h f = λ i. cond (m i) (digits (d .size) true) (cond (l i) d (cond (h i) d (cond (f i) d (digits (d .size * 10 + (b - 48)) (d .negative)))))
+byte-is d b m t f = λ i. cond (m i) (digits (d .size) true) (cond (t i) (cond (f i) d (digits (digit (d .size) b) (d .negative))) d)
 
 -- the rest of a list, from a place before its end
 pub next-drop : {A : Type 0} (l : List A) (i : ℕ) (z : A) → i < length l → drop i l ≡ getD l i z ∷ drop (i + 1) l
@@ -35,7 +38,7 @@ module _ {A B : Type 0} (f : B → A → B) (l : List A) where
 from-fits : (bs : List ℕ) (d : Digits) (at : ℕ) → SFits w64 (wordFrom d at bs .value)
 unfolding wordFrom
 from-fits [] d at = signed-fits d
-from-fits (b ∷ bs) d at = by (eqb b 32 || eqb b 10) (from-fits bs (withByte d b) (at + 1))
+from-fits (b ∷ bs) d at = by (isBlank b) (from-fits bs (withByte d b) (at + 1))
   where
     by : (blank : Bool) → SFits w64 (wordFrom (withByte d b) (at + 1) bs .value) → SFits w64 (cond blank (wordOf d (at + 1)) (wordFrom (withByte d b) (at + 1) bs) .value)
     by true h = signed-fits d
@@ -51,11 +54,11 @@ module _ (t : List ℕ) where
   from-end d i h = ap (wordFrom d i) (drop-of-length-le t h)
 
   module _ (d : Digits) (i : ℕ) (h : i < length t) where
-    pub from-blank : (eqb (getD t i 0) 32 || eqb (getD t i 0) 10) ≡ true → wordFrom d i (drop i t) ≡ wordOf d (i + 1)
+    pub from-blank : isBlank (getD t i 0) ≡ true → wordFrom d i (drop i t) ≡ wordOf d (i + 1)
     unfolding wordFrom
     from-blank e = ap (wordFrom d i) (next-drop t i 0 h) ∙ ap (λ (b : Bool). cond b (wordOf d (i + 1)) (wordFrom (withByte d (getD t i 0)) (i + 1) (drop (i + 1) t))) e
 
-    pub from-more : (eqb (getD t i 0) 32 || eqb (getD t i 0) 10) ≡ false → wordFrom d i (drop i t) ≡ wordFrom (withByte d (getD t i 0)) (i + 1) (drop (i + 1) t)
+    pub from-more : isBlank (getD t i 0) ≡ false → wordFrom d i (drop i t) ≡ wordFrom (withByte d (getD t i 0)) (i + 1) (drop (i + 1) t)
     unfolding wordFrom
     from-more e = ap (wordFrom d i) (next-drop t i 0 h) ∙ ap (λ (b : Bool). cond b (wordOf d (i + 1)) (wordFrom (withByte d (getD t i 0)) (i + 1) (drop (i + 1) t))) e
 

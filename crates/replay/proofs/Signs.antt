@@ -15,8 +15,8 @@ use Rattle.algebra.proofs.Parts.{abs-is, abs-neg, abs-add, add-parts, le-of, sf
 use Rattle.algebra.proofs.Signed.{back, neg-fits, neg-back}
 use Rattle.algebra.proofs.Solver.{con, var, _⊞_}
 use Rattle.algebra.proofs.Machine.{op-fits, bits-is}
-use Rattle.replay.specs.declared.text.Digits.{Digits}
-use Rattle.replay.specs.Text.{signed}
+use Rattle.replay.specs.declared.numeral.Digits.{Digits}
+use Rattle.replay.specs.Numerals.{signed}
 use Rattle.replay.specs.Checksum.{shifted}
 
 -- ---- a size as a signed word

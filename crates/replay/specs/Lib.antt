@@ -1,4 +1,4 @@
-pub mod Text
+pub mod Numerals
 pub mod Record
 pub mod Checksum
 pub mod Answers

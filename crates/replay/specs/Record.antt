@@ -9,7 +9,7 @@ use Rattle.scalar.specs.declared.Scalar.{Scalar}
 use Rattle.scalar.specs.Calls.{value}
 use Rattle.replay.specs.declared.record.Record.{Record}
 use Rattle.replay.specs.declared.scalars.ScalarRead.{ScalarRead}
-use Rattle.replay.specs.Text.{wordAt, wordNo}
+use Rattle.replay.specs.Numerals.{wordAt, wordNo}
 
 -- n0 to n3 and e
 abbrev pub scalarAt : List ℕ → ℕ → ScalarRead

@@ -5,7 +5,7 @@ use lib.ListN.{length, set}
 use lib.IntN.{ℤ, pos}
 use Rattle.algebra.specs.Words.{fillWords}
 use Rattle.replay.specs.declared.words.Part.{Part}
-use Rattle.replay.specs.Text.{wordAt, wordNo}
+use Rattle.replay.specs.Numerals.{wordAt, wordNo}
 
 -- each word its place mod 997, plus 1
 abbrev pub marked : List ℤ → List ℤ

@@ -1,8 +1,8 @@
 // Replays of recorded answers: a text of numbers is read, the calls are made, their answers are held against the record, and agreement is counted.
 pub mod answers;
+pub mod numeral;
 pub mod record;
 pub mod scalars;
 pub mod sum;
 pub mod tally;
-pub mod text;
 pub mod words;

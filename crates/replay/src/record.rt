@@ -1,6 +1,6 @@
 // The record of a case's answers, read number by number and held against what the calls answered.
+use crate::numeral::read;
 use crate::scalars::read_scalar;
-use crate::text::read;
 use scalar::Scalar;
 ghost use mathlib.Core.Path.{_≡_};
 ghost use mathlib.Core.Bool.{true};

@@ -1,6 +1,6 @@
 // Scalars of a text.
-use crate::text::low;
-use crate::text::read;
+use crate::numeral::low;
+use crate::numeral::read;
 use scalar::Scalar;
 ghost use mathlib.Core.Path.{_≡_};
 ghost use Rattle.replay.specs.Record.{scalarAt};

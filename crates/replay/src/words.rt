@@ -1,6 +1,6 @@
 // Words and bytes read into lent slices, and the contents that lent words have before a call.
-use crate::text::low;
-use crate::text::read;
+use crate::numeral::low;
+use crate::numeral::read;
 use matrix::words::clear;
 ghost use mathlib.Core.Path.{_≡_};
 ghost use Prim.Native.Nat.{min};

@@ -1,8 +1,8 @@
 // Replays all recorded answers. The text: how many sections there are; a section is its kind, how many cases it has, and the cases; a case is its
 // source (0 the Rust, 1 document 01), what the calls are given, and what they answered.
+use replay::numeral::read;
 use replay::record::Record;
 use replay::tally::Tally;
-use replay::text::read;
 use replay_cases::channels::words_case;
 use replay_cases::circuits::circuit_case;
 use replay_cases::circuits::compare_case;

@@ -1,7 +1,7 @@
 // Cases of the program that lists a channel.
 use listing::list;
+use replay::numeral::read;
 use replay::record::Record;
-use replay::text::read;
 use replay::words::fitting;
 ghost use Prim.Native.Nat.{_≤_};
 ghost use lib.ListN.{length};

@@ -2,10 +2,10 @@
 use matrix::global_phase::equivalent_up_to_global_phase;
 use replay::answers::check_answer;
 use replay::answers::check_phase;
+use replay::numeral::low;
+use replay::numeral::read;
 use replay::record::Record;
 use replay::scalars::read_scalar;
-use replay::text::low;
-use replay::text::read;
 use replay::words::read_words;
 use scalar::Answer;
 use scalar::Scalar;

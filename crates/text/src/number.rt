@@ -11,6 +11,9 @@ pub const MAX_DIGITS: usize = 10;
 
 pub const MAX_NUMBER: u64 = 4294967295;
 
+// Ten times as much, and a digit, fit in 64 bits.
+pub const MAX_TENTH: u64 = 1844674407370955160;
+
 // The number in a piece of text; `ok` is false, and the value 0, where there is none.
 pub struct Number {
     pub ok: bool,

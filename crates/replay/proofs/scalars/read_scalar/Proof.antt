@@ -2,7 +2,7 @@
 use mathlib.Core.Path.{ap, _∙_}
 use mathlib.Core.List.{[], _∷_}
 use Prim.Native.Nat.{_%_}
-use Rattle.replay.specs.declared.text.Word.{Word}
+use Rattle.replay.specs.declared.numeral.Word.{Word}
 use Rattle.replay.proofs.Reading.{a-word, following}
 use borrow.Author.Needs.{needs}
 use Rattle.replay.proofs.scalars.read_scalar.Statement.{statement}

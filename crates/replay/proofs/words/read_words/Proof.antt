@@ -5,7 +5,7 @@ use native.Mathlib.Omega.{arith}
 use lib.ListN.{length, set}
 use lib.IntN.{ℤ}
 use borrow.Author.Needs.{needs}
-use Rattle.replay.specs.declared.text.Word.{Word}
+use Rattle.replay.specs.declared.numeral.Word.{Word}
 use Rattle.replay.specs.Words.{Filled, placed}
 use Rattle.replay.proofs.Reading.{a-word, following}
 use Rattle.replay.proofs.Filling.{placed-end, placed-more}

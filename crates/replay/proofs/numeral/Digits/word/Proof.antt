@@ -3,8 +3,8 @@ use mathlib.Core.Path.{_∙_}
 use mir.Syntax.{w64}
 use mir.Facts.{toZ-ofZ}
 use borrow.Author.Needs.{needs}
-use Rattle.replay.proofs.text.Digits.word.Statement.{statement}
-use Rattle.replay.proofs.text.Digits.word.Tie as tie
+use Rattle.replay.proofs.numeral.Digits.word.Statement.{statement}
+use Rattle.replay.proofs.numeral.Digits.word.Tie as tie
 
 signed-requires : tie.Need-signed-requires
 signed-requires c κs = search needs

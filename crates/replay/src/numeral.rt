@@ -1,7 +1,11 @@
 // Decimal numbers in a text, each ended by a space, a newline or the text's end.
+use text::bytes::is_blank;
+use text::bytes::is_digit;
+use text::number::MAX_TENTH;
+use text::number::with_digit;
 ghost use mathlib.Core.Path.{_≡_};
 ghost use Prim.Native.Nat.{_%_};
-ghost use Rattle.replay.specs.Text.{withByte, signed, wordOf, wordAt};
+ghost use Rattle.replay.specs.Numerals.{withByte, signed, wordOf, wordAt};
 
 // A number, its size with no sign, and where the next one begins.
 pub struct Word {
@@ -29,17 +33,14 @@ impl Digits {
                 negative: true,
             };
         }
-        if b < b'0' {
+        if !is_digit(b) {
             return self;
         }
-        if b'9' < b {
-            return self;
-        }
-        if 1844674407370955160 < size {
+        if MAX_TENTH < size {
             return self;
         }
         Digits {
-            size: size * 10 + (b - b'0') as u64,
+            size: with_digit(size, b),
             negative,
         }
     }
@@ -86,7 +87,7 @@ pub fn read(text: &[u8], at: usize) -> Word
     while i < text.len() {
         let b = text[i];
         i += 1;
-        if (b == b' ') | (b == b'\n') {
+        if is_blank(b) {
             return digits.word(i);
         }
         digits = digits.with(b);

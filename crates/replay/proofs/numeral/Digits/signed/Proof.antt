@@ -8,8 +8,8 @@ use mir.Syntax.{w64}
 use mir.Facts.{toZ-pos}
 use Rattle.replay.proofs.Signs.{negation-fits, negation-is, signed-is}
 use borrow.Author.Needs.{needs}
-use Rattle.replay.proofs.text.Digits.signed.Statement.{statement}
-use Rattle.replay.proofs.text.Digits.signed.Tie as tie
+use Rattle.replay.proofs.numeral.Digits.signed.Statement.{statement}
+use Rattle.replay.proofs.numeral.Digits.signed.Tie as tie
 
 returns : tie.Need-returns
 returns c = let d = c .before .before .args .self in sym (signed-is d true true (lt-ltb 9223372036854775807 (d .size) (c .before .if1 .taken)) (c .if2 .taken))
