@@ -24,7 +24,7 @@ use Rattle.cells.proofs.Cell.{cell-same, exponent-same, cell-filled, exponent-f
 use Rattle.matrix.specs.Inner.Factors.{Factor}
 use Rattle.matrix.proofs.Terms.{zero-by, zero-left, zero-right}
 use Rattle.matrix.proofs.Rows.{zero-cells}
-use Rattle.collect.specs.Overlap.{sumNumerator, overlap, overlapped, blockOverlap, blockOverlapped, Readable, Sum, Row, Column, Mirrored, NewRow, AddedRow, NewBlock, Block}
+use Rattle.collect.specs.Inner.Overlap.{sumNumerator, overlap, overlapped, blockOverlap, blockOverlapped, Readable, Sum, Row, Column, Mirrored, NewRow, AddedRow, NewBlock, Block}
 use Rattle.collect.proofs.Words.{cell-there, fill-there}
 use Rattle.collect.proofs.Sizes.{conj-coords, factor-fits, Fits, product-fits, sum-fits}
 

@@ -25,7 +25,7 @@ use Rattle.kraus.proofs.Stores.{other}
 use Rattle.store.specs.Store.{bits}
 use Rattle.store.proofs.Bytes.{bits-back}
 use Rattle.channel.specs.Layout.{side, channelWords}
-use Rattle.collect.specs.Bank.{storeOf, entry, survives, has, isFirst, starts, overlaps, storesOf, blockOf, bankIn}
+use Rattle.collect.specs.Inner.Bank.{storeOf, entry, survives, has, isFirst, starts, overlaps, storesOf, blockOf, bankIn}
 use Rattle.collect.specs.Delivered.{blockNo, branchesWords}
 use Rattle.collect.proofs.Whole.{channel-same}
 

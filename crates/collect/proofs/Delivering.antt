@@ -13,9 +13,9 @@ use Rattle.kraus.specs.Blocks.{survivors}
 use Rattle.store.specs.Inner.Held.{StoreAt}
 use Rattle.store.specs.Store.{maxWord, storeFrom}
 use Rattle.channel.specs.Layout.{Block, headerSize, recordSize, side, word}
-use Rattle.collect.specs.Bank.{storesOf, blockOf, records, bankIn}
-use Rattle.collect.specs.Links.{linked, headed, Records}
-use Rattle.collect.specs.Delivered.{branchesWords, overwritten, Deliverable}
+use Rattle.collect.specs.Inner.Bank.{storesOf, blockOf, records, bankIn, Deliverable}
+use Rattle.collect.specs.Inner.Links.{linked, headed, Records}
+use Rattle.collect.specs.Delivered.{branchesWords, overwritten}
 use Rattle.collect.proofs.Linking.{Linked, linked-records}
 use Rattle.collect.proofs.Whole.{delivered, linkable}
 use Rattle.collect.proofs.Branching.{stores-each, stores-few, channel-is}

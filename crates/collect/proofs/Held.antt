@@ -31,8 +31,7 @@ use Rattle.branches.specs.Inner.Bank.{bankWords, Holds}
 use Rattle.branches.proofs.Banks.{read-factor, bank-room, bank-read, bank-low, bank-high, store-at}
 use Rattle.store.specs.Store.{bits, storeFrom}
 use Rattle.channel.specs.Layout.{headerSize, recordSize, side}
-use Rattle.collect.specs.Bank.{place, entry, storeOf, overlaps, bankIn, Bank}
-use Rattle.collect.specs.Delivered.{Deliverable}
+use Rattle.collect.specs.Inner.Bank.{place, entry, storeOf, overlaps, bankIn, Bank, Deliverable}
 use Rattle.store.proofs.Bytes.{bits-word}
 use Rattle.collect.proofs.Branching.{branchIn, block-is, store-count}
 

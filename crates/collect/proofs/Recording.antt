@@ -19,7 +19,7 @@ use Rattle.cells.proofs.Cell.{fill-block, length-cells}
 use Rattle.store.specs.Inner.Held.{StoreAt}
 use Rattle.store.specs.Store.{maxWord, storeFrom}
 use Rattle.channel.specs.Layout.{recordHead, headerSize, recordSize, side, word, recordWords, Block}
-use Rattle.collect.specs.Bank.{storeOf, starts, storesOf, overlaps, recordOf, records, Bank, Begun}
+use Rattle.collect.specs.Inner.Bank.{storeOf, starts, storesOf, overlaps, recordOf, records, Bank, Begun}
 
 -- ---- one record
 pub length-record : (w next : ℕ) (b : Block) → length (recordWords w next b) ≡ recordSize w

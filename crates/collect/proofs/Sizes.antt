@@ -15,7 +15,7 @@ use Rattle.exact.specs.Exact.{maxExponent, narrowExponent, Exact, Number, numbe
 use Rattle.exact.specs.Inner.Sizes.{Within, Coords, Room, roomNumerator, roomExponent}
 use Rattle.exact.proofs.Exact.{exacts, exactHalving}
 use Rattle.exact.proofs.Align.{widen, power-within, raised, scaled-none, aligned, fused, product-within, small}
-use Rattle.collect.specs.Overlap.{sumNumerator}
+use Rattle.collect.specs.Inner.Overlap.{sumNumerator}
 
 -- ---- conjugates
 pub conj-coords : (m k : ℕ) (x : Exact) → Coords m k x → Coords m k (conj x)

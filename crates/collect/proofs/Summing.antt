@@ -19,8 +19,8 @@ use Rattle.exact.proofs.Exact.{add-lowest, mul-lowest, zero-plus, conj-𝟘}
 use Rattle.cells.specs.Cells.{cellSize, cellAt, cellWords, exponentAt, fill}
 use Rattle.cells.proofs.Cell.{cell-filled, exponent-filled}
 use Rattle.branches.specs.Inner.Bank.{branchSize}
-use Rattle.collect.specs.Overlap.{blockOverlap, blockOverlapped, Sum, NewBlock, Block}
-use Rattle.collect.specs.Bank.{place, storeOf, entry, survives, has, isFirst, starts, overlaps, Branch, Found, Bank}
+use Rattle.collect.specs.Inner.Overlap.{blockOverlap, blockOverlapped, Sum, NewBlock, Block}
+use Rattle.collect.specs.Inner.Bank.{place, storeOf, entry, survives, has, isFirst, starts, overlaps, Branch, Found, Bank}
 use Rattle.collect.proofs.Adding.{sum-mirror}
 
 pub bank-branch : {l : List ℤ} {at d n : ℕ} → Bank l at d n → (j : ℕ) → j < n → Branch l at d j

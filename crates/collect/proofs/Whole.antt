@@ -18,7 +18,7 @@ use Rattle.cells.proofs.Cell.{cells-same}
 use Rattle.store.specs.Store.{maxWord, storeFrom, before}
 use Rattle.channel.specs.Layout.{Block, headerSize, recordSize, recordAt, word, side, link, next, first, header, recordWords, channelWords}
 use Rattle.channel.proofs.Words.{square-small}
-use Rattle.collect.specs.Links.{blockIn, linked, headed, Records}
+use Rattle.collect.specs.Inner.Links.{blockIn, linked, headed, Records}
 use Rattle.collect.specs.Delivered.{overwritten}
 use Rattle.collect.proofs.Words.{sets-there}
 use Rattle.collect.proofs.Recording.{length-record}

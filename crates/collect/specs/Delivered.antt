@@ -1,13 +1,12 @@
 -- The words that a bank's branches are delivered as: the channel of its branches, at the start of the result.
 use mathlib.Core.List.{List, [], _++_}
-use Prim.Native.Nat.{ℕ, _+_, _*_, _/_, _%_, _^_, _<_, _≤_}
+use Prim.Native.Nat.{ℕ, _/_, _%_}
 use lib.ListN.{length, getD, drop}
 use lib.IntN.{ℤ}
 use Rattle.algebra.specs.Words.{fromBits}
 use Rattle.kraus.specs.Branch.{Branch}
 use Rattle.kraus.specs.Blocks.{stores, block}
-use Rattle.channel.specs.Layout.{Block, headerSize, recordSize, side, channelWords}
-use Rattle.collect.specs.Bank.{storeOf, storesOf, Bank}
+use Rattle.channel.specs.Layout.{Block, side, channelWords}
 
 -- block j of a list of surviving branches, for matrices of d rows and columns
 abbrev pub blockNo : ℕ → List Branch → ℕ → Block
@@ -22,9 +21,3 @@ branchesWords d m bs = channelWords d m (length (stores bs)) (blockNo d bs)
 -- a result buffer with these words at its start
 abbrev pub overwritten : List ℤ → List ℤ → List ℤ
 overwritten ws l = ws ++ drop (length ws) l
-
--- a bank of n branches at `at` of `work`, with m bits in a store, and room for its records in `result`
-pub record Deliverable (result work : List ℤ) (at d m n : ℕ) : Type 0 where
-  pub bank : Bank work at d n
-  pub bits : (j : ℕ) → j < n → storeOf work at d j < 2 ^ m
-  pub room : headerSize + length (storesOf work at d n) * recordSize (side d) ≤ length result

@@ -1,4 +1,2 @@
-pub mod Overlap
-pub mod Bank
-pub mod Links
+pub mod Inner
 pub mod Delivered

@@ -4,7 +4,7 @@ use matrix::words::is_zero;
 use store::store_from;
 ghost use mathlib.Core.Path.{_≡_};
 ghost use Prim.Native.Nat.{ℕ, _<_, _≤_};
-ghost use Rattle.collect.specs.Bank.{storeOf, survives, has, isFirst, Branch, Branches, Found};
+ghost use Rattle.collect.specs.Inner.Bank.{storeOf, survives, has, isFirst, Branch, Branches, Found};
 
 // The store of branch j of the bank at `at`.
 pub fn branch_store(work: &[i64], at: usize, d: usize, j: usize) -> u64

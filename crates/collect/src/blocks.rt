@@ -9,7 +9,7 @@ ghost use mathlib.Core.Bool.{true};
 ghost use Prim.Native.Nat.{_+_, _*_, _/_, _%_, _<_, _≤_};
 ghost use lib.ListN.{length};
 ghost use Rattle.cells.specs.Cells.{cellSize, fill};
-ghost use Rattle.collect.specs.Bank.{storeOf, starts, overlaps, Bank};
+ghost use Rattle.collect.specs.Inner.Bank.{storeOf, starts, overlaps, Bank};
 
 // Write the block of the store of branch b, the first to survive with it, of a bank of `count` branches, to `out` on.
 pub fn write_block(

@@ -10,8 +10,8 @@ use links::write_header;
 use records::collect;
 ghost use mathlib.Core.Path.{_≡_};
 ghost use Rattle.kraus.specs.Blocks.{survivors};
-ghost use Rattle.collect.specs.Bank.{bankIn};
-ghost use Rattle.collect.specs.Delivered.{branchesWords, overwritten, Deliverable};
+ghost use Rattle.collect.specs.Inner.Bank.{bankIn, Deliverable};
+ghost use Rattle.collect.specs.Delivered.{branchesWords, overwritten};
 
 // Write the channel of the bank of `count` branches at `at` of `work`, with `bits` bits in a store, to the start of `result`.
 pub fn deliver(result: &mut [i64], work: &[i64], at: usize, d: usize, bits: u32, count: usize)

@@ -19,8 +19,8 @@ ghost use Rattle.scalar.specs.Calls.{value, scalarOf};
 ghost use Rattle.cells.specs.Cells.{cellSize, cellAt, cellWords, fill};
 ghost use Rattle.cells.specs.Inner.Zero.{zeroAt};
 ghost use Rattle.matrix.specs.Inner.Factors.{Factor};
-ghost use Rattle.collect.specs.Overlap.{overlap, overlapped, blockOverlap, blockOverlapped, Readable, Sum, Entries, Row, Column, Mirrored, NewRow, AddedRow, NewBlock, Block};
-ghost use Rattle.collect.specs.Bank.{Found};
+ghost use Rattle.collect.specs.Inner.Overlap.{overlap, overlapped, blockOverlap, blockOverlapped, Readable, Sum, Entries, Row, Column, Mirrored, NewRow, AddedRow, NewBlock, Block};
+ghost use Rattle.collect.specs.Inner.Bank.{Found};
 
 // The conjugate of the scalar at `at`.
 fn read_conj(s: &[i64], at: usize) -> Scalar

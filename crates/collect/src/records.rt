@@ -13,7 +13,7 @@ ghost use lib.ListN.{length};
 ghost use lib.Seq.{sets};
 ghost use Rattle.algebra.specs.Words.{blocks};
 ghost use Rattle.channel.specs.Layout.{headerSize, recordSize, recordAt, side};
-ghost use Rattle.collect.specs.Bank.{storeOf, starts, storesOf, recordOf, records, Bank, Begun};
+ghost use Rattle.collect.specs.Inner.Bank.{storeOf, starts, storesOf, recordOf, records, Bank, Begun};
 
 // Write the record of the store of branch b, the first to survive with it, of a bank of `count` branches, to `to` on, as the last of a chain.
 fn write_record(

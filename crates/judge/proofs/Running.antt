@@ -23,8 +23,8 @@ use Rattle.circuit.specs.declared.limits.Limits.{Limits}
 use Rattle.circuit.specs.Sizes.{workWords}
 use Rattle.circuit.specs.Inner.Small.{maxSplits, maxBranches}
 use Rattle.circuit.proofs.Products.{square-is}
-use Rattle.collect.specs.Bank.{bankIn}
-use Rattle.collect.specs.Delivered.{blockNo, branchesWords, overwritten, Deliverable}
+use Rattle.collect.specs.Inner.Bank.{bankIn, Deliverable}
+use Rattle.collect.specs.Delivered.{blockNo, branchesWords, overwritten}
 use Rattle.collect.proofs.Held.{Held, circuit-held, bank-is, deliverable}
 use Rattle.judge.specs.Delivered.{circuitWords}
 use Rattle.judge.specs.Call.{accepts, resultAfter, workAfter}

@@ -4,7 +4,7 @@ use mathlib.Core.Bool.{false}
 use Prim.Native.Nat.{ℕ, _-_, _<_, _≤_}
 use native.Mathlib.Nat.{le-refl}
 use native.Mathlib.Omega.{arith}
-use Rattle.collect.specs.Bank.{has}
+use Rattle.collect.specs.Inner.Bank.{has}
 use Rattle.collect.proofs.Finding.{passed-more}
 use Rattle.collect.proofs.bank.find_branch.Statement.{statement}
 use Rattle.collect.proofs.bank.find_branch.Tie as tie

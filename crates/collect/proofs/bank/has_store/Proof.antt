@@ -2,7 +2,7 @@
 use mathlib.Core.Path.{sym, ap, _∙_}
 use mathlib.Core.Bool.{Bool, _&&_}
 use borrow.Author.Tests.{eq-eqb, ne-eqb}
-use Rattle.collect.specs.Bank.{storeOf, survives}
+use Rattle.collect.specs.Inner.Bank.{storeOf, survives}
 use borrow.Author.Needs.{needs}
 use Rattle.collect.proofs.bank.has_store.Statement.{statement}
 use Rattle.collect.proofs.bank.has_store.Tie as tie

@@ -9,7 +9,7 @@ use lib.Dec.{eqb}
 use borrow.Author.Tests.{eq-eqb, ne-eqb}
 use Rattle.algebra.specs.Lists.{allBelow}
 use Rattle.algebra.proofs.Tests.{all-by, all-no}
-use Rattle.collect.specs.Bank.{storeOf, has, Found}
+use Rattle.collect.specs.Inner.Bank.{storeOf, has, Found}
 use Rattle.collect.proofs.bank.is_first.Statement.{statement}
 use Rattle.collect.proofs.bank.is_first.Tie as tie
 

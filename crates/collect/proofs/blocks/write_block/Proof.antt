@@ -6,7 +6,7 @@ use native.Mathlib.Omega.{arith}
 use lib.ListN.{length}
 use Rattle.channel.proofs.Words.{square-small}
 use Rattle.branches.specs.Inner.Bank.{branchSize}
-use Rattle.collect.specs.Bank.{place, storeOf, has, Found}
+use Rattle.collect.specs.Inner.Bank.{place, storeOf, has, Found}
 use Rattle.collect.proofs.Summing.{bank-branch, Summed, First, first-summed, first-room, summed-more, summed-past, all-summed, summed-long, writable, addable}
 use Rattle.collect.proofs.blocks.write_block.Statement.{statement}
 use Rattle.collect.proofs.blocks.write_block.Tie as tie

@@ -3,7 +3,7 @@ use Prim.Native.Nat.{_-_, _≤_}
 use native.Mathlib.Nat.{le-refl, mul-le-mul}
 use native.Mathlib.Omega.{arith}
 use Rattle.algebra.proofs.Blocks.{done, long}
-use Rattle.collect.specs.Overlap.{blockOverlapped}
+use Rattle.collect.specs.Inner.Overlap.{blockOverlapped}
 use Rattle.collect.proofs.Adding.{Rows, no-rows, added-row-asks, added-row-more}
 use Rattle.collect.proofs.overlaps.add_overlaps.Statement.{statement}
 use Rattle.collect.proofs.overlaps.add_overlaps.Tie as tie

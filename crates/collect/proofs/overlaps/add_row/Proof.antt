@@ -10,7 +10,7 @@ use Rattle.exact.specs.Inner.Sizes.{Coords}
 use Rattle.scalar.specs.Calls.{value}
 use Rattle.cells.specs.Cells.{cellSize, cellWords, cellAt}
 use Rattle.cells.proofs.Cell.{cell-same}
-use Rattle.collect.specs.Overlap.{overlapped, Sum}
+use Rattle.collect.specs.Inner.Overlap.{overlapped, Sum}
 use Rattle.collect.proofs.Adding.{sum-same}
 use Rattle.collect.proofs.overlaps.add_row.Statement.{statement}
 use Rattle.collect.proofs.overlaps.add_row.Tie as tie

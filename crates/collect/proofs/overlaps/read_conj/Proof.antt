@@ -10,7 +10,7 @@ use Rattle.exact.specs.Exact.{conj}
 use Rattle.exact.specs.Inner.Sizes.{Within}
 use Rattle.scalar.specs.declared.Scalar.{Scalar}
 use Rattle.scalar.specs.Calls.{value, scalarOf}
-use Rattle.collect.specs.Overlap.{sumNumerator}
+use Rattle.collect.specs.Inner.Overlap.{sumNumerator}
 use borrow.Author.Needs.{needs}
 use Rattle.collect.proofs.overlaps.read_conj.Statement.{statement}
 use Rattle.collect.proofs.overlaps.read_conj.Tie as tie

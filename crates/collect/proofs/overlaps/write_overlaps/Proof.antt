@@ -6,7 +6,7 @@ use lib.ListN.{length}
 use borrow.Author.Tests.{not-false}
 use Rattle.algebra.proofs.Blocks.{done, long}
 use Rattle.cells.specs.Cells.{cellSize}
-use Rattle.collect.specs.Overlap.{blockOverlap}
+use Rattle.collect.specs.Inner.Overlap.{blockOverlap}
 use Rattle.collect.proofs.Adding.{Rows, no-rows, rows-in, rows-cleared, new-row-asks, new-row-more}
 use Rattle.collect.proofs.overlaps.write_overlaps.Statement.{statement}
 use Rattle.collect.proofs.overlaps.write_overlaps.Tie as tie

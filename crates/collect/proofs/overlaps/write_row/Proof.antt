@@ -9,7 +9,7 @@ use Rattle.exact.specs.Exact.{narrowExponent, exact, conj}
 use Rattle.exact.specs.Inner.Sizes.{Coords}
 use Rattle.scalar.specs.Calls.{value}
 use Rattle.cells.specs.Cells.{cellSize, cellWords, cellAt}
-use Rattle.collect.specs.Overlap.{overlap}
+use Rattle.collect.specs.Inner.Overlap.{overlap}
 use Rattle.collect.proofs.overlaps.write_row.Statement.{statement}
 use Rattle.collect.proofs.overlaps.write_row.Tie as tie
 

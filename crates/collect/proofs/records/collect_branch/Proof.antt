@@ -10,7 +10,7 @@ use Rattle.algebra.proofs.Tests.{and-no}
 use Rattle.cells.specs.Cells.{cellSize}
 use Rattle.channel.specs.Layout.{recordHead, headerSize, recordSize, side}
 use Rattle.channel.proofs.Words.{square-small}
-use Rattle.collect.specs.Bank.{storeOf, survives, isFirst, starts, recordOf}
+use Rattle.collect.specs.Inner.Bank.{storeOf, survives, isFirst, starts, recordOf}
 use Rattle.collect.proofs.Summing.{bank-branch}
 use Rattle.collect.proofs.Recording.{record-room, unstarted, newly-started}
 use borrow.Author.Needs.{needs}

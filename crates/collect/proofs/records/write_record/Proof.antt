@@ -6,7 +6,7 @@ use lib.ListN.{length, length-set}
 use Rattle.algebra.proofs.Blocks.{length-blocks}
 use Rattle.algebra.proofs.Signed.{reads}
 use Rattle.channel.specs.Layout.{word, side}
-use Rattle.collect.specs.Bank.{storePlace, storeOf, overlaps, Branch}
+use Rattle.collect.specs.Inner.Bank.{storePlace, storeOf, overlaps, Branch}
 use Rattle.collect.proofs.Summing.{bank-branch}
 use Rattle.collect.proofs.Recording.{record-written}
 use borrow.Author.Needs.{needs}

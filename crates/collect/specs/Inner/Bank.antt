@@ -2,7 +2,7 @@
 use mathlib.Core.Path.{_≡_}
 use mathlib.Core.Bool.{Bool, true, false, cond, not, _&&_}
 use mathlib.Core.List.{List, [], _∷_, _++_}
-use Prim.Native.Nat.{ℕ, zero, suc, _+_, _*_, _/_, _%_, _<_, _≤_}
+use Prim.Native.Nat.{ℕ, zero, suc, _+_, _*_, _/_, _%_, _^_, _<_, _≤_}
 use lib.Dec.{eqb}
 use lib.ListN.{length, getD}
 use lib.IntN.{ℤ}
@@ -111,3 +111,9 @@ pub record Begun (m : List ℤ) (n : ℕ) (l : List ℤ) (at d count b : ℕ) : 
   pub branch : b < count
   pub so-far : n ≡ length (storesOf l at d b)
   pub room : layout.headerSize + length (storesOf l at d count) * layout.recordSize (layout.side d) ≤ length m
+
+-- a bank of n branches at `at` of `work`, with m bits in a store, and room for its records in `result`
+pub record Deliverable (result work : List ℤ) (at d m n : ℕ) : Type 0 where
+  pub bank : Bank work at d n
+  pub bits : (j : ℕ) → j < n → storeOf work at d j < 2 ^ m
+  pub room : layout.headerSize + length (storesOf work at d n) * layout.recordSize (layout.side d) ≤ length result
