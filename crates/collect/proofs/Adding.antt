@@ -249,7 +249,8 @@ module _ {l : List ℤ} {out : ℕ} {m : List ℤ} {k w : ℕ} (p : NewBlock l o
       }
 
   -- rows of zero factors
-  pub rows-cleared : {e : ℕ} → r ≤ e → e ≤ w → ((i : ℕ) → r ≤ i → i < e → zeroAt m (k + i * cellSize) ≡ true) → {n : List ℤ} → n ≡ fillWords b (out + r * w * cellSize) ((e - r) * w * cellSize) (λ (i : ℕ). pos 0) → Rows l out w (blockOverlap m k w) n e
+  pub rows-cleared : {e : ℕ} → r ≤ e → e ≤ w → ((i : ℕ) → r ≤ i → i < e → zeroAt m (k + i * cellSize) ≡ true)
+      → {n : List ℤ} → n ≡ fillWords b (out + r * w * cellSize) ((e - r) * w * cellSize) (λ (i : ℕ). pos 0) → Rows l out w (blockOverlap m k w) n e
   rows-cleared {e} lo hi zero q =
       record {
         sized = λ i. le-refl cellSize;

@@ -78,7 +78,8 @@ stores-more (c ∷ bs) b =
 -- ---- a test along a table
 every-tabulate : {A : Type 0} (z : A) (p : A → Bool) (n : ℕ) (f : ℕ → A) → every p (tabulate n 0 f) ≡ allBelow n (λ (k : ℕ). p (f k))
 every-tabulate {A} z p n f = test-same (every p (tabulate n 0 f)) (allBelow n (λ (k : ℕ). p (f k)))
-    (λ e. all-by n (λ (k : ℕ). p (f k)) (λ k h. sym (ap p (tabulate-at n 0 f z k h ∙ ap f (zero-add k))) ∙ all-getD (λ (x : A). p x ≡ true) (tabulate n 0 f) (every-all p (λ (x : A). p x ≡ true) (λ x t. t) (tabulate n 0 f) e) k (omega (arith, h, tabulate-length n 0 f)) z))
+    (λ e. all-by n (λ (k : ℕ). p (f k)) (λ k h. sym (ap p (tabulate-at n 0 f z k h ∙ ap f (zero-add k)))
+    ∙ all-getD (λ (x : A). p x ≡ true) (tabulate n 0 f) (every-all p (λ (x : A). p x ≡ true) (λ x t. t) (tabulate n 0 f) e) k (omega (arith, h, tabulate-length n 0 f)) z))
     (λ e. of n 0 (λ k h l. all-at n (λ (k : ℕ). p (f k)) e k (omega arith)))
   where
     of : (n i : ℕ) → ((k : ℕ) → i ≤ k → k < i + n → p (f k) ≡ true) → every p (tabulate n i f) ≡ true
@@ -182,7 +183,8 @@ module _ (l : List ℤ) (at d m : ℕ) where
         go a e b f ih = ap stores (survivors-more n a e) ∙ by a b (some-is n (storeOf l at d n) (omega arith) (narrow n (omega arith)) ∙ ap not f) ∙ sym (λ i. map (bits m) (cond (e i && f i) (ss ++ (storeOf l at d n ∷ [])) ss))
           where
             by : (a b : Bool) → some (having (bits m (storeOf l at d n))) old ≡ not b → stores (cond a (old ++ (branchIn n ∷ [])) old) ≡ map (bits m) (cond (a && b) (ss ++ (storeOf l at d n ∷ [])) ss)
-            by true true g = stores-more old (branchIn n) ∙ ap (λ (t : Bool). cond t (stores old) (stores old ++ (branchIn n .store ∷ []))) g ∙ ap (λ (τs : List Store). τs ++ (branchIn n .store ∷ [])) ih ∙ sym (map-more (bits m) ss (storeOf l at d n))
+            by true true g = stores-more old (branchIn n) ∙ ap (λ (t : Bool). cond t (stores old) (stores old ++ (branchIn n .store ∷ []))) g
+                ∙ ap (λ (τs : List Store). τs ++ (branchIn n .store ∷ [])) ih ∙ sym (map-more (bits m) ss (storeOf l at d n))
             by true false g = stores-more old (branchIn n) ∙ ap (λ (t : Bool). cond t (stores old) (stores old ++ (branchIn n .store ∷ []))) g ∙ ih
             by false b g = ih
 

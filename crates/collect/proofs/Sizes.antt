@@ -84,5 +84,6 @@ module _ (x y : Exact) (cx : Coords 1 narrowExponent x) (cy : Coords 1 narrowExp
       go (no h) =
           let none : x .exp + y .exp - a .exp ≡ 0 = omega arith in
           let le : x .exp + y .exp ≤ a .exp = omega arith in
-          subst Fits (aligned (by numbers x y) a le ∙ exacts .add-comm (by numbers x y) a)
-          (lowest-fits _ (a .exp) (omega (arith, r .exponent)) (plus-within _ _ (small (a .exp) _ (r .exponent) (raised 8 (x .exp + y .exp) (a .exp) _ le term)) (subst (Within roomNumerator) (scaled-none (a .num) (x .exp + y .exp - a .exp) none) (r .size))))
+          let added = small (a .exp) _ (r .exponent) (raised 8 (x .exp + y .exp) (a .exp) _ le term) in
+          let kept = subst (Within roomNumerator) (scaled-none (a .num) (x .exp + y .exp - a .exp) none) (r .size) in
+          subst Fits (aligned (by numbers x y) a le ∙ exacts .add-comm (by numbers x y) a) (lowest-fits _ (a .exp) (omega (arith, r .exponent)) (plus-within _ _ added kept))

@@ -85,7 +85,8 @@ module _ (l : List ℤ) (d m n : ℕ) (B : ℕ → Block) (room : headerSize + n
   headed-whole =
       sets-eq (header d m n B) whole 0 (omega (arith, length-blocks (recordSize (side d)) l headerSize (λ (j : ℕ). recordWords (side d) (next d m n B j) (B j)) n))
       ∙ ap (λ (t : List ℤ). header d m n B ++ t)
-      (ap (drop headerSize) (blocks-parts (recordSize (side d)) (λ (j : ℕ). recordWords (side d) (next d m n B j) (B j)) (λ j. sized (next d m n B j) j) l headerSize n room ∙ append-assoc (take headerSize l) recs (drop (headerSize + n * recordSize (side d)) l))
+      (ap (drop headerSize) (blocks-parts (recordSize (side d)) (λ (j : ℕ). recordWords (side d) (next d m n B j) (B j)) (λ j. sized (next d m n B j) j) l headerSize n room
+      ∙ append-assoc (take headerSize l) recs (drop (headerSize + n * recordSize (side d)) l))
       ∙ drop-at (take headerSize l) (recs ++ drop (headerSize + n * recordSize (side d)) l) headerSize (simp length-take (omega arith)))
       ∙ sym (append-assoc (header d m n B) recs (drop (headerSize + n * recordSize (side d)) l))
       ∙ ap (λ (k : ℕ). (header d m n B ++ recs) ++ drop k l) (sym size)

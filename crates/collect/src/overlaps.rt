@@ -4,12 +4,12 @@ use cells::read_cell;
 use cells::write_cell;
 use cells::zero_at;
 use matrix::words::clear;
+use matrix::words::first_nonzero;
 use scalar::Scalar;
 use scalar::ZERO;
 use scalar::products::fma;
 use scalar::products::times_conj;
 ghost use mathlib.Core.Path.{_≡_};
-ghost use mathlib.Core.Bool.{not};
 ghost use Prim.Native.Nat.{_+_, _*_, _≤_};
 ghost use lib.ListN.{length};
 ghost use lib.Seq.{sets};
@@ -17,10 +17,8 @@ ghost use Rattle.exact.specs.Exact.{narrowExponent, conj};
 ghost use Rattle.exact.specs.Inner.Sizes.{Coords};
 ghost use Rattle.scalar.specs.Calls.{value, scalarOf};
 ghost use Rattle.cells.specs.Cells.{cellSize, cellAt, cellWords, fill};
-ghost use Rattle.cells.specs.Inner.Zero.{zeroAt};
 ghost use Rattle.matrix.specs.Inner.Factors.{Factor};
-ghost use Rattle.collect.specs.Inner.Overlap.{overlap, overlapped, blockOverlap, blockOverlapped, Readable, Sum, Entries, Row, Column, Mirrored, NewRow, AddedRow, NewBlock, Block};
-ghost use Rattle.collect.specs.Inner.Bank.{Found};
+ghost use Rattle.collect.specs.Inner.Overlap.{overlap, overlapped, rowOverlap, rowOverlapped, blockOverlap, blockOverlapped, Readable, Sum, Entries, Row, Column, Mirrored, NewRow, AddedRow, NewBlock, Block};
 
 // The conjugate of the scalar at `at`.
 fn read_conj(s: &[i64], at: usize) -> Scalar
@@ -75,7 +73,7 @@ fn add_overlap(result: &mut [i64], at: usize, x: Scalar, work: &[i64], q: usize)
 // Write the scalar at p of `work` times the conjugates of the w scalars from k on to `to` on of `result`.
 fn write_row(result: &mut [i64], to: usize, work: &[i64], p: usize, k: usize, w: usize)
     requires { ⌜ (to + w * cellSize ≤ length (now result)) × Entries (now work) p k w ⌝ }
-    ensures { λ _. ⌜ now (result .exit) ≡ fill (now (result .entry)) to w (λ c. overlap (cellAt (now (work .entry)) p) (now (work .entry)) (k + c * cellSize)) ⌝ }
+    ensures { λ _. ⌜ now (result .exit) ≡ fill (now (result .entry)) to w (rowOverlap (now (work .entry)) p k) ⌝ }
 {
     let x = read_cell(work, p);
     let mut c = 0;
@@ -88,7 +86,7 @@ fn write_row(result: &mut [i64], to: usize, work: &[i64], p: usize, k: usize, w:
 // Add the scalar at p of `work` times the conjugates of the w scalars from k on to the w scalars from `to` on of `result`.
 fn add_row(result: &mut [i64], to: usize, work: &[i64], p: usize, k: usize, w: usize)
     requires { ⌜ Row (now result) to (now work) p k w ⌝ }
-    ensures { λ _. ⌜ now (result .exit) ≡ fill (now (result .entry)) to w (λ c. overlapped (now (result .entry)) (to + c * cellSize) (cellAt (now (work .entry)) p) (now (work .entry)) (k + c * cellSize)) ⌝ }
+    ensures { λ _. ⌜ now (result .exit) ≡ fill (now (result .entry)) to w (rowOverlapped (now (result .entry)) to (now (work .entry)) p k) ⌝ }
 {
     let x = read_cell(work, p);
     let mut c = 0;
@@ -142,7 +140,7 @@ fn mirror_sums(result: &mut [i64], out: usize, work: &[i64], k: usize, w: usize,
 // Write row r of the block of the w scalars from k on of `work`, whose rows before it are written: from the diagonal on by products, and before it by column r.
 fn write_block_row(result: &mut [i64], out: usize, work: &[i64], k: usize, w: usize, r: usize)
     requires { ⌜ NewRow (now result) out (now work) k w r ⌝ }
-    ensures { λ _. ⌜ now (result .exit) ≡ fill (now (result .entry)) (out + r * w * cellSize) w (λ c. overlap (cellAt (now (work .entry)) (k + r * cellSize)) (now (work .entry)) (k + c * cellSize)) ⌝ }
+    ensures { λ _. ⌜ now (result .exit) ≡ fill (now (result .entry)) (out + r * w * cellSize) w (rowOverlap (now (work .entry)) (k + r * cellSize) k) ⌝ }
 {
     mirror_column(result, out, w, r);
     let p = k + r * CELL;
@@ -152,7 +150,7 @@ fn write_block_row(result: &mut [i64], out: usize, work: &[i64], k: usize, w: us
 // Add row r of the block of the w scalars from k on of `work`, where the rows before it are added; a zero is passed over.
 fn add_block_row(result: &mut [i64], out: usize, work: &[i64], k: usize, w: usize, r: usize)
     requires { ⌜ AddedRow (now result) out (now work) k w r ⌝ }
-    ensures { λ _. ⌜ now (result .exit) ≡ fill (now (result .entry)) (out + r * w * cellSize) w (λ c. overlapped (now (result .entry)) (out + r * w * cellSize + c * cellSize) (cellAt (now (work .entry)) (k + r * cellSize)) (now (work .entry)) (k + c * cellSize)) ⌝ }
+    ensures { λ _. ⌜ now (result .exit) ≡ fill (now (result .entry)) (out + r * w * cellSize) w (rowOverlapped (now (result .entry)) (out + r * w * cellSize) (now (work .entry)) (k + r * cellSize) k) ⌝ }
 {
     let p = k + r * CELL;
     if zero_at(work, p) {
@@ -162,21 +160,6 @@ fn add_block_row(result: &mut [i64], out: usize, work: &[i64], k: usize, w: usiz
     add_row(result, out + r * w * CELL + r * CELL, work, p, p, w - r);
 }
 
-// The first of the w scalars from k on of `work`, from scalar r on, that is not zero; w where there is none.
-fn next_entry(work: &[i64], k: usize, w: usize, r: usize) -> usize
-    requires { ⌜ (r ≤ w) × (k + w * cellSize ≤ length (now work)) ⌝ }
-    ensures { λ e. ⌜ Found (λ i. not (zeroAt (now (work .entry)) (k + i * cellSize))) r w e ⌝ }
-{
-    let mut i = r;
-    while i < w {
-        if !zero_at(work, k + i * CELL) {
-            return i;
-        }
-        i += 1;
-    }
-    i
-}
-
 // Write entry r times the conjugate of entry c of the w scalars from k on of `work` to entry (r, c) of the block at `out` of `result`, for all r and c.
 pub fn write_overlaps(result: &mut [i64], out: usize, work: &[i64], k: usize, w: usize)
     requires { ⌜ NewBlock (now result) out (now work) k w ⌝ }
@@ -184,7 +167,7 @@ pub fn write_overlaps(result: &mut [i64], out: usize, work: &[i64], k: usize, w:
 {
     let mut r = 0;
     while r < w {
-        let e = next_entry(work, k, w, r);
+        let e = first_nonzero(work, k, w, r);
         clear(result, out + r * w * CELL, (e - r) * w * CELL);
         if e == w {
             return;

@@ -11,9 +11,8 @@ ghost use mathlib.Core.Bool.{true, cond};
 ghost use Prim.Native.Nat.{_+_, _*_, _<_, _≤_};
 ghost use lib.ListN.{length};
 ghost use lib.Seq.{sets};
-ghost use Rattle.algebra.specs.Words.{blocks};
-ghost use Rattle.channel.specs.Layout.{headerSize, recordSize, recordAt, side};
-ghost use Rattle.collect.specs.Inner.Bank.{storeOf, starts, storesOf, recordOf, records, Bank, Begun};
+ghost use Rattle.channel.specs.Layout.{headerSize, recordSize, side};
+ghost use Rattle.collect.specs.Inner.Bank.{storeOf, starts, storesOf, recordOf, recorded, recordedBranch, Bank, Begun};
 
 // Write the record of the store of branch b, the first to survive with it, of a bank of `count` branches, to `to` on, as the last of a chain.
 fn write_record(
@@ -49,7 +48,7 @@ fn collect_branch(
     b: usize,
 ) -> usize
     requires { ⌜ Begun (now result) n (now work) at d count b ⌝ }
-    ensures { λ r. ⌜ (r ≡ cond (starts (now (work .entry)) at d b) (n + 1) n) × (now (result .exit) ≡ cond (starts (now (work .entry)) at d b) (sets (now (result .entry)) (recordAt (side d) n) (recordOf (now (work .entry)) at d count (storeOf (now (work .entry)) at d b))) (now (result .entry))) ⌝ }
+    ensures { λ r. ⌜ (r ≡ cond (starts (now (work .entry)) at d b) (n + 1) n) × (now (result .exit) ≡ recordedBranch (now (result .entry)) n (now (work .entry)) at d count b) ⌝ }
 {
     if !is_alive(work, at, d, b) {
         return n;
@@ -65,7 +64,7 @@ fn collect_branch(
 // Write a record for each store of a bank of `count` branches, end to end; how many there are.
 pub fn collect(result: &mut [i64], work: &[i64], at: usize, d: usize, count: usize) -> usize
     requires { ⌜ Bank (now work) at d count × (headerSize + length (storesOf (now work) at d count) * recordSize (side d) ≤ length (now result)) ⌝ }
-    ensures { λ r. ⌜ (r ≡ length (storesOf (now (work .entry)) at d count)) × (now (result .exit) ≡ blocks (recordSize (side d)) (now (result .entry)) headerSize (length (storesOf (now (work .entry)) at d count)) (records (now (work .entry)) at d count)) ⌝ }
+    ensures { λ r. ⌜ (r ≡ length (storesOf (now (work .entry)) at d count)) × (now (result .exit) ≡ recorded (now (result .entry)) (now (work .entry)) at d count) ⌝ }
 {
     let mut n = 0;
     let mut b = 0;

@@ -5,8 +5,10 @@ use mathlib.Core.List.{List, [], _∷_, _++_}
 use Prim.Native.Nat.{ℕ, zero, suc, _+_, _*_, _/_, _%_, _^_, _<_, _≤_}
 use lib.Dec.{eqb}
 use lib.ListN.{length, getD}
+use lib.Seq.{sets}
 use lib.IntN.{ℤ}
 use Rattle.algebra.specs.Lists.{allBelow}
+use Rattle.algebra.specs.Words.{blocks}
 use Rattle.exact.specs.Exact.{Exact, exact, conj}
 use Rattle.exact.specs.Inner.Sizes.{Room}
 use Rattle.cells.specs.Cells.{cellSize, cellAt}
@@ -78,6 +80,14 @@ module _ (l : List ℤ) (at d : ℕ) where
   unfoldable pub bankIn : ℕ → ℕ → List kraus.Branch
   bankIn m zero = []
   bankIn m (suc n) = bankIn m n ++ (record { matrix = tabulate (d * d) 0 (entry n); store = bits m (storeOf n) } ∷ [])
+
+-- the words m with the records of a bank of n branches
+abbrev pub recorded : List ℤ → List ℤ → ℕ → ℕ → ℕ → List ℤ
+recorded m l at d n = blocks (layout.recordSize (layout.side d)) m layout.headerSize (length (storesOf l at d n)) (records l at d n)
+
+-- the words m with record j, that of branch b of a bank of n branches, if it starts a record
+abbrev pub recordedBranch : List ℤ → ℕ → List ℤ → ℕ → ℕ → ℕ → ℕ → List ℤ
+recordedBranch m j l at d n b = cond (starts l at d b) (sets m (layout.recordAt (layout.side d) j) (recordOf l at d n (storeOf l at d b))) m
 
 -- branch j lies in the words, and its store's words are in range
 pub record Branch (l : List ℤ) (at d j : ℕ) : Type 0 where

@@ -19,6 +19,14 @@ overlap x m q = exact ._⊗_ x (conj (cellAt m q))
 abbrev pub overlapped : List ℤ → ℕ → Exact → List ℤ → ℕ → Exact
 overlapped l at x m q = exact ._⊕_ (cellAt l at) (overlap x m q)
 
+-- the number at p of m times the conjugate of number c from k on
+abbrev pub rowOverlap : List ℤ → ℕ → ℕ → ℕ → Exact
+rowOverlap m p k c = overlap (cellAt m p) m (k + c * cellSize)
+
+-- number c from `to` on of l plus that
+abbrev pub rowOverlapped : List ℤ → ℕ → List ℤ → ℕ → ℕ → ℕ → Exact
+rowOverlapped l to m p k c = overlapped l (to + c * cellSize) (cellAt m p) m (k + c * cellSize)
+
 -- entry i, row by row, of the block of the w entries at k: entry r times conj(entry c)
 abbrev pub blockOverlap : List ℤ → ℕ → ℕ → ℕ → Exact
 blockOverlap m k w i = overlap (cellAt m (k + i / w * cellSize)) m (k + i % w * cellSize)

@@ -1,12 +1,17 @@
 -- `collect::overlaps::write_overlaps` meets its contract.
-use Prim.Native.Nat.{_+_, _*_, _-_, _<_, _≤_}
+use mathlib.Core.Path.{sym, subst}
+use mathlib.Core.Bool.{not}
+use Prim.Native.Nat.{ℕ, _+_, _*_, _-_, _<_, _≤_}
 use native.Mathlib.Nat.{le-refl, mul-le-mul}
 use native.Mathlib.Omega.{arith}
 use lib.ListN.{length}
 use borrow.Author.Tests.{not-false}
 use Rattle.algebra.proofs.Blocks.{done, long}
 use Rattle.cells.specs.Cells.{cellSize}
+use Rattle.cells.specs.Inner.Zero.{zeroAt}
 use Rattle.collect.specs.Inner.Overlap.{blockOverlap}
+use Rattle.collect.specs.Inner.Bank.{Found}
+use Rattle.collect.proofs.Finding.{first-found}
 use Rattle.collect.proofs.Adding.{Rows, no-rows, rows-in, rows-cleared, new-row-asks, new-row-more}
 use Rattle.collect.proofs.overlaps.write_overlaps.Statement.{statement}
 use Rattle.collect.proofs.overlaps.write_overlaps.Tie as tie
@@ -17,35 +22,38 @@ Inv-loop result₀ out work k w r₀ result r = (r ≤ w) × Rows result₀ out 
 abbrev μ-loop : tie.MeasureT-loop
 μ-loop result₀ out work k w r₀ result r = w - r
 
-module _ (a : tie.After-next-entry Inv-loop μ-loop) where
+module _ (a : tie.After-first-nonzero Inv-loop μ-loop) where
   abbrev t : tie.In-loop Inv-loop μ-loop
   t = a .before
 
   abbrev s : tie.Start Inv-loop μ-loop
   s = t .before .before
 
-  run : s .args .out + t .before .loop .r * s .args .w * cellSize + (a .next-entry .result - t .before .loop .r) * s .args .w * cellSize ≤ length (s .args .result .now)
-  run = rows-in (s .args .out) (t .before .loop .r) (a .next-entry .result) (s .args .w) _ (a .next-entry .ensures .low) (a .next-entry .ensures .high) (s .pre .room)
+  entry : Found (λ (i : ℕ). not (zeroAt (s .args .work .now) (s .args .k + i * cellSize))) (t .before .loop .r) (s .args .w) (a .first-nonzero .result)
+  entry = subst (Found _ (t .before .loop .r) (s .args .w)) (sym (a .first-nonzero .ensures)) (first-found _ (s .args .w) (t .before .loop .r) (t .before .loop .inv .0))
+
+  run : s .args .out + t .before .loop .r * s .args .w * cellSize + (a .first-nonzero .result - t .before .loop .r) * s .args .w * cellSize ≤ length (s .args .result .now)
+  run = rows-in (s .args .out) (t .before .loop .r) (a .first-nonzero .result) (s .args .w) _ (entry .low) (entry .high) (s .pre .room)
 
 -- the rows of zeros are written
 module _ (c : tie.After-clear Inv-loop μ-loop) where
-  abbrev found : tie.After-next-entry Inv-loop μ-loop
+  abbrev found : tie.After-first-nonzero Inv-loop μ-loop
   found = c .before .before
 
-  cleared : Rows (s found .args .result .now) (s found .args .out) (s found .args .w) (blockOverlap (s found .args .work .now) (s found .args .k) (s found .args .w)) (c .clear .last .0) (found .next-entry .result)
+  cleared : Rows (s found .args .result .now) (s found .args .out) (s found .args .w) (blockOverlap (s found .args .work .now) (s found .args .k) (s found .args .w)) (c .clear .last .0) (found .first-nonzero .result)
   cleared =
-      rows-cleared (s found .pre) (t found .loop-test .taken) (t found .before .loop .inv .1) (found .next-entry .ensures .low) (found .next-entry .ensures .high)
-      (λ i p q. not-false _ (found .next-entry .ensures .passed i p q)) (c .clear .ensures)
+      rows-cleared (s found .pre) (t found .loop-test .taken) (t found .before .loop .inv .1) (entry found .low) (entry found .high)
+      (λ i p q. not-false _ (entry found .passed i p q)) (c .clear .ensures)
 
 -- and a row is left
-below : (c : tie.Else1 Inv-loop μ-loop) → let a = found (c .before .before) in a .next-entry .result < s a .args .w
-below c = let e = c .if1 .left in let a = found (c .before .before) in omega (arith, a .next-entry .ensures .high)
+below : (c : tie.Else1 Inv-loop μ-loop) → let a = found (c .before .before) in a .first-nonzero .result < s a .args .w
+below c = let e = c .if1 .left in let a = found (c .before .before) in omega (arith, entry a .high)
 
 loop-holds : tie.Need-loop-holds Inv-loop μ-loop
 loop-holds c = let s = c .args in (omega arith, no-rows (s .result .now) (s .out) (s .w) _)
 
-next-entry-requires : tie.Need-next-entry-requires Inv-loop μ-loop
-next-entry-requires c κs = (c .before .loop .inv .0, c .before .before .pre .entries)
+first-nonzero-requires : tie.Need-first-nonzero-requires Inv-loop μ-loop
+first-nonzero-requires c κs = (c .before .loop .inv .0, c .before .before .pre .entries)
 
 mul-clear : tie.Need-mul-clear Inv-loop μ-loop
 mul-clear c = omega (arith, run (c .before))
@@ -57,7 +65,7 @@ add-clear : tie.Need-add-clear Inv-loop μ-loop
 add-clear c = omega (arith, run (c .before))
 
 sub-clear : tie.Need-sub-clear Inv-loop μ-loop
-sub-clear c = omega (arith, c .before .next-entry .ensures .low)
+sub-clear c = omega (arith, entry (c .before) .low)
 
 mul-clear-3 : tie.Need-mul-clear-3 Inv-loop μ-loop
 mul-clear-3 c = omega (arith, run (c .before))
@@ -86,7 +94,7 @@ add-r c = omega (arith, below (c .before .before .before))
 loop-less : tie.Need-loop-less Inv-loop μ-loop
 loop-less c =
     let e = c .before .before .before in
-    omega (arith, below e, found (e .before .before) .next-entry .ensures .low)
+    omega (arith, below e, entry (found (e .before .before)) .low)
 
 loop-again : tie.Need-loop-again Inv-loop μ-loop
 loop-again c =
@@ -110,7 +118,7 @@ write-overlaps-spec =
     Inv-loop
     μ-loop
     loop-holds
-    next-entry-requires
+    first-nonzero-requires
     mul-clear
     mul-clear-2
     add-clear
