@@ -92,5 +92,5 @@ chain-from {l} zero at o h = absurd (h (zero-is at (sym (chain-end l (side (dimA
     zero-is a e = eqb-true a 0 e
 chain-from {l} (suc n) at o h = let s = on-start o (omega arith) in by (s .place) (recordSize (side (dimAt l))) (s .is)
   where
-    by : (p r : ℕ) → at ≡ 4 + p * r → 4 ≤ at
+    by : (p r : ℕ) → at ≡ headerSize + p * r → headerSize ≤ at
     by p r e = omega arith

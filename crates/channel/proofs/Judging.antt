@@ -93,7 +93,7 @@ headed l e =
       };
     }
   where
-    fit : (s n k : ℕ) → 1 ≤ s → 4 ≤ k → n ≤ (k - 4) / s → 4 + n * s ≤ k
+    fit : (s n k : ℕ) → 1 ≤ s → headerSize ≤ k → n ≤ (k - headerSize) / s → headerSize + n * s ≤ k
     fit s n k p h q = let r = le-div-iff-mul-le p .0 q in omega arith
 
 -- the verdict of a test of the form

@@ -13,7 +13,7 @@ use Rattle.channel.specs.declared.compare.Found.the-variants.{Same}
 use Rattle.channel.specs.declared.compare.Turn.{Turn}
 use Rattle.channel.specs.declared.compare.Cursor.{Cursor}
 use Rattle.store.specs.Store.{before}
-use Rattle.channel.specs.Layout.{recordSize, entryPlace, side, word, storeAt, dimAt, countAt, chain, readBack}
+use Rattle.channel.specs.Layout.{entrySize, recordSize, entryPlace, side, word, storeAt, dimAt, countAt, chain, readBack}
 use Rattle.channel.specs.WellFormed.{wellFormed}
 use Rattle.channel.specs.Inner.Shapes.{Onward}
 use Rattle.channel.specs.Compare.{Both, isSame, plain, orElse, scan, first, merge}
@@ -77,12 +77,17 @@ module _ (l r : List ℤ) (i j : ℕ) where
     where
       is : turnOf a b ≡ onRight (storeAt r j)
       is =
-          (λ k. turnBy (a .store) ((ap (λ (c : Cursor). c .store) f ∙ ap (λ (t : Bool). cond t (storeAt r j) 0) (lt-ltb 0 (suc n) (omega arith))) k) (eq-eqb (a .left) 0 (ap (λ (c : Cursor). c .left) e) k) (eqb (b .left) 0) (eqb (a .store) (b .store)) (before (a .store) (b .store)))
+          let y : b .store ≡ storeAt r j = ap (λ (c : Cursor). c .store) f ∙ ap (λ (t : Bool). cond t (storeAt r j) 0) (lt-ltb 0 (suc n) (omega arith)) in
+          let ended = eq-eqb (a .left) 0 (ap (λ (c : Cursor). c .left) e) in
+          (λ k. turnBy (a .store) (y k) (ended k) (eqb (b .left) 0) (eqb (a .store) (b .store)) (before (a .store) (b .store)))
   turns (suc m) zero a b e f h = subst (Turns (suc m) 0) (sym is) (record { step = left-step m; onLeftSide = λ q. omega arith; onRightSide = λ q. no q; some = refl })
     where
       is : turnOf a b ≡ onLeft (storeAt l i)
       is =
-          (λ k. turnBy ((ap (λ (c : Cursor). c .store) e ∙ ap (λ (t : Bool). cond t (storeAt l i) 0) (lt-ltb 0 (suc m) (omega arith))) k) (b .store) (ne-eqb (a .left) 0 (λ z. omega (arith, z, ap (λ (c : Cursor). c .left) e)) k) (eq-eqb (b .left) 0 (ap (λ (c : Cursor). c .left) f) k) (eqb (a .store) (b .store)) (before (a .store) (b .store)))
+          let x : a .store ≡ storeAt l i = ap (λ (c : Cursor). c .store) e ∙ ap (λ (t : Bool). cond t (storeAt l i) 0) (lt-ltb 0 (suc m) (omega arith)) in
+          let some = ne-eqb (a .left) 0 (λ z. omega (arith, z, ap (λ (c : Cursor). c .left) e)) in
+          let ended = eq-eqb (b .left) 0 (ap (λ (c : Cursor). c .left) f) in
+          (λ k. turnBy (x k) (b .store) (some k) (ended k) (eqb (a .store) (b .store)) (before (a .store) (b .store)))
   turns (suc m) (suc n) a b e f h = subst (Turns (suc m) (suc n)) (sym is) (go (eqb (storeAt l i) (storeAt r j)) refl (before (storeAt l i) (storeAt r j)) refl)
     where
       x : a .store ≡ storeAt l i
@@ -130,7 +135,7 @@ held b l n at w k o h e q = record {
     below : k < side (dimAt l) * side (dimAt l)
     below = subst (λ (v : ℕ). k < v * v) e q
 
-    by : (v : ℕ) → at + recordSize v ≤ length l → k < v * v → entryPlace at k + 5 ≤ length l
+    by : (v : ℕ) → at + recordSize v ≤ length l → k < v * v → entryPlace at k + entrySize ≤ length l
     by v p q = omega arith
 
 -- ---- the whole walk

@@ -113,10 +113,10 @@ module _ (d m n : ℕ) (block : ℕ → Block) (wr : Writable d m n block) (rest
       λ i. le-leb headerSize (length l) (by (n * recordSize w) (length-written d m n block rest)) i
       && ((wr .dim i && le-leb m 64 (wr .few) i) && le-leb n ((length l - headerSize) / recordSize w) (fits (recordSize w) (omega arith) (length-written d m n block rest)) i)
     where
-      by : (k : ℕ) → length l ≡ 4 + k + length rest → 4 ≤ length l
+      by : (k : ℕ) → length l ≡ headerSize + k + length rest → headerSize ≤ length l
       by k e = omega arith
 
-      fits : (s : ℕ) → 0 < s → length l ≡ 4 + n * s + length rest → n ≤ (length l - 4) / s
+      fits : (s : ℕ) → 0 < s → length l ≡ headerSize + n * s + length rest → n ≤ (length l - headerSize) / s
       fits s h e = le-div-iff-mul-le h .1 (omega arith)
 
   right : wellFormed l ≡ true

@@ -13,7 +13,7 @@ use lib.IntN.{ℤ, natAbs}
 use borrow.Author.Tests.{eq-eqb, ne-eqb, eqb-true}
 use Rattle.algebra.specs.Lists.{All, some, marks}
 use Rattle.store.specs.Store.{before}
-use Rattle.channel.specs.Layout.{headerSize, recordSize, recordAt, side, word, storeAt, entryAt, dimAt, countAt, chain}
+use Rattle.channel.specs.Layout.{headerSize, recordHead, entrySize, recordSize, recordAt, side, word, storeAt, entryAt, dimAt, countAt, chain}
 use Rattle.channel.specs.WellFormed.{wellFormed}
 use Rattle.channel.specs.Inner.Shapes.{Onward}
 use Rattle.channel.specs.Claims.{look, entryOf, places, visits, VisitsOnce}
@@ -141,12 +141,12 @@ pick Q j (p ∷ ps) a e = go (eqb p j) refl e (pick Q j ps (a .1))
 
 -- ---- the places along the chain
 place-is : {w n a : ℕ} (s : Starts w n a) → (a - headerSize) / recordSize w ≡ s .place
-place-is {w} {n} {a} s = by (w * w * 5) (s .place) (s .is)
+place-is {w} {n} {a} s = by (w * w * entrySize) (s .place) (s .is)
   where
-    by : (r p : ℕ) → a ≡ 4 + p * (3 + r) → (a - 4) / (3 + r) ≡ p
+    by : (r p : ℕ) → a ≡ headerSize + p * (recordHead + r) → (a - headerSize) / (recordHead + r) ≡ p
     by r p e =
-        let z : a - 4 ≡ p * (3 + r) + 0 = omega arith in
-        ap (λ (k : ℕ). k / (3 + r)) z ∙ digits-div p (omega arith)
+        let z : a - headerSize ≡ p * (recordHead + r) + 0 = omega arith in
+        ap (λ (k : ℕ). k / (recordHead + r)) z ∙ digits-div p (omega arith)
 
 module _ (l : List ℤ) where
   abbrev size : ℕ
@@ -197,7 +197,8 @@ module _ (l : List ℤ) where
       go false b r m ih =
           let a : Above (storeAt l at) (map keyAt (places l n (natAbs (word l at)))) = subst (Above (storeAt l at)) m (s .1 .0) in
           let q : before (storeAt l at) (keyAt j) ≡ true = above-has keyAt (storeAt l at) (places l n (natAbs (word l at))) a j r in
-          ap (λ (t : Bool). cond t (entryAt l at k) (look (chain l n (natAbs (word l at))) (keyAt j) k)) (ne-eqb (keyAt j) (storeAt l at) (λ v. true≢false (sym (eq-eqb (storeAt l at) (keyAt j) (sym v)) ∙ before-apart (storeAt l at) (keyAt j) q))) ∙ ih r
+          let apart = ne-eqb (keyAt j) (storeAt l at) (λ v. true≢false (sym (eq-eqb (storeAt l at) (keyAt j) (sym v)) ∙ before-apart (storeAt l at) (keyAt j) q)) in
+          ap (λ (t : Bool). cond t (entryAt l at k) (look (chain l n (natAbs (word l at))) (keyAt j) k)) apart ∙ ih r
 
   module _ (e : wellFormed l ≡ true) where
     below : (ps : List ℕ) → All (λ (p : ℕ). (p < countAt l) × Unit {0}) ps → All (λ (p : ℕ). p < countAt l) ps

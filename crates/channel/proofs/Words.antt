@@ -16,16 +16,16 @@ use Rattle.algebra.specs.Words.{upTo, eqℤ}
 use Rattle.algebra.proofs.Tests.{and-split}
 use Rattle.algebra.proofs.Signed.{eq-words}
 use Rattle.algebra.proofs.Blocks.{block-in}
-use Rattle.channel.specs.Layout.{headerSize, recordSize, recordAt}
+use Rattle.channel.specs.Layout.{headerSize, recordHead, entrySize, recordSize, recordAt}
 use Rattle.channel.specs.WellFormed.{isStart, isDim}
 
 -- ---- starts of records
-pub low-start : (w n : ℕ) (z : ℤ) → ltZ z (pos 4) ≡ true → false ≡ isStart w n z
-low-start w n (pos a) e = ap (λ (b : Bool). b && (eqb ((a - 4) % recordSize w) 0 && ltb ((a - 4) / recordSize w) n)) (sym (lt-leb 4 a (ltb-true a 4 e)))
+pub low-start : (w n : ℕ) (z : ℤ) → ltZ z (pos headerSize) ≡ true → false ≡ isStart w n z
+low-start w n (pos a) e = ap (λ (b : Bool). b && (eqb ((a - headerSize) % recordSize w) 0 && ltb ((a - headerSize) / recordSize w) n)) (sym (lt-leb headerSize a (ltb-true a headerSize e)))
 low-start w n (negsuc a) e = refl
 
-pub high-start : (w n : ℕ) (z : ℤ) → ltZ z (pos 4) ≡ false → (eqb ((natAbs z - 4) % recordSize w) 0 && ltb ((natAbs z - 4) / recordSize w) n) ≡ isStart w n z
-high-start w n (pos a) e = ap (λ (b : Bool). b && (eqb ((a - 4) % recordSize w) 0 && ltb ((a - 4) / recordSize w) n)) (sym (le-leb 4 a (ltb-false a 4 e)))
+pub high-start : (w n : ℕ) (z : ℤ) → ltZ z (pos headerSize) ≡ false → (eqb ((natAbs z - headerSize) % recordSize w) 0 && ltb ((natAbs z - headerSize) / recordSize w) n) ≡ isStart w n z
+high-start w n (pos a) e = ap (λ (b : Bool). b && (eqb ((a - headerSize) % recordSize w) 0 && ltb ((a - headerSize) / recordSize w) n)) (sym (le-leb headerSize a (ltb-false a headerSize e)))
 high-start w n (negsuc a) e = absurd (subst T e tt)
 
 -- an index at which a record starts is that of one of the n records
@@ -35,33 +35,33 @@ pub record Starts (w n a : ℕ) : Type 0 where
   pub is : a ≡ recordAt w place
 
 pub starts : (w n : ℕ) (z : ℤ) → isStart w n z ≡ true → T (nonNeg z) × Starts w n (natAbs z)
-starts w n (pos a) e = (tt, by (recordSize w) (and-split (leb 4 a) _ e))
+starts w n (pos a) e = (tt, by (recordSize w) (and-split (leb headerSize a) _ e))
   where
-    by : (size : ℕ) → (leb 4 a ≡ true) × ((eqb ((a - 4) % recordSize w) 0 && ltb ((a - 4) / recordSize w) n) ≡ true) → Starts w n a
+    by : (size : ℕ) → (leb headerSize a ≡ true) × ((eqb ((a - headerSize) % recordSize w) 0 && ltb ((a - headerSize) / recordSize w) n) ≡ true) → Starts w n a
     by size t =
-        let u = and-split (eqb ((a - 4) % recordSize w) 0) _ (t .1) in
-        record { place = (a - 4) / recordSize w; below = ltb-true _ n (u .1); is = whole-part (recordSize w) a (leb-true 4 a (t .0)) (eqb-true _ 0 (u .0)) }
+        let u = and-split (eqb ((a - headerSize) % recordSize w) 0) _ (t .1) in
+        record { place = (a - headerSize) / recordSize w; below = ltb-true _ n (u .1); is = whole-part (recordSize w) a (leb-true headerSize a (t .0)) (eqb-true _ 0 (u .0)) }
       where
-        whole-part : (s a : ℕ) → 4 ≤ a → (a - 4) % s ≡ 0 → a ≡ 4 + (a - 4) / s * s
-        whole-part s a h z = omega (arith, div-add-mod' (a - 4) s)
+        whole-part : (s a : ℕ) → headerSize ≤ a → (a - headerSize) % s ≡ 0 → a ≡ headerSize + (a - headerSize) / s * s
+        whole-part s a h z = omega (arith, div-add-mod' (a - headerSize) s)
 starts w n (negsuc a) e = absurd (true≢false (sym e))
 
 pub start-is : (w n i : ℕ) → i < n → isStart w n (pos (recordAt w i)) ≡ true
-start-is w n i h = λ k. le-leb 4 (recordAt w i) (omega arith) k && (eq-eqb _ 0 (at .0) k && lt-ltb _ n (subst (λ (p : ℕ). p < n) (sym (at .1)) h) k)
+start-is w n i h = λ k. le-leb headerSize (recordAt w i) (omega arith) k && (eq-eqb _ 0 (at .0) k && lt-ltb _ n (subst (λ (p : ℕ). p < n) (sym (at .1)) h) k)
   where
-    at : ((recordAt w i - 4) % recordSize w ≡ 0) × ((recordAt w i - 4) / recordSize w ≡ i)
-    at = by (w * w * 5)
+    at : ((recordAt w i - headerSize) % recordSize w ≡ 0) × ((recordAt w i - headerSize) / recordSize w ≡ i)
+    at = by (w * w * entrySize)
       where
-        by : (r : ℕ) → ((4 + i * (3 + r) - 4) % (3 + r) ≡ 0) × ((4 + i * (3 + r) - 4) / (3 + r) ≡ i)
+        by : (r : ℕ) → ((headerSize + i * (recordHead + r) - headerSize) % (recordHead + r) ≡ 0) × ((headerSize + i * (recordHead + r) - headerSize) / (recordHead + r) ≡ i)
         by r =
-            let z : 4 + i * (3 + r) - 4 ≡ i * (3 + r) + 0 = omega arith in
-            (ap (λ (k : ℕ). k % (3 + r)) z ∙ digits-mod i (omega arith), ap (λ (k : ℕ). k / (3 + r)) z ∙ digits-div i (omega arith))
+            let z : headerSize + i * (recordHead + r) - headerSize ≡ i * (recordHead + r) + 0 = omega arith in
+            (ap (λ (k : ℕ). k % (recordHead + r)) z ∙ digits-mod i (omega arith), ap (λ (k : ℕ). k / (recordHead + r)) z ∙ digits-div i (omega arith))
 
 -- and the record lies inside the n records
 pub starts-inside : {w n a : ℕ} → Starts w n a → a + recordSize w ≤ headerSize + n * recordSize w
 starts-inside {w} {n} {a} s = by (recordSize w) (s .place) (s .is) (s .below)
   where
-    by : (r j : ℕ) → a ≡ 4 + j * r → j < n → a + r ≤ 4 + n * r
+    by : (r j : ℕ) → a ≡ headerSize + j * r → j < n → a + r ≤ headerSize + n * r
     by r j e h = omega (arith, block-in h r)
 
 -- ---- words equal to a small number

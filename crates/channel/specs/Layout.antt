@@ -53,13 +53,13 @@ word l at = getD l at (pos 0)
 abbrev pub storeAt : List ℤ → ℕ → ℕ
 storeAt l at = storeFrom (word l (at + 1)) (word l (at + 2))
 
--- ---- blocks, and their words
+-- ---- Choi blocks of stores, and their words
 pub record Block : Type 0 where
   pub store : ℕ
   -- entry k, row · w + column
   pub entry : ℕ → Exact
 
--- entry (r, c) of the effect of a block of dimension d: block entry (o·d + r, o·d + c), summed over o from 0 up
+-- entry (r, c) of the effect of a block of dimension d, its transposed POVM element: block entry (o·d + r, o·d + c), summed over o from 0 up
 abbrev pub effectPlace : ℕ → ℕ → ℕ → ℕ → ℕ
 effectPlace d r c o = (o * d + r) * side d + (o * d + c)
 

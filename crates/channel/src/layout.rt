@@ -69,7 +69,7 @@ pub fn is_start(w: usize, count: usize, z: i64) -> bool
     requires { ⌜ w ≤ 256 ⌝ }
     ensures { λ r. ⌜ r ≡ isStart w count z ⌝ }
 {
-    if z < 4 {
+    if z < HEADER as i64 {
         return false;
     }
     let size = record_size(w);

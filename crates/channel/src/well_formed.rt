@@ -15,7 +15,6 @@ ghost use mathlib.Core.Path.{_≡_};
 ghost use mathlib.Core.Bool.{true, false};
 ghost use Prim.Native.Nat.{_+_, _≤_};
 ghost use lib.ListN.{length};
-ghost use Rattle.verdict.specs.declared.Verdict.the-variants.{Malformed};
 ghost use Rattle.store.specs.Store.{storeFrom};
 ghost use Rattle.channel.specs.Layout.{recordHead, recordSize, entryPlace, storeAt, word};
 ghost use Rattle.channel.specs.WellFormed.{isDim, wordsOk, storeOk, entriesOk, recordOk, chainOk, wellFormed};
@@ -127,11 +126,12 @@ fn chain_ok(s: &[i64], w: usize, m: u32, count: usize) -> bool
     z == 0
 }
 
-fn malformed() -> Shape
-    ensures { λ r. ⌜ r ≡ noShape Malformed ⌝ }
+// A refusal, with zeros.
+pub fn no_shape(v: Verdict) -> Shape
+    ensures { λ r. ⌜ r ≡ noShape v ⌝ }
 {
     Shape {
-        verdict: Verdict::Malformed,
+        verdict: v,
         dim: 0,
         bits: 0,
         count: 0,
@@ -143,25 +143,27 @@ fn header(s: &[i64]) -> Shape
     ensures { λ r. ⌜ r ≡ headerOf (now (s .entry)) ⌝ }
 {
     if s.len() < HEADER {
-        return malformed();
+        return no_shape(Verdict::Malformed);
     }
     let dim = s[0];
     let bits = s[1];
     let count = s[2];
     if !(is_dim(dim) & up_to(64, bits)) {
-        return malformed();
+        return no_shape(Verdict::Malformed);
     }
     let d = dim as usize;
     let size = record_size(d * d);
     let most = (s.len() - HEADER) / size;
     if !up_to(most as u64, count) {
-        return malformed();
+        return no_shape(Verdict::Malformed);
     }
+    let m = bits as u32;
+    let n = count as usize;
     Shape {
         verdict: Verdict::Accepted,
         dim: d,
-        bits: bits as u32,
-        count: count as usize,
+        bits: m,
+        count: n,
     }
 }
 
@@ -176,7 +178,7 @@ pub fn judge(s: &[i64]) -> Shape
     }
     let d = h.dim;
     if !chain_ok(s, d * d, h.bits, h.count) {
-        return malformed();
+        return no_shape(Verdict::Malformed);
     }
     h
 }

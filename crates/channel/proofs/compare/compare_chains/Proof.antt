@@ -27,11 +27,11 @@ abbrev μ-loop : tie.MeasureT-loop
 begins : (l : List ℤ) (n at : ℕ) → wellFormed l ≡ true → n ≡ countAt l → at ≡ natAbs (word l 3) → Onward l n at
 begins l n at e f g = subst (λ (m : ℕ). Onward l m at) (sym f) (subst (Onward l (countAt l)) (sym g) (onward-begin l e))
 
-abbrev start : tie.Then1 Inv-loop μ-loop → tie.Start Inv-loop μ-loop
-start c = c .before .before .before .before .before .before .before .before
-
 abbrev now : tie.Then1 Inv-loop μ-loop → tie.At-loop Inv-loop μ-loop
 now c = c .before .before .before
+
+abbrev start : tie.Then1 Inv-loop μ-loop → tie.Start Inv-loop μ-loop
+start c = now c .before .before .before .before .before
 
 walk : (c : tie.Then1 Inv-loop μ-loop) → Walking (start c .args .left .now) (start c .args .right .now) (start c .args .w) (now c .loop .a) (now c .loop .b)
 walk c = now c .loop .inv

@@ -5,7 +5,7 @@ use native.Mathlib.Omega.{arith}
 use lib.ListN.{length}
 use lib.IntN.{natAbs}
 use borrow.Author.Tests.{eq-eqb, ne-eqb}
-use Rattle.channel.specs.Layout.{word}
+use Rattle.channel.specs.Layout.{recordHead, word}
 use Rattle.channel.specs.Inner.Shapes.{Onward}
 use Rattle.channel.specs.Lookup.{find}
 use Rattle.channel.proofs.Chain.{onward-begin, first-index, header-long, on-inside, on-words, on-next, on-index}
@@ -23,7 +23,7 @@ module _ (c : tie.In-loop Inv-loop μ-loop) where
   walk : Onward (c .before .before .before .args .s .now) (c .before .loop .left) (c .before .loop .at)
   walk = c .before .loop .inv .0
 
-  inside : c .before .loop .at + 3 ≤ length (c .before .before .before .args .s .now)
+  inside : c .before .loop .at + recordHead ≤ length (c .before .before .before .args .s .now)
   inside = let q = on-inside walk (c .loop-test .taken) in omega arith
 
 follow-requires : tie.Need-follow-requires Inv-loop μ-loop

@@ -16,7 +16,7 @@ use Rattle.verdict.specs.declared.Verdict.the-variants.{Accepted, Malformed}
 use Rattle.algebra.proofs.Tests.{and-split}
 use Rattle.algebra.proofs.Signed.{cast-ok}
 use Rattle.channel.specs.declared.Shape.{Shape}
-use Rattle.channel.specs.Layout.{word, recordSize, dimAt}
+use Rattle.channel.specs.Layout.{headerSize, word, recordSize, dimAt}
 use Rattle.channel.specs.WellFormed.{isDim, counted, headerOk}
 use Rattle.channel.specs.Inner.Shapes.{shapeBy, noShape}
 use Rattle.store.proofs.Words.{Casts, read, casts-up, up-abs}
@@ -39,8 +39,8 @@ module _ (c : tie.After-count) where
   count : SFits w64 (word (words c) 2)
   count = record { sfits = c .count .given }
 
-  long : leb 4 (length (words c)) ≡ true
-  long = le-leb 4 _ (c .before .before .before .if1 .left)
+  long : leb headerSize (length (words c)) ≡ true
+  long = le-leb headerSize _ (c .before .before .before .if1 .left)
 
 -- dimension and bit count
 both : (c : tie.After-up-to) → (c .before .is-dim .result && c .up-to .result) ≡ (isDim (word (words (c .before .before)) 0) && upTo 64 (word (words (c .before .before)) 1))
@@ -64,20 +64,20 @@ counts : (c : tie.After-up-to2) → c .up-to2 .result ≡ counted (words (a (c .
 counts c =
     let l = words (a (c .before .before)) in
     c .up-to2 .ensures
-    ∙ (λ i. upTo ((length l - 4) / c .before .record-size .ensures i) (toZ-ofZ (count (a (c .before .before))) i))
-    ∙ ap (λ (z : ℤ). upTo ((length l - 4) / recordSize (natAbs z * natAbs z)) (word l 2)) (toZ-ofZ (dim (a (c .before .before))))
+    ∙ (λ i. upTo ((length l - headerSize) / c .before .record-size .ensures i) (toZ-ofZ (count (a (c .before .before))) i))
+    ∙ ap (λ (z : ℤ). upTo ((length l - headerSize) / recordSize (natAbs z * natAbs z)) (word l 2)) (toZ-ofZ (dim (a (c .before .before))))
 
 -- the header by its three tests
 refused : (l : List ℤ) (s : Shape) → s ≡ noShape Malformed → headerOk l ≡ false → s ≡ shapeBy (verdictBy (headerOk l)) l
 refused l s e f = e ∙ ap (λ (b : Bool). shapeBy (verdictBy b) l) (sym f)
 
-malformed-requires : tie.Need-malformed-requires
-malformed-requires c κs = search needs
+no-shape-requires : tie.Need-no-shape-requires
+no-shape-requires c κs = search needs
 
 returns : tie.Need-returns
 returns c =
     let l = c .before .before .args .s .now in
-    refused l _ (c .malformed .ensures) (ap (λ (b : Bool). b && ((isDim (word l 0) && upTo 64 (word l 1)) && counted l)) (lt-leb 4 (length l) (c .before .if1 .taken)))
+    refused l _ (c .no-shape .ensures) (ap (λ (b : Bool). b && ((isDim (word l 0) && upTo 64 (word l 1)) && counted l)) (lt-leb headerSize (length l) (c .before .if1 .taken)))
 
 shared-slice-copy-out-dim : tie.Need-shared-slice-copy-out-dim
 shared-slice-copy-out-dim c = search needs
@@ -94,14 +94,14 @@ is-dim-requires c κs = search needs
 up-to-requires : tie.Need-up-to-requires
 up-to-requires c κs = search needs
 
-malformed-requires-2 : tie.Need-malformed-requires-2
-malformed-requires-2 c κs = search needs
+no-shape-requires-2 : tie.Need-no-shape-requires-2
+no-shape-requires-2 c κs = search needs
 
 returns-2 : tie.Need-returns-2
 returns-2 c =
     let u = c .before .before in
     let l = words (u .before .before) in
-    refused l _ (c .malformed2 .ensures) (λ i. long (u .before .before) i && ((sym (both u) ∙ not-true _ (c .before .if2 .taken)) i && counted l))
+    refused l _ (c .no-shape2 .ensures) (λ i. long (u .before .before) i && ((sym (both u) ∙ not-true _ (c .before .if2 .taken)) i && counted l))
 
 cast-d : tie.Need-cast-d
 cast-d c = read (dim (a c)) (Casts w64) (cast-ok 16 (word (words (a c)) 0) (range c .0) (record { fits = lit< tt }))
@@ -121,27 +121,27 @@ div-most c = search needs
 up-to-requires-2 : tie.Need-up-to-requires-2
 up-to-requires-2 c κs = search needs
 
-malformed-requires-3 : tie.Need-malformed-requires-3
-malformed-requires-3 c κs = search needs
+no-shape-requires-3 : tie.Need-no-shape-requires-3
+no-shape-requires-3 c κs = search needs
 
 returns-3 : tie.Need-returns-3
 returns-3 c =
     let u = c .before .before in
     let e = u .before .before in
     let l = words (a e) in
-    refused l _ (c .malformed3 .ensures) (λ i. long (a e) i && (right e i && (sym (counts u) ∙ not-true _ (c .before .if3 .taken)) i))
+    refused l _ (c .no-shape3 .ensures) (λ i. long (a e) i && (right e i && (sym (counts u) ∙ not-true _ (c .before .if3 .taken)) i))
 
-cast-t20 : tie.Need-cast-t20
-cast-t20 c =
+cast-m : tie.Need-cast-m
+cast-m c =
     let e = c .before .before .before in
     let l = words (a e) in
     read (bits (a e)) (Casts w32) (cast-ok 64 (word l 1) (and-split (isDim (word l 0)) (upTo 64 (word l 1)) (right e) .1) (record { fits = lit< tt }))
 
-cast-t17 : tie.Need-cast-t17
-cast-t17 c =
+cast-n : tie.Need-cast-n
+cast-n c =
     let e = c .before .before .before in
     let l = words (a e) in
-    read (count (a e)) (Casts w64) (casts-up ((length l - 4) / recordSize (dimAt l * dimAt l)) (word l 2) (count (a e)) (sym (counts (c .before)) ∙ not-false _ (c .if3 .left)))
+    read (count (a e)) (Casts w64) (casts-up ((length l - headerSize) / recordSize (dimAt l * dimAt l)) (word l 2) (count (a e)) (sym (counts (c .before)) ∙ not-false _ (c .if3 .left)))
 
 returns-4 : tie.Need-returns-4
 returns-4 c =
@@ -158,14 +158,14 @@ pub header-spec : {M : Type 1} → statement M
 header-spec =
     tie.close
     (tie.spec
-    malformed-requires
+    no-shape-requires
     returns
     shared-slice-copy-out-dim
     shared-slice-copy-out-bits
     shared-slice-copy-out-count
     is-dim-requires
     up-to-requires
-    malformed-requires-2
+    no-shape-requires-2
     returns-2
     cast-d
     mul-record-size
@@ -173,8 +173,8 @@ header-spec =
     sub-most
     div-most
     up-to-requires-2
-    malformed-requires-3
+    no-shape-requires-3
     returns-3
-    cast-t20
-    cast-t17
+    cast-m
+    cast-n
     returns-4)

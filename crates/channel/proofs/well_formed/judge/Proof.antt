@@ -58,14 +58,14 @@ mul-chain-ok c = let r = room c .width in omega arith
 chain-ok-requires : tie.Need-chain-ok-requires
 chain-ok-requires c κs = room c
 
-malformed-requires : tie.Need-malformed-requires
-malformed-requires c κs = search needs
+no-shape-requires : tie.Need-no-shape-requires
+no-shape-requires c κs = search needs
 
 returns-2 : tie.Need-returns-2
 returns-2 c =
     let k = c .before .before in
     let e = k .before in
-    shape-of (words (e .before)) false _ (c .malformed .ensures) (well-formed (words (e .before)) false (right e) (sym (chains k) ∙ not-true _ (c .before .if2 .taken)))
+    shape-of (words (e .before)) false _ (c .no-shape .ensures) (well-formed (words (e .before)) false (right e) (sym (chains k) ∙ not-true _ (c .before .if2 .taken)))
 
 returns-3 : tie.Need-returns-3
 returns-3 c =
@@ -82,6 +82,6 @@ judge-spec =
     returns
     mul-chain-ok
     chain-ok-requires
-    malformed-requires
+    no-shape-requires
     returns-2
     returns-3)
