@@ -1,6 +1,6 @@
 -- Overlaps written as a block, or added to one: zero factors, conjugates of what stands in a column, and a block while its rows are written.
 use mathlib.Core.Path.{_≡_, sym, ap, _∙_, subst}
-use mathlib.Core.Bool.{true, _&&_}
+use mathlib.Core.Bool.{Bool, true, _&&_}
 use mathlib.Core.List.{List}
 use mathlib.Core.Logic.{inl}
 use Prim.Native.Nat.{ℕ, _+_, _*_, _-_, _/_, _%_, _^_, _≤_, _<_}
@@ -24,7 +24,7 @@ use Rattle.cells.proofs.Cell.{cell-same, exponent-same, cell-filled, exponent-f
 use Rattle.matrix.specs.Inner.Factors.{Factor}
 use Rattle.matrix.proofs.Terms.{zero-by, zero-left, zero-right}
 use Rattle.matrix.proofs.Rows.{zero-cells}
-use Rattle.collect.specs.Inner.Overlap.{sumNumerator, overlap, overlapped, blockOverlap, blockOverlapped, Readable, Sum, Row, Column, Mirrored, NewRow, AddedRow, NewBlock, Block}
+use Rattle.collect.specs.Inner.Overlap.{sumNumerator, overlap, overlapped, blockOverlap, blockOverlapped, Readable, Sum, Row, Column, Mirrored, NewRow, AddedRow, MirroredRow, NewBlock, Block}
 use Rattle.collect.proofs.Words.{cell-there, fill-there}
 use Rattle.collect.proofs.Sizes.{conj-coords, factor-fits, Fits, product-fits, sum-fits}
 
@@ -108,19 +108,22 @@ module _ {l : List ℤ} {out w r : ℕ} (col : Column l out w r) {b : List ℤ} 
   column-is = ap conj (cell-same column-same)
 
 -- where a zero is passed over, the conjugate is there
-pub mirrored : {l : List ℤ} {out : ℕ} {m : List ℤ} {k w r : ℕ} (a : AddedRow l out m k w r) {b : List ℤ} {c : ℕ} → Mirroring l out w r b c → c < r
-    → Mirrored b (out + (c * w + r) * cellSize) (out + r * w * cellSize + c * cellSize) m (k + c * cellSize)
+pub mirrored : {l : List ℤ} {out : ℕ} {m : List ℤ} {k w r : ℕ} {t : Bool} (a : MirroredRow l out m k w r t) {b : List ℤ} {c : ℕ} → Mirroring l out w r b c → c < r
+    → Mirrored b (out + (c * w + r) * cellSize) (out + r * w * cellSize + c * cellSize) m (k + c * cellSize) t
 mirrored {l} {out} {m} {k} {w} {r} a {b} {c} ws hc =
     record {
       source = column-readable (a .column) ws hc;
       room = omega (arith, own-room (a .column) ws hc, long ws);
-      exponent = exponent-same (own-same (a .column) ws hc) ∙ a .row .sums c cw .exponent;
-      factor = a .row .entries .factors c cw .room;
-      there = λ z. column-is (a .column) ws hc ∙ a .mirror c hc ∙ right-none l (out + r * w * cellSize + c * cellSize) (cellAt m (k + r * cellSize)) m (k + c * cellSize) (a .row .sums c cw .lowest) z ∙ sym (cell-same (own-same (a .column) ws hc));
+      factor = a .factors c cw .room;
+      exponent = λ e. exponent-same own ∙ a .sums e .row .sums c cw .exponent;
+      there = λ e z. column-is (a .column) ws hc ∙ a .sums e .mirror c hc ∙ right-none l _ (cellAt m (k + r * cellSize)) m (k + c * cellSize) (a .sums e .row .sums c cw .lowest) z ∙ sym (cell-same own);
     }
   where
     cw : c < w
     cw = omega (arith, a .column .inside)
+
+    own : Same b l (out + r * w * cellSize + c * cellSize) cellSize
+    own = own-same (a .column) ws hc
 
 -- ---- a row in two parts
 two-parts : (l : List ℤ) (to r w : ℕ) (f : ℕ → Exact) {b n : List ℤ} → r < w → b ≡ fill l to r f → n ≡ fill b (to + r * cellSize) (w - r) (λ (i : ℕ). f (r + i)) → n ≡ fill l to w f

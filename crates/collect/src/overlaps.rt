@@ -18,7 +18,7 @@ ghost use Rattle.exact.specs.Inner.Sizes.{Coords};
 ghost use Rattle.scalar.specs.Calls.{value, scalarOf};
 ghost use Rattle.cells.specs.Cells.{cellSize, cellAt, cellWords, fill};
 ghost use Rattle.matrix.specs.Inner.Factors.{Factor};
-ghost use Rattle.collect.specs.Inner.Overlap.{overlap, overlapped, rowOverlap, rowOverlapped, blockOverlap, blockOverlapped, Readable, Sum, Entries, Row, Column, Mirrored, NewRow, AddedRow, NewBlock, Block};
+ghost use Rattle.collect.specs.Inner.Overlap.{overlap, overlapped, rowOverlap, rowOverlapped, blockOverlap, blockOverlapped, Readable, Sum, Entries, Row, Mirrored, NewRow, AddedRow, MirroredRow, NewBlock, Block};
 
 // The conjugate of the scalar at `at`.
 fn read_conj(s: &[i64], at: usize) -> Scalar
@@ -96,42 +96,41 @@ fn add_row(result: &mut [i64], to: usize, work: &[i64], p: usize, k: usize, w: u
     }
 }
 
-// Write the conjugates of the first r scalars of column r of the block at `out`, of w columns, to row r.
-fn mirror_column(s: &mut [i64], out: usize, w: usize, r: usize)
-    requires { ⌜ Column (now s) out w r ⌝ }
-    ensures { λ _. ⌜ now (s .exit) ≡ fill (now (s .entry)) (out + r * w * cellSize) r (λ c. conj (cellAt (now (s .entry)) (out + (c * w + r) * cellSize))) ⌝ }
-{
-    let mut c = 0;
-    while c < r {
-        write_conj(s, out + (c * w + r) * CELL, out + r * w * CELL + c * CELL);
-        c += 1;
-    }
-}
-
-// Write the conjugate of the scalar at `from` to `at`, where it stands already if the scalar at q of `work` is zero.
-fn mirror_sum(result: &mut [i64], from: usize, at: usize, work: &[i64], q: usize)
-    requires { ⌜ Mirrored (now result) from at (now work) q ⌝ }
+// Write the conjugate of the scalar at `from` to `at`; if `added`, it stands there already where the scalar at q of `work` is zero.
+fn mirror_entry(result: &mut [i64], from: usize, at: usize, work: &[i64], q: usize, added: bool)
+    requires { ⌜ Mirrored (now result) from at (now work) q added ⌝ }
     ensures { λ _. ⌜ now (result .exit) ≡ sets (now (result .entry)) at (cellWords (conj (cellAt (now (result .entry)) from))) ⌝ }
 {
-    if zero_at(work, q) {
-        return;
+    if added {
+        if zero_at(work, q) {
+            return;
+        }
     }
     write_conj(result, from, at);
 }
 
-// The same, where the conjugates of those stand already that belong to a zero of the scalars from k on of `work`.
-fn mirror_sums(result: &mut [i64], out: usize, work: &[i64], k: usize, w: usize, r: usize)
-    requires { ⌜ AddedRow (now result) out (now work) k w r ⌝ }
+// Write the conjugates of the first r scalars of column r of the block at `out`, of w columns, to row r; if `added`, those stand there already that belong to a zero of the scalars from k on of `work`.
+fn mirror_column(
+    result: &mut [i64],
+    out: usize,
+    work: &[i64],
+    k: usize,
+    w: usize,
+    r: usize,
+    added: bool,
+)
+    requires { ⌜ MirroredRow (now result) out (now work) k w r added ⌝ }
     ensures { λ _. ⌜ now (result .exit) ≡ fill (now (result .entry)) (out + r * w * cellSize) r (λ c. conj (cellAt (now (result .entry)) (out + (c * w + r) * cellSize))) ⌝ }
 {
     let mut c = 0;
     while c < r {
-        mirror_sum(
+        mirror_entry(
             result,
             out + (c * w + r) * CELL,
             out + r * w * CELL + c * CELL,
             work,
             k + c * CELL,
+            added,
         );
         c += 1;
     }
@@ -142,7 +141,7 @@ fn write_block_row(result: &mut [i64], out: usize, work: &[i64], k: usize, w: us
     requires { ⌜ NewRow (now result) out (now work) k w r ⌝ }
     ensures { λ _. ⌜ now (result .exit) ≡ fill (now (result .entry)) (out + r * w * cellSize) w (rowOverlap (now (work .entry)) (k + r * cellSize) k) ⌝ }
 {
-    mirror_column(result, out, w, r);
+    mirror_column(result, out, work, k, w, r, false);
     let p = k + r * CELL;
     write_row(result, out + r * w * CELL + r * CELL, work, p, p, w - r);
 }
@@ -156,7 +155,7 @@ fn add_block_row(result: &mut [i64], out: usize, work: &[i64], k: usize, w: usiz
     if zero_at(work, p) {
         return;
     }
-    mirror_sums(result, out, work, k, w, r);
+    mirror_column(result, out, work, k, w, r, true);
     add_row(result, out + r * w * CELL + r * CELL, work, p, p, w - r);
 }
 

@@ -1,6 +1,6 @@
 -- Overlaps of a Kraus matrix's entries, written as a block in words or added to one, and what that asks.
 use mathlib.Core.Path.{_≡_}
-use mathlib.Core.Bool.{true}
+use mathlib.Core.Bool.{Bool, true}
 use mathlib.Core.List.{List}
 use Prim.Native.Nat.{ℕ, _+_, _*_, _/_, _%_, _^_, _<_, _≤_}
 use lib.ListN.{length}
@@ -69,13 +69,13 @@ pub record Column (l : List ℤ) (out w r : ℕ) : Type 0 where
   pub room : out + w * w * cellSize ≤ length l
   pub cells : (c : ℕ) → c < r → Readable l (out + (c * w + r) * cellSize)
 
--- a number, and a place for its conjugate, which stands there if the number at q of m is zero
-pub record Mirrored (l : List ℤ) (from at : ℕ) (m : List ℤ) (q : ℕ) : Type 0 where
+-- a number, and a place for its conjugate; if `added`, it stands there where the number at q of m is zero
+pub record Mirrored (l : List ℤ) (from at : ℕ) (m : List ℤ) (q : ℕ) (added : Bool) : Type 0 where
   pub source : Readable l from
   pub room : at + cellSize ≤ length l
-  pub exponent : exponentAt l at ≡ true
   pub factor : q + cellSize ≤ length m
-  pub there : zeroAt m q ≡ true → conj (cellAt l from) ≡ cellAt l at
+  pub exponent : added ≡ true → exponentAt l at ≡ true
+  pub there : added ≡ true → zeroAt m q ≡ true → conj (cellAt l from) ≡ cellAt l at
 
 -- row r of the block of the w factors from k on, where column r has its first r overlaps
 pub record NewRow (l : List ℤ) (out : ℕ) (m : List ℤ) (k w r : ℕ) : Type 0 where
@@ -88,6 +88,12 @@ pub record AddedRow (l : List ℤ) (out : ℕ) (m : List ℤ) (k w r : ℕ) : Ty
   pub column : Column l out w r
   pub row : Row l (out + r * w * cellSize) m (k + r * cellSize) k w
   pub mirror : (c : ℕ) → c < r → conj (cellAt l (out + (c * w + r) * cellSize)) ≡ overlapped l (out + r * w * cellSize + c * cellSize) (cellAt m (k + r * cellSize)) m (k + c * cellSize)
+
+-- either of the two
+pub record MirroredRow (l : List ℤ) (out : ℕ) (m : List ℤ) (k w r : ℕ) (added : Bool) : Type 0 where
+  pub column : Column l out w r
+  pub factors : (c : ℕ) → c < w → Factor m (k + c * cellSize)
+  pub sums : added ≡ true → AddedRow l out m k w r
 
 -- a place for the block of the w factors from k on
 pub record NewBlock (l : List ℤ) (out : ℕ) (m : List ℤ) (k w : ℕ) : Type 0 where

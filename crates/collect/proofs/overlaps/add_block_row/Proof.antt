@@ -5,7 +5,7 @@ use borrow.Author.Needs.{needs}
 use Rattle.collect.proofs.overlaps.add_block_row.Statement.{statement}
 use Rattle.collect.proofs.overlaps.add_block_row.Tie as tie
 
-abbrev start : tie.After-mirror-sums → tie.Start
+abbrev start : tie.After-mirror-column → tie.Start
 start c = c .before .before .before .before
 
 mul-p : tie.Need-mul-p
@@ -22,8 +22,10 @@ returns c =
     let z = c .before in
     row-none (z .before .pre .row) (sym (z .zero-at .ensures) ∙ c .if1 .taken)
 
-mirror-sums-requires : tie.Need-mirror-sums-requires
-mirror-sums-requires c κs = search needs
+mirror-column-requires : tie.Need-mirror-column-requires
+mirror-column-requires c κs =
+    let p = c .before .before .before .pre in
+    record { column = p .column; factors = p .row .entries .factors; sums = λ e. p }
 
 mul-add-row : tie.Need-mul-add-row
 mul-add-row c = search needs
@@ -48,7 +50,7 @@ add-row-requires c κs =
     let m = c .before .before in
     let s = start m in
     let n = s .args in
-    later-row (n .result .now) (n .out) (n .work .now) (n .k) (n .w) (n .r) (s .pre) (m .mirror-sums .ensures)
+    later-row (n .result .now) (n .out) (n .work .now) (n .k) (n .w) (n .r) (s .pre) (m .mirror-column .ensures)
 
 same-length : tie.Need-same-length
 same-length c = search needs
@@ -59,7 +61,7 @@ returns-2 c =
     let m = a .before .before .before in
     let s = start m in
     let n = s .args in
-    added-row (n .result .now) (n .out) (n .work .now) (n .k) (n .w) (n .r) (s .pre) (m .mirror-sums .ensures) (a .add-row .ensures)
+    added-row (n .result .now) (n .out) (n .work .now) (n .k) (n .w) (n .r) (s .pre) (m .mirror-column .ensures) (a .add-row .ensures)
 
 pub add-block-row-spec : {M : Type 1} → statement M
 add-block-row-spec =
@@ -69,7 +71,7 @@ add-block-row-spec =
     add-p
     zero-at-requires
     returns
-    mirror-sums-requires
+    mirror-column-requires
     mul-add-row
     mul-add-row-2
     add-add-row

@@ -1,6 +1,8 @@
 -- `collect::overlaps::write_block_row` meets its contract.
+use mathlib.Core.Path.{sym, subst}
 use Prim.Native.Nat.{_+_, _*_, _≤_}
 use native.Mathlib.Omega.{arith}
+use lib.Dec.{T}
 use lib.ListN.{length}
 use Rattle.algebra.proofs.Blocks.{block-in}
 use Rattle.cells.specs.Cells.{cellSize}
@@ -20,7 +22,7 @@ abbrev start : tie.After-mirror-column → tie.Start
 start c = c .before .before
 
 mirror-column-requires : tie.Need-mirror-column-requires
-mirror-column-requires c κs = search needs
+mirror-column-requires c κs = record { column = c .before .pre .column; factors = c .before .pre .factors; sums = λ e. absurd (subst T (sym e) tt) }
 
 mul-p : tie.Need-mul-p
 mul-p c = omega (arith, factor-in (start (c .before)))
