@@ -2,3 +2,4 @@ pub mod Summing
 pub mod Linking
 pub mod Strides
 pub mod Records
+pub mod Answers

@@ -33,4 +33,4 @@ record-less {d} m = let p : d ≤ d * d = by d (m .some) in let q = mul-le-mul p
 
 -- so the matching index is no greater
 pub link-less : (a s t : ℕ) → t ≤ s → headerSize ≤ a → headerSize + (a - headerSize) / s * t ≤ a
-link-less a s t h k = let p = mul-le-mul (le-refl ((a - 4) / s)) h in let q = div-add-mod' (a - 4) s in omega arith
+link-less a s t h k = let p = mul-le-mul (le-refl ((a - headerSize) / s)) h in let q = div-add-mod' (a - headerSize) s in omega arith

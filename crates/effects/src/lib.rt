@@ -1,11 +1,13 @@
 // The effects of a channel's blocks. The sums are tried before the first word is written, so that a refusal leaves the result as it was.
 use cells::write_cell;
+use channel::Shape;
 use channel::layout::ENTRY;
 use channel::layout::HEADER;
 use channel::layout::RECORD_HEAD;
 use channel::layout::read_entry;
 use channel::layout::record_size;
 use channel::well_formed::judge;
+use channel::well_formed::no_shape;
 use scalar::Answer;
 use scalar::Scalar;
 use scalar::ZERO;
@@ -21,8 +23,9 @@ ghost use Rattle.scalar.specs.Calls.{accepted, refusedWith};
 ghost use Rattle.verdict.specs.declared.Verdict.the-variants.{TooLarge};
 ghost use Rattle.cells.specs.Cells.{fill};
 ghost use Rattle.channel.specs.Layout.{headerSize, blockSize, recordSize, word};
-ghost use Rattle.effects.specs.Effects.{termPlace, term, effectAt, partialsFit, recordFits, sumsFit, relink, effectHeader, effectRecord, withRecords, effectsVerdict, resultOf};
-ghost use Rattle.effects.specs.Inner.Readable.{Dim, Readable, Records, Linked};
+ghost use Rattle.channel.specs.Inner.Shapes.{shapeBy};
+ghost use Rattle.effects.specs.Effects.{termPlace, term, effectAt, partialsFit, recordFits, sumsFit, relink, effectHeader, effectRecord, withRecords, effectsWords, effectsVerdict, resultOf};
+ghost use Rattle.effects.specs.Inner.Readable.{Dim, Readable, Records, Linked, Ready};
 ghost use Rattle.effects.specs.Inner.Strides.{strided, stridedAt, Strides};
 
 // The place in a block of its entry (o·d + r, o·d + c), for i = r·d + c.
@@ -197,27 +200,48 @@ fn write_header(s: &[i64], d: usize, result: &mut [i64])
     result[3] = link;
 }
 
+// The verdict on a channel and on the result that its effects go to, and the channel's header; its numbers are 0 where that is a refusal.
+fn judge_effects(channel: &[i64], result: &[i64]) -> Shape
+    ensures { λ r. ⌜ r ≡ shapeBy (effectsVerdict (now (channel .entry)) (now (result .entry))) (now (channel .entry)) ⌝ }
+{
+    let h = judge(channel);
+    let v = h.verdict;
+    if !v.is_accepted() {
+        return h;
+    }
+    let d = h.dim;
+    let n = h.count;
+    let size = record_size(d);
+    if result.len() < HEADER + n * size {
+        return no_shape(Verdict::ShortBuffer);
+    }
+    if !sums_fit(channel, d, n) {
+        return no_shape(Verdict::TooLarge);
+    }
+    h
+}
+
+// Write the effects' words.
+fn write_effects(s: &[i64], d: usize, n: usize, rows: usize, cols: usize, result: &mut [i64])
+    requires { ⌜ Ready (now s) (now result) d n × Strides d rows cols ⌝ }
+    ensures { λ _. ⌜ now (result .exit) ≡ effectsWords (stridedAt rows cols) (now (s .entry)) (now (result .entry)) ⌝ }
+{
+    write_header(s, d, result);
+    write_records(s, d, n, rows, cols, result);
+}
+
 // The effect of each store's block, d² entries each, in the channel's own order: entry (r, c) sums block entry (o·d + r, o·d + c)
 // over o from 0 up. A refusal leaves the result as it was.
 pub fn classical_blocks(channel: &[i64], result: &mut [i64]) -> Verdict
     ensures verdict { λ r. ⌜ r ≡ effectsVerdict (now (channel .entry)) (now (result .entry)) ⌝ }
     ensures words { λ r. ⌜ now (result .exit) ≡ resultOf (now (channel .entry)) (now (result .entry)) ⌝ }
 {
-    let h = judge(channel);
+    let h = judge_effects(channel, result);
     let v = h.verdict;
     if !v.is_accepted() {
         return v;
     }
     let d = h.dim;
-    let n = h.count;
-    let size = record_size(d);
-    if result.len() < HEADER + n * size {
-        return Verdict::ShortBuffer;
-    }
-    if !sums_fit(channel, d, n) {
-        return Verdict::TooLarge;
-    }
-    write_header(channel, d, result);
-    write_records(channel, d, n, d, 1, result);
-    Verdict::Accepted
+    write_effects(channel, d, h.count, d, 1, result);
+    v
 }

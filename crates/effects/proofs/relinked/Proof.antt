@@ -9,7 +9,7 @@ use lib.Signed.{nonNeg}
 use mir.Syntax.{w64}
 use mir.Val.{SFits, toZ, ofZ}
 use mir.Facts.{toZ-ofZ, toZ-pos}
-use Rattle.channel.specs.Layout.{recordSize, side}
+use Rattle.channel.specs.Layout.{headerSize, recordSize, side}
 use Rattle.store.proofs.Words.{Casts, read, fits-abs}
 use Rattle.effects.specs.Effects.{relink}
 use Rattle.effects.proofs.Summing.{dim-square}
@@ -18,16 +18,16 @@ use borrow.Author.Needs.{needs}
 use Rattle.effects.proofs.relinked.Statement.{statement}
 use Rattle.effects.proofs.relinked.Tie as tie
 
-starts : (c : tie.Else1) → T (nonNeg (c .before .args .z)) × (4 ≤ natAbs (c .before .args .z))
+starts : (c : tie.Else1) → T (nonNeg (c .before .args .z)) × (headerSize ≤ natAbs (c .before .args .z))
 starts c = let s = c .before in link-start (s .args .d) (s .args .z) (s .fits .z) (s .pre) (c .if1 .left)
 
 -- the matching index is no greater
-less : (c : tie.After-record-size2) → 4 + (natAbs (toZ w64 (ofZ w64 (c .before .before .before .args .z))) - 4) / c .before .record-size .result * c .record-size2 .result < 2 ^ 63
+less : (c : tie.After-record-size2) → headerSize + (natAbs (toZ w64 (ofZ w64 (c .before .before .before .args .z))) - headerSize) / c .before .record-size .result * c .record-size2 .result < 2 ^ 63
 less c =
     let s = c .before .before .before in
     let d = s .args .d in
     let bound : natAbs (s .args .z) < 2 ^ 63 = small (s .args .z) (s .fits .z) (starts (c .before .before) .0) in
-    subst (λ (n : ℕ). n < 2 ^ 63) (sym (λ i. 4 + (natAbs (toZ-ofZ (s .fits .z) i) - 4) / c .before .record-size .ensures i * c .record-size2 .ensures i))
+    subst (λ (n : ℕ). n < 2 ^ 63) (sym (λ i. headerSize + (natAbs (toZ-ofZ (s .fits .z) i) - headerSize) / c .before .record-size .ensures i * c .record-size2 .ensures i))
     (lt-of-le-of-lt (link-less (natAbs (s .args .z)) (recordSize (side d)) (recordSize d) (record-less (s .pre .dim)) (starts (c .before .before) .1)) bound)
   where
     small : (z : ℤ) → SFits w64 z → T (nonNeg z) → natAbs z < 2 ^ 63
@@ -47,7 +47,7 @@ cast-place : tie.Need-cast-place
 cast-place c = let s = c .before .before in let k = starts (c .before) in read (s .fits .z) (Casts w64) (k .0, fits-abs (s .args .z) (s .fits .z) (k .0))
 
 sub-place : tie.Need-sub-place
-sub-place c = let s = c .before .before in read (s .fits .z) (λ (z : ℤ). 4 ≤ natAbs z) (starts (c .before) .1)
+sub-place c = let s = c .before .before in read (s .fits .z) (λ (z : ℤ). headerSize ≤ natAbs z) (starts (c .before) .1)
 
 div-place : tie.Need-div-place
 div-place c = search needs
@@ -68,7 +68,7 @@ returns-2 : tie.Need-returns-2
 returns-2 c =
     let s = c .before .before .before in
     toZ-pos w64 (less c)
-    ∙ (λ i. pos (4 + (natAbs (toZ-ofZ (s .fits .z) i) - 4) / c .before .record-size .ensures i * c .record-size2 .ensures i))
+    ∙ (λ i. pos (headerSize + (natAbs (toZ-ofZ (s .fits .z) i) - headerSize) / c .before .record-size .ensures i * c .record-size2 .ensures i))
     ∙ sym (relink-at (s .args .d) (s .args .z) (s .pre .index) (starts (c .before .before) .1))
 
 pub relinked-spec : {M : Type 1} → statement M

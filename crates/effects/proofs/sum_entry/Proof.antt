@@ -10,7 +10,7 @@ use Rattle.exact.specs.Exact.{Exact, wellFormed}
 use Rattle.verdict.specs.declared.Verdict.the-variants.{TooLarge}
 use Rattle.scalar.specs.Calls.{scalarOf, acceptedAs, accepted, refusedWith}
 use Rattle.cells.specs.Cells.{exponentAt, wellFormedAt}
-use Rattle.channel.specs.Layout.{entryPlace, entryAt, recordSize, side}
+use Rattle.channel.specs.Layout.{entrySize, entryPlace, entryAt, recordSize, side}
 use Rattle.effects.specs.Effects.{term, effectAt}
 use Rattle.effects.proofs.Summing.{place-below, Summed, stops, goes-on, done}
 use Rattle.effects.proofs.sum_entry.Statement.{statement}
@@ -31,12 +31,14 @@ module _ (c : tie.After-term-place Inv-loop μ-loop) where
   start = c .before .before .before
 
   below : c .term-place .result < side (start .args .d) * side (start .args .d)
-  below = subst (λ (k : ℕ). k < side (start .args .d) * side (start .args .d)) (sym (c .term-place .ensures)) (place-below (start .args .d) (start .args .i) (c .before .before .loop .o) (start .pre .0 .dim) (start .pre .1) (c .before .loop-test .taken))
+  below =
+      let p = place-below (start .args .d) (start .args .i) (c .before .before .loop .o) (start .pre .0 .dim) (start .pre .1) (c .before .loop-test .taken) in
+      subst (λ (k : ℕ). k < side (start .args .d) * side (start .args .d)) (sym (c .term-place .ensures)) p
 
-  inside : entryPlace (start .args .at) (c .term-place .result) + 5 ≤ length (start .args .s .now)
+  inside : entryPlace (start .args .at) (c .term-place .result) + entrySize ≤ length (start .args .s .now)
   inside = by (side (start .args .d)) (start .pre .0 .inside) below
     where
-      by : (v : ℕ) → start .args .at + recordSize v ≤ length (start .args .s .now) → c .term-place .result < v * v → entryPlace (start .args .at) (c .term-place .result) + 5 ≤ length (start .args .s .now)
+      by : (v : ℕ) → start .args .at + recordSize v ≤ length (start .args .s .now) → c .term-place .result < v * v → entryPlace (start .args .at) (c .term-place .result) + entrySize ≤ length (start .args .s .now)
       by v p q = omega arith
 
   right : wellFormedAt (start .args .s .now) (entryPlace (start .args .at) (c .term-place .result)) ≡ true

@@ -1,4 +1,4 @@
--- What the effects' inner calls know of the records that they read.
+-- What the effects' inner calls know of the channel and its records, and of the result.
 use mathlib.Core.Path.{_≡_}
 use mathlib.Core.Bool.{true}
 use mathlib.Core.List.{List}
@@ -6,7 +6,9 @@ use Prim.Native.Nat.{ℕ, _+_, _*_, _<_, _≤_}
 use lib.ListN.{length}
 use lib.IntN.{ℤ, pos, natAbs}
 use Rattle.cells.specs.Cells.{wellFormedAt}
-use Rattle.channel.specs.Layout.{headerSize, recordSize, recordAt, entryPlace, side, word}
+use Rattle.channel.specs.Layout.{headerSize, recordSize, recordAt, entryPlace, side, word, dimAt, countAt}
+use Rattle.channel.specs.WellFormed.{wellFormed}
+use Rattle.effects.specs.Effects.{sumsFit}
 
 -- a dimension
 pub record Dim (d : ℕ) : Type 0 where
@@ -31,3 +33,11 @@ pub record Records (l : List ℤ) (d n : ℕ) : Type 0 where
   pub dim : Dim d
   pub inside : recordAt (side d) n ≤ length l
   pub each : (j : ℕ) → j < n → Readable l (recordAt (side d) j) d
+
+-- a channel of dimension d with n blocks, and a result, that the call accepts
+pub record Ready (l res : List ℤ) (d n : ℕ) : Type 0 where
+  pub form : wellFormed l ≡ true
+  pub room : headerSize + countAt l * recordSize (dimAt l) ≤ length res
+  pub fit : sumsFit l (dimAt l) (countAt l) ≡ true
+  pub dim : d ≡ dimAt l
+  pub count : n ≡ countAt l
