@@ -15,23 +15,23 @@ use Rattle.scalar.specs.declared.Answer.{Answer}
 use Rattle.verdict.specs.Verdict.{accepted as isAccepted}
 use Rattle.verdict.specs.declared.Verdict.the-variants.{TooLarge, Malformed}
 use Rattle.scalar.specs.Calls.{value, scalarOf, accepted, refusedWith, fitting, addAnswer}
-use Rattle.channel.specs.Layout.{side}
-use Rattle.effects.specs.Effects.{termPlace, partialsFit}
+use Rattle.channel.specs.Layout.{side, effectPlace}
+use Rattle.effects.specs.Effects.{partialsFit}
 use Rattle.effects.specs.Inner.Readable.{Dim}
 
 -- ---- the places that are summed
 square : (d : ℕ) → d ≤ 16 → d * d ≤ 256
 square d h = mul-le-mul h h
 
-module _ (d i o : ℕ) (m : Dim d) (h : i < d * d) (k : o < d) where
-  pub place-row : o * d + i / d < d * d
-  place-row = digits-lt k (div-lt-iff-lt-mul (m .some) .1 h)
+module _ (d i : ℕ) (m : Dim d) (h : i < d * d) where
+  pub row-below : i / d < d
+  row-below = div-lt-iff-lt-mul (m .some) .1 h
 
-  pub place-col : o * d + i % d < d * d
-  place-col = digits-lt k (mod-lt i (m .some))
+  pub col-below : i % d < d
+  col-below = mod-lt i (m .some)
 
-  pub place-below : termPlace d i o < side d * side d
-  place-below = digits-lt place-row place-col
+pub place-below : (d r c o : ℕ) → r < d → c < d → o < d → effectPlace d r c o < side d * side d
+place-below d r c o p q k = digits-lt (digits-lt k p) (digits-lt k q)
 
 pub dim-square : {d : ℕ} → Dim d → d * d ≤ 256
 dim-square {d} m = square d (m .small)

@@ -18,12 +18,9 @@ use Rattle.channel.specs.Layout.{headerSize, recordSize, recordAt, side, word, 
 use Rattle.channel.specs.WellFormed.{formVerdict}
 
 -- ---- the effect of the block at `at`, of a channel of dimension d
--- block entry (o·d + r, o·d + c), for i = r·d + c
-abbrev pub termPlace : ℕ → ℕ → ℕ → ℕ
-termPlace d i o = effectPlace d (i / d) (i % d) o
-
+-- term o of the sum for i = r·d + c: block entry (o·d + r, o·d + c)
 abbrev pub term : List ℤ → ℕ → ℕ → ℕ → ℕ → Exact
-term l at d i o = entryAt l at (termPlace d i o)
+term l at d i o = entryAt l at (effectPlace d (i / d) (i % d) o)
 
 -- entry i, row · d + column, of the effect
 abbrev pub effectAt : List ℤ → ℕ → ℕ → ℕ → Exact

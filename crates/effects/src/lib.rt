@@ -22,20 +22,20 @@ ghost use lib.Seq.{sets};
 ghost use Rattle.scalar.specs.Calls.{accepted, refusedWith};
 ghost use Rattle.verdict.specs.declared.Verdict.the-variants.{TooLarge};
 ghost use Rattle.cells.specs.Cells.{fill};
-ghost use Rattle.channel.specs.Layout.{headerSize, blockSize, recordSize, word};
+ghost use Rattle.channel.specs.Layout.{headerSize, blockSize, recordSize, effectPlace, word};
 ghost use Rattle.channel.specs.Inner.Shapes.{shapeBy};
-ghost use Rattle.effects.specs.Effects.{termPlace, term, effectAt, partialsFit, recordFits, sumsFit, relink, effectHeader, effectRecord, withRecords, effectsWords, effectsVerdict, resultOf};
+ghost use Rattle.effects.specs.Effects.{term, effectAt, partialsFit, recordFits, sumsFit, relink, effectHeader, effectRecord, withRecords, effectsWords, effectsVerdict, resultOf};
 ghost use Rattle.effects.specs.Inner.Readable.{Dim, Readable, Records, Linked, Ready};
 ghost use Rattle.effects.specs.Inner.Strides.{strided, stridedAt, Strides};
 
-// The place in a block of its entry (o·d + r, o·d + c), for i = r·d + c.
-fn term_place(d: usize, i: usize, o: usize) -> usize
-    requires { ⌜ Dim d × ((i < d * d) × (o < d)) ⌝ }
-    ensures { λ r. ⌜ r ≡ termPlace d i o ⌝ }
+// The place in a block of its entry (o·d + r, o·d + c).
+fn term_place(d: usize, r: usize, c: usize, o: usize) -> usize
+    requires { ⌜ Dim d × ((r < d) × ((c < d) × (o < d))) ⌝ }
+    ensures { λ k. ⌜ k ≡ effectPlace d r c o ⌝ }
 {
     let w = d * d;
-    let row = o * d + i / d;
-    let col = o * d + i % d;
+    let row = o * d + r;
+    let col = o * d + c;
     row * w + col
 }
 
@@ -44,10 +44,12 @@ fn sum_entry(s: &[i64], at: usize, d: usize, i: usize) -> Answer
     requires { ⌜ Readable (now s) at d × (i < d * d) ⌝ }
     ensures { λ r. ⌜ r ≡ cond (partialsFit d (term (now (s .entry)) at d i)) (accepted (effectAt (now (s .entry)) at d i)) (refusedWith TooLarge) ⌝ }
 {
+    let r = i / d;
+    let c = i % d;
     let mut acc = ZERO;
     let mut o = 0;
     while o < d {
-        let k = term_place(d, i, o);
+        let k = term_place(d, r, c, o);
         let x = read_entry(s, at, k);
         let a = acc.add(x);
         let v = a.verdict;

@@ -1,7 +1,7 @@
 -- `sum_entry` meets its contract.
 use mathlib.Core.Path.{_≡_, refl, sym, ap, _∙_, subst}
 use mathlib.Core.Bool.{Bool, true, cond}
-use Prim.Native.Nat.{ℕ, _+_, _*_, _-_, _≤_, _<_}
+use Prim.Native.Nat.{ℕ, _+_, _*_, _-_, _/_, _%_, _≤_, _<_}
 use native.Mathlib.Omega.{arith}
 use lib.ListN.{length}
 use borrow.Author.Tests.{not-true, not-false}
@@ -12,18 +12,24 @@ use Rattle.scalar.specs.Calls.{scalarOf, acceptedAs, accepted, refusedWith}
 use Rattle.cells.specs.Cells.{exponentAt, wellFormedAt}
 use Rattle.channel.specs.Layout.{entrySize, entryPlace, entryAt, recordSize, side}
 use Rattle.effects.specs.Effects.{term, effectAt}
-use Rattle.effects.proofs.Summing.{place-below, Summed, stops, goes-on, done}
+use Rattle.effects.proofs.Summing.{row-below, col-below, place-below, Summed, stops, goes-on, done}
 use Rattle.effects.proofs.sum_entry.Statement.{statement}
 use Rattle.effects.proofs.sum_entry.Tie as tie
 
 abbrev Inv-loop : tie.InvT-loop
-Inv-loop s at d i acc₀ o₀ acc o = Summed (term s at d i) d o acc
+Inv-loop s at d i r c acc₀ o₀ acc o = Summed (term s at d i) d o acc
 
 abbrev μ-loop : tie.MeasureT-loop
-μ-loop s at d i acc₀ o₀ acc o = d - o
+μ-loop s at d i r c acc₀ o₀ acc o = d - o
 
 abbrev terms : tie.In-loop Inv-loop μ-loop → ℕ → Exact
 terms n = let s = n .before .before .args in term (s .s .now) (s .at) (s .d) (s .i)
+
+row : (s : tie.Start Inv-loop μ-loop) → s .args .i / s .args .d < s .args .d
+row s = row-below (s .args .d) (s .args .i) (s .pre .0 .dim) (s .pre .1)
+
+col : (s : tie.Start Inv-loop μ-loop) → s .args .i % s .args .d < s .args .d
+col s = col-below (s .args .d) (s .args .i) (s .pre .0 .dim) (s .pre .1)
 
 -- the term that comes next
 module _ (c : tie.After-term-place Inv-loop μ-loop) where
@@ -32,7 +38,7 @@ module _ (c : tie.After-term-place Inv-loop μ-loop) where
 
   below : c .term-place .result < side (start .args .d) * side (start .args .d)
   below =
-      let p = place-below (start .args .d) (start .args .i) (c .before .before .loop .o) (start .pre .0 .dim) (start .pre .1) (c .before .loop-test .taken) in
+      let p = place-below (start .args .d) _ _ (c .before .before .loop .o) (row start) (col start) (c .before .loop-test .taken) in
       subst (λ (k : ℕ). k < side (start .args .d) * side (start .args .d)) (sym (c .term-place .ensures)) p
 
   inside : entryPlace (start .args .at) (c .term-place .result) + entrySize ≤ length (start .args .s .now)
@@ -54,11 +60,17 @@ formed a =
     let t = a .before .before in
     subst (λ (k : ℕ). wellFormed (entryAt (start t .args .s .now) (start t .args .at) k) ≡ true) (t .term-place .ensures) (and-split (exponentAt (start t .args .s .now) (entryPlace (start t .args .at) (t .term-place .result))) _ (right t) .1)
 
+div-r : tie.Need-div-r Inv-loop μ-loop
+div-r c = let q = c .pre .0 .dim .some in omega arith
+
+rem-c : tie.Need-rem-c Inv-loop μ-loop
+rem-c c = let q = c .pre .0 .dim .some in omega arith
+
 loop-holds : tie.Need-loop-holds Inv-loop μ-loop
 loop-holds c = record { count = omega arith; is = refl; fit = refl }
 
 term-place-requires : tie.Need-term-place-requires Inv-loop μ-loop
-term-place-requires c κs = let s = c .before .before in (s .pre .0 .dim, (s .pre .1, c .loop-test .taken))
+term-place-requires c κs = let s = c .before .before in (s .pre .0 .dim, (row s, (col s, c .loop-test .taken)))
 
 read-entry-requires : tie.Need-read-entry-requires Inv-loop μ-loop
 read-entry-requires c κs = (inside c, and-split (exponentAt (start c .args .s .now) (entryPlace (start c .args .at) (c .term-place .result))) _ (right c) .0)
@@ -110,6 +122,8 @@ sum-entry-spec =
     (tie.spec
     Inv-loop
     μ-loop
+    div-r
+    rem-c
     loop-holds
     term-place-requires
     read-entry-requires
