@@ -14,7 +14,7 @@ ghost use Rattle.branches.specs.Inner.Bank.{branchSize, branchWords, ide
 ghost use Rattle.branches.specs.Inner.Step.{Step, stepWords};
 
 // The words of a row of an operator: its two entries.
-pub const ROW: usize = 10;
+pub const ROW: usize = 2 * CELL;
 
 // The words of a branch.
 pub fn branch_size(d: usize) -> usize
