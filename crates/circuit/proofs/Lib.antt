@@ -3,3 +3,7 @@ pub mod Products
 pub mod AlongGates
 pub mod Answers
 pub mod Numbers
+pub mod Pairs
+pub mod Layered
+pub mod Clashes
+pub mod Firing

@@ -1,2 +1,3 @@
 pub mod Small
 pub mod Footprint
+pub mod Firing

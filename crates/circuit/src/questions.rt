@@ -1,6 +1,7 @@
 // The questions of circuit_channel and of circuit_unitary, in order.
 use crate::footprint::Footprint;
 use crate::gates::judge_gates;
+use crate::layers::judge_layers;
 use crate::limits::Limits;
 use crate::sizes::MAX_SPLITS;
 use crate::sizes::Sizes;
@@ -19,6 +20,8 @@ ghost use Rattle.verdict.specs.Verdict.{accepted};
 ghost use Rattle.verdict.specs.Questions.{firstNo};
 ghost use Rattle.gate.specs.Gate.{gatesOf, splits};
 ghost use Rattle.circuit.specs.Limits.{matrixCeilings, branchCeilings};
+ghost use Rattle.circuit.specs.Footprint.{footprintOf};
+ghost use Rattle.circuit.specs.Layers.{layeredVerdict};
 ghost use Rattle.circuit.specs.Questions.{wordQuestions, numberQuestions, channelVerdict, matrixQuestions, unitaryVerdict};
 ghost use Rattle.circuit.specs.Inner.Small.{maxRows};
 
@@ -82,6 +85,28 @@ pub struct Judged {
     pub splits: u64,
 }
 
+// Questions 7 to 10, of gates that have passed questions 1 to 6.
+fn judge_counted(
+    n: u32,
+    bits: u32,
+    store: &[u8],
+    l: Limits,
+    words: &[u32],
+    result: u64,
+    work: u64,
+) -> Judged
+    requires { ⌜ accepted (firstNo (wordQuestions n bits l (now words))) ≡ true ⌝ }
+    ensures { λ r. ⌜ r .verdict ≡ firstNo (numberQuestions (footprintOf bits (gatesOf (now (words .entry)))) n bits (now (store .entry)) l result work) ⌝ }
+    ensures { λ r. ⌜ r .splits ≡ total splits (gatesOf (now (words .entry))) ⌝ }
+{
+    let f = Footprint::of(words, bits);
+    let verdict = judge_numbers(f, n, bits, store, l, result, work);
+    Judged {
+        verdict: verdict,
+        splits: f.splits,
+    }
+}
+
 // All ten questions; `result` and `work` are the lengths of the buffers.
 pub fn judge_circuit(
     n: u32,
@@ -97,11 +122,37 @@ pub fn judge_circuit(
 {
     let v = judge_words(n, bits, l, words);
     if v.is_accepted() {
-        let f = Footprint::of(words, bits);
-        let verdict = judge_numbers(f, n, bits, store, l, result, work);
+        return judge_counted(n, bits, store, l, words, result, work);
+    }
+    Judged {
+        verdict: v,
+        splits: 0,
+    }
+}
+
+// The same of a layered circuit: its layers are asked between the gates and the store.
+pub fn judge_layered(
+    n: u32,
+    bits: u32,
+    store: &[u8],
+    l: Limits,
+    words: &[u32],
+    ends: &[u32],
+    result: u64,
+    work: u64,
+) -> Judged
+    ensures { λ r. ⌜ r .verdict ≡ layeredVerdict n bits (now (store .entry)) l (now (words .entry)) (now (ends .entry)) result work ⌝ }
+    ensures { λ r. ⌜ (accepted (r .verdict) ≡ true → r .splits ≡ total splits (gatesOf (now (words .entry)))) ⌝ }
+{
+    let v = judge_words(n, bits, l, words);
+    if v.is_accepted() {
+        let u = judge_layers(words, ends);
+        if u.is_accepted() {
+            return judge_counted(n, bits, store, l, words, result, work);
+        }
         return Judged {
-            verdict: verdict,
-            splits: f.splits,
+            verdict: u,
+            splits: 0,
         };
     }
     Judged {

@@ -1,5 +1,7 @@
+pub mod Parts
 pub mod Verdicts
 pub mod Reading
 pub mod Stores
 pub mod Channels
 pub mod Demands
+pub mod Layers

@@ -12,3 +12,4 @@ pub mod Kind
 pub mod Dispatch
 pub mod Partner
 pub mod Masks
+pub mod Sharing

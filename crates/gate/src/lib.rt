@@ -1,6 +1,7 @@
 // The gates of a circuit: the questions asked of one gate, and the rows of its matrices.
 pub mod judge;
 pub mod rows;
+pub mod share;
 pub mod tables;
 
 // The words of a gate.

@@ -3,6 +3,7 @@ use branches::bank::branch_size;
 use branches::run::run_gates;
 use circuit::limits::Limits;
 use circuit::questions::judge_circuit;
+use circuit::questions::judge_layered;
 use circuit::sizes::power;
 use collect::deliver;
 use matrix::words::clear;
@@ -17,6 +18,7 @@ ghost use Rattle.circuit.specs.Sizes.{workWords};
 ghost use Rattle.collect.specs.Delivered.{overwritten};
 ghost use Rattle.judge.specs.Delivered.{circuitWords};
 ghost use Rattle.judge.specs.Call.{verdictOf, resultAfter, workAfter};
+ghost use Rattle.judge.specs.Layered.{layeredVerdictOf, layeredResult, layeredWork};
 ghost use Rattle.judge.specs.Inner.Accepted.{Accepted};
 
 // Run an accepted circuit with so many measures and resets, and write its channel; the words of `work` that it takes end as zero.
@@ -58,6 +60,31 @@ pub fn circuit_channel(
     let r = result.len();
     let w = work.len();
     let j = judge_circuit(qubits, bits, store, limits, gates, r as u64, w as u64);
+    let v = j.verdict;
+    if v.is_accepted() {
+        run_and_deliver(j.splits, qubits, bits, store, gates, result, work);
+    }
+    v
+}
+
+// The channel of a layered circuit: `ends` are the ends of its layers, each the count of gates so far. A refusal leaves both buffers as they were.
+pub fn layered_channel(
+    qubits: u32,
+    bits: u32,
+    store: &[u8],
+    gates: &[u32],
+    ends: &[u32],
+    limits: Limits,
+    result: &mut [i64],
+    work: &mut [i64],
+) -> Verdict
+    ensures { λ v. ⌜ v ≡ layeredVerdictOf qubits bits (now (store .entry)) limits (now (gates .entry)) (now (ends .entry)) (now (result .entry)) (now (work .entry)) ⌝ }
+    ensures { λ _. ⌜ now (result .exit) ≡ layeredResult qubits bits (now (store .entry)) limits (now (gates .entry)) (now (ends .entry)) (now (result .entry)) (now (work .entry)) ⌝ }
+    ensures { λ _. ⌜ now (work .exit) ≡ layeredWork qubits bits (now (store .entry)) limits (now (gates .entry)) (now (ends .entry)) (now (result .entry)) (now (work .entry)) ⌝ }
+{
+    let r = result.len();
+    let w = work.len();
+    let j = judge_layered(qubits, bits, store, limits, gates, ends, r as u64, w as u64);
     let v = j.verdict;
     if v.is_accepted() {
         run_and_deliver(j.splits, qubits, bits, store, gates, result, work);

@@ -3,7 +3,7 @@ use mathlib.Core.Bool.{Bool}
 use Prim.Native.Nat.{ℕ}
 use lib.Dec.{eqb}
 use Rattle.verdict.specs.declared.Verdict.{Verdict}
-use Rattle.verdict.specs.declared.Verdict.the-variants.{Accepted, OverLimit, UnsupportedAt, OperandAt, BadStore, MalformedAt, OverCeiling, TooHeavy, ShortBuffer, TooLarge, Malformed}
+use Rattle.verdict.specs.declared.Verdict.the-variants.{Accepted, OverLimit, UnsupportedAt, OperandAt, BadStore, MalformedAt, OverCeiling, TooHeavy, ShortBuffer, TooLarge, Malformed, BadLayers, ClashAt}
 
 abbrev pub verdictNumber : Verdict → ℕ
 verdictNumber Accepted = 0
@@ -17,6 +17,8 @@ verdictNumber TooHeavy = 7
 verdictNumber ShortBuffer = 8
 verdictNumber TooLarge = 9
 verdictNumber Malformed = 10
+verdictNumber BadLayers = 11
+verdictNumber (ClashAt i) = 12
 
 -- 0 where the verdict names no index
 abbrev pub verdictIndex : Verdict → ℕ
@@ -31,6 +33,8 @@ verdictIndex TooHeavy = 0
 verdictIndex ShortBuffer = 0
 verdictIndex TooLarge = 0
 verdictIndex Malformed = 0
+verdictIndex BadLayers = 0
+verdictIndex (ClashAt i) = i
 
 abbrev pub accepted : Verdict → Bool
 accepted v = eqb (verdictNumber v) 0

@@ -2,7 +2,7 @@
 ghost use mathlib.Core.Path.{_≡_};
 ghost use Rattle.verdict.specs.Verdict.{verdictNumber, verdictIndex, accepted};
 
-// In the order of document 01's numbers, from 0 to 10.
+// In the order of document 01's numbers, from 0 to 12.
 pub enum Verdict {
     Accepted,
     OverLimit,
@@ -15,6 +15,8 @@ pub enum Verdict {
     ShortBuffer,
     TooLarge,
     Malformed,
+    BadLayers,
+    ClashAt(usize),
 }
 
 impl Verdict {
@@ -33,6 +35,8 @@ impl Verdict {
             Verdict::ShortBuffer => 8,
             Verdict::TooLarge => 9,
             Verdict::Malformed => 10,
+            Verdict::BadLayers => 11,
+            Verdict::ClashAt(_) => 12,
         }
     }
 
@@ -52,6 +56,8 @@ impl Verdict {
             Verdict::ShortBuffer => 0,
             Verdict::TooLarge => 0,
             Verdict::Malformed => 0,
+            Verdict::BadLayers => 0,
+            Verdict::ClashAt(i) => i,
         }
     }
 
