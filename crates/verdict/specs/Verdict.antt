@@ -3,7 +3,7 @@ use mathlib.Core.Bool.{Bool}
 use Prim.Native.Nat.{ℕ}
 use lib.Dec.{eqb}
 use Rattle.verdict.specs.declared.Verdict.{Verdict}
-use Rattle.verdict.specs.declared.Verdict.the-variants.{Accepted, OverLimit, UnsupportedAt, OperandAt, BadStore, MalformedAt, OverCeiling, TooHeavy, ShortBuffer, TooLarge, Malformed, BadLayers, ClashAt}
+use Rattle.verdict.specs.declared.Verdict.the-variants.{Accepted, OverLimit, UnsupportedAt, OperandAt, BadStore, MalformedAt, OverCeiling, TooHeavy, ShortBuffer, TooLarge, Malformed, BadLayers, ClashAt, BadText, UnknownNameAt}
 
 abbrev pub verdictNumber : Verdict → ℕ
 verdictNumber Accepted = 0
@@ -19,6 +19,8 @@ verdictNumber TooLarge = 9
 verdictNumber Malformed = 10
 verdictNumber BadLayers = 11
 verdictNumber (ClashAt i) = 12
+verdictNumber BadText = 13
+verdictNumber (UnknownNameAt i) = 14
 
 -- 0 where the verdict names no index
 abbrev pub verdictIndex : Verdict → ℕ
@@ -35,6 +37,8 @@ verdictIndex TooLarge = 0
 verdictIndex Malformed = 0
 verdictIndex BadLayers = 0
 verdictIndex (ClashAt i) = i
+verdictIndex BadText = 0
+verdictIndex (UnknownNameAt i) = i
 
 abbrev pub accepted : Verdict → Bool
 accepted v = eqb (verdictNumber v) 0

@@ -2,7 +2,7 @@
 ghost use mathlib.Core.Path.{_≡_};
 ghost use Rattle.verdict.specs.Verdict.{verdictNumber, verdictIndex, accepted};
 
-// In the order of document 01's numbers, from 0 to 12.
+// In the order of document 01's numbers, from 0 to 14.
 pub enum Verdict {
     Accepted,
     OverLimit,
@@ -17,6 +17,8 @@ pub enum Verdict {
     Malformed,
     BadLayers,
     ClashAt(usize),
+    BadText,
+    UnknownNameAt(usize),
 }
 
 impl Verdict {
@@ -37,6 +39,8 @@ impl Verdict {
             Verdict::Malformed => 10,
             Verdict::BadLayers => 11,
             Verdict::ClashAt(_) => 12,
+            Verdict::BadText => 13,
+            Verdict::UnknownNameAt(_) => 14,
         }
     }
 
@@ -58,6 +62,8 @@ impl Verdict {
             Verdict::Malformed => 0,
             Verdict::BadLayers => 0,
             Verdict::ClashAt(i) => i,
+            Verdict::BadText => 0,
+            Verdict::UnknownNameAt(i) => i,
         }
     }
 
