@@ -139,13 +139,14 @@ module _ {l : List ℤ} {m op old new d : ℕ} (p : Applying l m op old new d) {
 
   -- one row more
   pub applied-more : {q : List ℤ} {x y : Exact} → x ≡ cellAt l (op + r * rowSize) → y ≡ cellAt l (op + r * rowSize + cellSize)
-      → q ≡ fill b (new + r * d * cellSize) d (combinedRow b x (old + r * d * cellSize) y (old + bitXor r m * d * cellSize)) → Applied l m op old new d q (r + 1)
-  applied-more ex ey f =
+      → {s : ℕ} → s ≡ bitXor r m → q ≡ fill b (new + r * d * cellSize) d (combinedRow b x (old + r * d * cellSize) y (old + s * d * cellSize)) → Applied l m op old new d q (r + 1)
+  applied-more {x = x} {y = y} ex ey es f =
       record {
         sized = λ k. le-refl cellSize;
         count = omega (arith, block-in hr d);
         is =
             f
+            ∙ ap (λ (s : ℕ). fill b to d (combinedRow b x (old + r * d * cellSize) y (old + s * d * cellSize))) es
             ∙ blocks-same cellSize b to d _ (λ (c : ℕ). entry (r * d + c))
             (λ c hc. ap cellWords ((λ i. exact ._⊕_ (exact ._⊗_ (ex i) (cell-at d entries matrix r c hr hc i)) (exact ._⊗_ (ey i) (cell-at d entries matrix (bitXor r m) c (p .below r hr) hc i)))
             ∙ sym (λ i. rowSum l m op old d (digits-div r hc i) (digits-mod r hc i))))

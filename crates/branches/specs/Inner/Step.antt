@@ -26,6 +26,7 @@ rowSum l m op old d r = combinedRow l (cellAt l (op + r * rowSize)) (old + r * d
 
 -- what it asks: the entries and a matrix of factors in lowest form, and apart from both a place for the product
 pub record Applying (l : List ℤ) (m op old new d : ℕ) : Type 0 where
+  pub dim : d ≤ 32
   pub below : (r : ℕ) → r < d → bitXor r m < d
   pub op-room : op + d * rowSize ≤ length l
   pub own : (r : ℕ) → r < d → Factor l (op + r * rowSize)
