@@ -114,7 +114,7 @@ module _ {l : List ℤ} {f slots ops from to d count : ℕ} (p : Step l f slots 
 
       pub turn-applying : Applying b f (slots + j % ops * branchSize d) (from + j / ops * branchSize d) (to + j * branchSize d) d
       turn-applying = record {
-            dim = p .dim;
+        dim = p .dim;
         below = p .below;
         op-room = omega (arith, entries .long, op-at);
         own = λ r hr. factor-same (own-at d entries matrix r hr) (p .own (j % ops) r number-lt hr);

@@ -8,6 +8,7 @@ use lib.Seq.{sets}
 use Rattle.algebra.specs.Lists.{every, allBelow}
 use Rattle.circuit_text.specs.declared.input.Circuit.{Circuit}
 use Rattle.circuit_text.specs.declared.input.Input.{Input}
+use Rattle.gate.specs.Gate.{gateSize}
 use Rattle.text.specs.Decimal.{value, isNumber}
 use Rattle.circuit_text.specs.Text.{maxBytes, body, pieces}
 
@@ -17,16 +18,9 @@ maxBits = 64
 abbrev pub maxGates : ℕ
 maxGates = 64
 
--- the words of a gate
-abbrev pub gateWords : ℕ
-gateWords = 5
-
 -- how many numbers an input of m bits and g gates has
 abbrev pub numberCount : ℕ → ℕ → ℕ
-numberCount m g = 3 + m + gateWords * g
-
-abbrev pub maxNumbers : ℕ
-maxNumbers = numberCount maxBits maxGates
+numberCount m g = 3 + m + gateSize * g
 
 abbrev pub maxByte : ℕ
 maxByte = 255

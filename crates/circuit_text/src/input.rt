@@ -2,6 +2,7 @@
 use super::numbers::body_length;
 use super::numbers::next_blank;
 use super::numbers::read_numbers;
+use gate::GATE;
 use text::number::number_in;
 ghost use mathlib.Core.Path.{_≡_};
 ghost use mathlib.Core.Bool.{true, cond};
@@ -9,20 +10,18 @@ ghost use Prim.Native.Nat.{_+_, _≤_};
 ghost use lib.ListN.{length, take, drop};
 ghost use lib.Seq.{sets};
 ghost use Rattle.circuit_text.specs.Text.{maxBytes, pieces};
-ghost use Rattle.circuit_text.specs.Input.{maxBits, maxNumbers, bytes, inputOf, filled, stored};
-ghost use Rattle.circuit_text.specs.Inner.Reading.{noneSeen, seenWith, seenInput, inputIn};
+ghost use Rattle.circuit_text.specs.Input.{maxBits, bytes, inputOf, filled, stored};
+ghost use Rattle.circuit_text.specs.Inner.Reading.{maxNumbers, noneSeen, seenWith, seenInput, inputIn};
 
 // The most bytes that a text has.
 pub const MAX_BYTES: usize = 2048;
 
-// The most bits and gates of a circuit, the words of a gate, and the most numbers of an input.
+// The most bits and gates of a circuit, and the most numbers of an input.
 pub const MAX_BITS: usize = 64;
 
 const MAX_GATES: usize = 64;
 
-pub const GATE_WORDS: usize = 5;
-
-pub const MAX_NUMBERS: usize = 3 + MAX_BITS + GATE_WORDS * MAX_GATES;
+pub const MAX_NUMBERS: usize = 3 + MAX_BITS + GATE * MAX_GATES;
 
 // The largest byte.
 const MAX_BYTE: u32 = 255;
@@ -93,7 +92,7 @@ impl Seen {
         let m = self.bits as usize;
         let g = self.gates as usize;
         let sized = (m <= MAX_BITS) & (g <= MAX_GATES);
-        if !(sized & ((self.count == 3 + m + GATE_WORDS * g) & self.bytes)) {
+        if !(sized & ((self.count == 3 + m + GATE * g) & self.bytes)) {
             return Input::Refused;
         }
         Input::Given(Circuit {

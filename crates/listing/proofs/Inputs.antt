@@ -6,7 +6,9 @@ use Prim.Native.Nat.{ℕ, _+_, _*_, _≤_}
 use native.Mathlib.Omega.{arith}
 use lib.ListN.{length, take, drop, length-drop}
 use lib.Seq.{sets, sets-eq, length-sets, length-take-le, take-at, drop-at, take-add}
-use Rattle.circuit_text.specs.Input.{maxBits, gateWords, maxNumbers, bitsIn, gatesIn, storeIn, wordsIn, numbersOf, isInputText, filled, stored}
+use Rattle.circuit_text.specs.Input.{maxBits, bitsIn, gatesIn, storeIn, wordsIn, numbersOf, isInputText, filled, stored}
+use Rattle.circuit_text.specs.Inner.Reading.{maxNumbers}
+use Rattle.gate.specs.Gate.{gateSize}
 use Rattle.circuit_text.proofs.Shapes.{sound, given-numbers, given-store, first-words}
 
 module _ (t : List ℕ) where
@@ -36,10 +38,10 @@ module _ (t : List ℕ) where
         ap (take (bitsIn ns)) (sym (given-store t s yes) ∙ sets-eq (storeIn ns) s 0 (omega (arith, r .bits))) ∙ take-at (storeIn ns) _ (bitsIn ns) k
 
     -- the room l that the numbers were read into
-    pub words-are : (l : List ℕ) → maxNumbers ≤ length l → take (gateWords * gatesIn (numbersOf t)) (drop (3 + bitsIn (numbersOf t)) (filled t l)) ≡ wordsIn (numbersOf t)
+    pub words-are : (l : List ℕ) → maxNumbers ≤ length l → take (gateSize * gatesIn (numbersOf t)) (drop (3 + bitsIn (numbersOf t)) (filled t l)) ≡ wordsIn (numbersOf t)
     words-are l h =
         let a = 3 + bitsIn ns in
-        let b = gateWords * gatesIn ns in
+        let b = gateSize * gatesIn ns in
         let f = filled t l in
         let r = sound t yes in
         let w = first-words ns l refl (omega (arith, r .size, r .bits, r .gates)) (sym (given-numbers t l yes)) in

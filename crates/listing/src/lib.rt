@@ -7,11 +7,11 @@ use self::blocks::put_channel;
 use self::lines::write_no_input;
 use self::lines::write_refusal;
 use circuit::limits::Limits;
-use circuit_text::input::GATE_WORDS;
 use circuit_text::input::Input;
 use circuit_text::input::MAX_BITS;
 use circuit_text::input::MAX_NUMBERS;
 use circuit_text::input::read_input;
+use gate::GATE;
 use judge::call::circuit_channel;
 ghost use mathlib.Core.Path.{_≡_};
 ghost use Rattle.circuit.specs.Limits.{ceilings};
@@ -57,7 +57,7 @@ pub fn list(text: &[u8], result: &mut [i64], work: &mut [i64], out: &mut [u8]) -
     };
     let m = circuit.bits as usize;
     let first = 3 + m;
-    let end = first + GATE_WORDS * circuit.gates;
+    let end = first + GATE * circuit.gates;
     list_circuit(
         circuit.qubits,
         circuit.bits,

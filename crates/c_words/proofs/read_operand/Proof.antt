@@ -8,24 +8,6 @@ use borrow.Author.Needs.{needs}
 use Rattle.c_words.proofs.read_operand.Statement.{statement}
 use Rattle.c_words.proofs.read_operand.Tie as tie
 
-element-copy-out-a : tie.Need-element-copy-out-a
-element-copy-out-a c = search needs
-
-element-copy-out-b : tie.Need-element-copy-out-b
-element-copy-out-b c = search needs
-
-element-copy-out-c : tie.Need-element-copy-out-c
-element-copy-out-c c = search needs
-
-element-copy-out-d : tie.Need-element-copy-out-d
-element-copy-out-d c = search needs
-
-element-copy-out-e : tie.Need-element-copy-out-e
-element-copy-out-e c = search needs
-
-read-exponent-requires : tie.Need-read-exponent-requires
-read-exponent-requires c κs = search needs
-
 returns : tie.Need-returns
 returns c =
     let a = c .before .before .before .before .before in
@@ -35,13 +17,4 @@ returns c =
     (c .read-exponent .ensures ∙ ap exponentOf (reads (getD x 4 (pos 0)) (c .before .e .given)))
 
 pub read-operand-spec : {M : Type 1} → statement M
-read-operand-spec =
-    tie.close
-    (tie.spec
-    element-copy-out-a
-    element-copy-out-b
-    element-copy-out-c
-    element-copy-out-d
-    element-copy-out-e
-    read-exponent-requires
-    returns)
+read-operand-spec = tie.close (tie.spec (λ c. search needs) (λ c. search needs) (λ c. search needs) (λ c. search needs) (λ c. search needs) (λ c κs. search needs) returns)

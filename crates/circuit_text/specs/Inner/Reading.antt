@@ -9,6 +9,10 @@ use Rattle.circuit_text.specs.declared.input.Input.{Input}
 use Rattle.text.specs.Decimal.{isBlank, value, isNumber}
 use Rattle.circuit_text.specs.Input.{maxBits, maxGates, numberCount, maxByte, circuitIn, isInput}
 
+-- the most numbers of an input
+abbrev pub maxNumbers : ℕ
+maxNumbers = numberCount maxBits maxGates
+
 -- how many bytes stand before the first blank
 unfoldable pub run : List ℕ → ℕ
 run [] = 0

@@ -16,48 +16,12 @@ use borrow.Author.Needs.{needs}
 use Rattle.effects.proofs.write_record.Statement.{statement}
 use Rattle.effects.proofs.write_record.Tie as tie
 
-mul-next : tie.Need-mul-next
-mul-next c = search needs
-
-shared-slice-copy-out-next : tie.Need-shared-slice-copy-out-next
-shared-slice-copy-out-next c = search needs
-
-add-low : tie.Need-add-low
-add-low c = search needs
-
-mul-low : tie.Need-mul-low
-mul-low c = search needs
-
-shared-slice-copy-out-low : tie.Need-shared-slice-copy-out-low
-shared-slice-copy-out-low c = search needs
-
-add-high : tie.Need-add-high
-add-high c = search needs
-
-mul-high : tie.Need-mul-high
-mul-high c = search needs
-
-shared-slice-copy-out-high : tie.Need-shared-slice-copy-out-high
-shared-slice-copy-out-high c = search needs
-
-relinked-requires : tie.Need-relinked-requires
-relinked-requires c κs = search needs
-
-put-three-requires : tie.Need-put-three-requires
-put-three-requires c κs = search needs
-
-add-write-entries : tie.Need-add-write-entries
-add-write-entries c = search needs
-
 write-entries-requires : tie.Need-write-entries-requires
 write-entries-requires c κs =
     let p = c .before .before in
     let s = p .before .before .before .before .before .before in
     let e : length (p .put-three .last .0) ≡ length (s .args .result .now) = ap length (p .put-three .ensures) ∙ simp length-set in
     (s .pre .0, (s .pre .1 .0, (s .pre .1 .1 .0, omega arith)))
-
-same-length : tie.Need-same-length
-same-length c = search needs
 
 returns : tie.Need-returns
 returns c =
@@ -78,18 +42,5 @@ returns c =
 pub write-record-spec : {M : Type 1} → statement M
 write-record-spec =
     tie.close
-    (tie.spec
-    mul-next
-    shared-slice-copy-out-next
-    add-low
-    mul-low
-    shared-slice-copy-out-low
-    add-high
-    mul-high
-    shared-slice-copy-out-high
-    relinked-requires
-    put-three-requires
-    add-write-entries
-    write-entries-requires
-    same-length
-    returns)
+    (tie.spec (λ c. search needs) (λ c. search needs) (λ c. search needs) (λ c. search needs) (λ c. search needs) (λ c. search needs) (λ c. search needs)
+    (λ c. search needs) (λ c κs. search needs) (λ c κs. search needs) (λ c. search needs) write-entries-requires (λ c. search needs) returns)

@@ -11,7 +11,9 @@ use borrow.Author.Needs.{needs}
 use Rattle.circuit_text.specs.declared.input.Circuit.{Circuit}
 use Rattle.circuit_text.specs.declared.input.Input.{Input}
 use Rattle.text.specs.Page.{page, write}
-use Rattle.circuit_text.specs.Input.{maxBits, maxGates, gateWords, numberCount, maxNumbers, numbersOf, circuitIn, storeIn, wordsIn, isInputText, inputOf}
+use Rattle.circuit_text.specs.Input.{maxBits, maxGates, numberCount, numbersOf, circuitIn, storeIn, wordsIn, isInputText, inputOf}
+use Rattle.circuit_text.specs.Inner.Reading.{maxNumbers}
+use Rattle.gate.specs.Gate.{gateSize}
 use Rattle.circuit_text.proofs.Shapes.{given-true, given-is, refused-false, sound}
 use Rattle.listing.proofs.Inputs.{stored-long, filled-long, store-is, words-are}
 use Rattle.listing.proofs.Answers.{no-answer, no-result, no-work, an-answer, a-result, a-work}
@@ -58,8 +60,8 @@ module _ (k : tie.After-known-told) where
   store-part : take (circuit .bits) store ≡ storeIn (numbersOf text)
   store-part = (λ i. take (is i .bits) (read .read-input .ensures .1 .1 i)) ∙ store-is text yes _ (le-refl maxBits)
 
-  words-part : take (gateWords * circuit .gates) (drop (3 + circuit .bits) numbers) ≡ wordsIn (numbersOf text)
-  words-part = (λ i. take (gateWords * is i .gates) (drop (3 + is i .bits) (read .read-input .ensures .1 .0 i))) ∙ words-are text yes _ (le-refl maxNumbers)
+  words-part : take (gateSize * circuit .gates) (drop (3 + circuit .bits) numbers) ≡ wordsIn (numbersOf text)
+  words-part = (λ i. take (gateSize * is i .gates) (drop (3 + is i .bits) (read .read-input .ensures .1 .0 i))) ∙ words-are text yes _ (le-refl maxNumbers)
 
 read-input-requires : tie.Need-read-input-requires
 read-input-requires c κs = search needs
@@ -139,7 +141,7 @@ returns-2 c =
     let t = text k in
     let r = a .result .now in
     let w = a .work .now in
-    let e : numberCount (circuit k .bits) (circuit k .gates) - (3 + circuit k .bits) ≡ gateWords * circuit k .gates = omega arith in
+    let e : numberCount (circuit k .bits) (circuit k .gates) - (3 + circuit k .bits) ≡ gateSize * circuit k .gates = omega arith in
     let ws = ap (λ (j : ℕ). take j (drop (3 + circuit k .bits) (numbers k))) e ∙ words-part k in (
       l .list-circuit .ensures .0 ∙ ap (write (page (a .out .now) 0)) (an-answer t r w (yes k) (is k) (store-part k) ws),
       (l .list-circuit .ensures .1 .0 ∙ a-result t r w (yes k) (is k) (store-part k) ws, l .list-circuit .ensures .1 .1 ∙ a-work t r w (yes k) (is k) (store-part k) ws),

@@ -24,21 +24,6 @@ Inv-loop work₀ m slots ops from to d count bit matrix size total last j₀ wor
 abbrev μ-loop : tie.MeasureT-loop
 μ-loop work₀ m slots ops from to d count bit matrix size total last j₀ work j = count * ops - j
 
-mul-matrix : tie.Need-mul-matrix Inv-loop μ-loop
-mul-matrix c = omega (arith, step-square (c .pre))
-
-mul-matrix-2 : tie.Need-mul-matrix-2 Inv-loop μ-loop
-mul-matrix-2 c = omega (arith, step-square (c .pre))
-
-add-size : tie.Need-add-size Inv-loop μ-loop
-add-size c = omega (arith, step-square (c .pre))
-
-mul-total : tie.Need-mul-total Inv-loop μ-loop
-mul-total c = omega (arith, total-le (c .pre))
-
-sub-last : tie.Need-sub-last Inv-loop μ-loop
-sub-last c = omega (arith, c .pre .some-op)
-
 loop-holds : tie.Need-loop-holds Inv-loop μ-loop
 loop-holds c = let a = c .args in begin (λ j. le-of-eq (length-product (a .work .now) (a .m) _ _ (a .d) (a .bit) (j % a .ops)))
 
@@ -58,27 +43,6 @@ module _ (t : tie.In-loop Inv-loop μ-loop) where
 
   new-at : s .args .to + j * branchSize (s .args .d) + branchSize (s .args .d) ≤ length (s .args .work .now)
   new-at = omega (arith, new-in (s .pre) (t .loop-test .taken), s .pre .to-room)
-
-shr-old : tie.Need-shr-old Inv-loop μ-loop
-shr-old c = omega (arith, s c .pre .few-ops)
-
-mul-op : tie.Need-mul-op Inv-loop μ-loop
-mul-op c = omega (arith, slot-at c)
-
-add-op : tie.Need-add-op Inv-loop μ-loop
-add-op c = omega (arith, slot-at c)
-
-mul-old : tie.Need-mul-old Inv-loop μ-loop
-mul-old c = omega (arith, old-at c)
-
-add-old : tie.Need-add-old Inv-loop μ-loop
-add-old c = omega (arith, old-at c)
-
-mul-new : tie.Need-mul-new Inv-loop μ-loop
-mul-new c = omega (arith, new-at c)
-
-add-new : tie.Need-add-new Inv-loop μ-loop
-add-new c = omega (arith, new-at c)
 
 apply-operator-requires : tie.Need-apply-operator-requires Inv-loop μ-loop
 apply-operator-requires c κs =
@@ -116,12 +80,6 @@ module _ (t : tie.In-loop Inv-loop μ-loop) where
     outcome-is f =
         f ∙ (λ i. sets m (given .args .to + j t * size + matrixSize (given .args .d)) (outcomeWords m (given .args .from + branch-is (given .pre) (j t) i * size + matrixSize (given .args .d)) (given .args .bit) (number-is (given .pre) (j t) i)))
 
-add-write-store : tie.Need-add-write-store Inv-loop μ-loop
-add-write-store c = let t = c .before .before .before .before in omega (arith, old-at t)
-
-add-write-store-2 : tie.Need-add-write-store-2 Inv-loop μ-loop
-add-write-store-2 c = let t = c .before .before .before .before in omega (arith, new-at t)
-
 write-store-requires : tie.Need-write-store-requires Inv-loop μ-loop
 write-store-requires c κs =
     let q = c .before .before in
@@ -137,9 +95,6 @@ write-store-requires c κs =
 add-j : tie.Need-add-j Inv-loop μ-loop
 add-j c = let t = c .before .before .before .before .before .before in omega (arith, t .loop-test .taken, total-le (s t .pre))
 
-loop-less : tie.Need-loop-less Inv-loop μ-loop
-loop-less c = omega arith
-
 loop-again : tie.Need-loop-again Inv-loop μ-loop
 loop-again c =
     let q = c .before .before .before .before in
@@ -147,37 +102,15 @@ loop-again c =
     let a = s t .args in
     turn-more (s t .pre) (t .loop-test .taken) (a .bit) (t .before .loop .inv) (applied t (q .apply-operator .ensures)) (outcome-is t (q .apply-operator .ensures) (c .before .write-store .ensures))
 
-same-length : tie.Need-same-length Inv-loop μ-loop
-same-length c = long (c .before .loop .inv)
-
 returns : tie.Need-returns Inv-loop μ-loop
 returns c = done (c .before .loop .inv) (c .loop-test .left)
 
 pub step-spec : {M : Type 1} → statement M
 step-spec =
     tie.close
-    (tie.spec
-    Inv-loop
-    μ-loop
-    mul-matrix
-    mul-matrix-2
-    add-size
-    mul-total
-    sub-last
-    loop-holds
-    mul-op
-    add-op
-    shr-old
-    mul-old
-    add-old
-    mul-new
-    add-new
-    apply-operator-requires
-    add-write-store
-    add-write-store-2
-    write-store-requires
-    add-j
-    loop-less
-    loop-again
-    same-length
-    returns)
+    (tie.spec Inv-loop μ-loop (λ c. omega (arith, step-square (c .pre))) (λ c. omega (arith, step-square (c .pre))) (λ c. omega (arith, step-square (c .pre)))
+    (λ c. omega (arith, total-le (c .pre))) (λ c. omega (arith, c .pre .some-op)) loop-holds (λ c. omega (arith, slot-at c)) (λ c. omega (arith, slot-at c))
+    (λ c. omega (arith, s c .pre .few-ops)) (λ c. omega (arith, old-at c)) (λ c. omega (arith, old-at c)) (λ c. omega (arith, new-at c)) (λ c. omega (arith, new-at c))
+    apply-operator-requires (λ c. let t = c .before .before .before .before in omega (arith, old-at t))
+    (λ c. let t = c .before .before .before .before in omega (arith, new-at t)) write-store-requires add-j (λ c. omega arith) loop-again
+    (λ c. long (c .before .loop .inv)) returns)

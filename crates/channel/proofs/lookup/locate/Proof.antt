@@ -69,25 +69,10 @@ module _ (c : tie.Else3) where
   width : shape (known two) .dim * shape (known two) .dim ≤ 256
   width = subst (λ (h : Shape). h .dim * h .dim ≤ 256) (sym (is (two .before .before))) (formed (words (known two)) (right (two .before .before)) .head .room .width)
 
-judge-requires : tie.Need-judge-requires
-judge-requires c κs = search needs
-
-is-accepted-requires : tie.Need-is-accepted-requires
-is-accepted-requires c κs = search needs
-
-none-requires : tie.Need-none-requires
-none-requires c κs = search needs
-
 returns : tie.Need-returns
 returns c =
     let k = c .before .before in
     c .none .ensures ∙ sym (ap (spanOf (words k)) (look-malformed (words k) (bytes k) (sym (tested k) ∙ not-true _ (c .before .if1 .taken))))
-
-is-store-requires : tie.Need-is-store-requires
-is-store-requires c κs = search needs
-
-none-requires-2 : tie.Need-none-requires-2
-none-requires-2 c κs = search needs
 
 returns-2 : tie.Need-returns-2
 returns-2 c =
@@ -101,27 +86,12 @@ pack-requires c κs =
     let f = fits-word (bitsAt (words k)) (bytes k) (stored c) in
     (omega arith, (omega arith, (omega (arith, f .0, formed (words k) (right (c .before .before)) .head .room .few), f .1)))
 
-find-store-requires : tie.Need-find-store-requires
-find-store-requires c κs = let e = c .before .before .before in (right e, ap (λ (h : Shape). h .count) (is e))
-
-none-requires-3 : tie.Need-none-requires-3
-none-requires-3 c κs = search needs
-
 returns-3 : tie.Need-returns-3
 returns-3 c =
     let f = c .before .before in
     let t = f .before .before in
     let k = known t in
     c .none3 .ensures ∙ sym (ap (spanOf (words k)) (look t ∙ ap placed (sym (found-at f) ∙ c .before .if3 .taken)))
-
-mul-w : tie.Need-mul-w
-mul-w c = let q = width (c .before) in omega arith
-
-add-t11 : tie.Need-add-t11
-add-t11 c = let q = inside (c .before) in omega arith
-
-block-size-requires : tie.Need-block-size-requires
-block-size-requires c κs = width (c .before)
 
 returns-4 : tie.Need-returns-4
 returns-4 c =
@@ -134,19 +104,6 @@ returns-4 c =
 pub locate-spec : {M : Type 1} → statement M
 locate-spec =
     tie.close
-    (tie.spec
-    judge-requires
-    is-accepted-requires
-    none-requires
-    returns
-    is-store-requires
-    none-requires-2
-    returns-2
-    pack-requires
-    find-store-requires
-    none-requires-3
-    returns-3
-    mul-w
-    add-t11
-    block-size-requires
-    returns-4)
+    (tie.spec (λ c κs. search needs) (λ c κs. search needs) (λ c κs. search needs) returns (λ c κs. search needs) (λ c κs. search needs) returns-2 pack-requires
+    (λ c κs. let e = c .before .before .before in (right e, ap (λ (h : Shape). h .count) (is e))) (λ c κs. search needs) returns-3
+    (λ c. let q = width (c .before) in omega arith) (λ c. let q = inside (c .before) in omega arith) (λ c κs. width (c .before)) returns-4)

@@ -40,26 +40,11 @@ chains c =
     let l = words (c .before .before) in
     c .chain-ok .ensures ∙ ap (λ (h : Shape). chainOk l (h .dim * h .dim) (h .bits) (h .count) (h .count) (word l 3) true 0) (is (c .before))
 
-header-requires : tie.Need-header-requires
-header-requires c κs = search needs
-
-is-accepted-requires : tie.Need-is-accepted-requires
-is-accepted-requires c κs = search needs
-
 returns : tie.Need-returns
 returns c =
     let k = c .before in
     let no = not-true _ (c .if1 .taken) in
     shape-of (words k) false _ (shape-no (words k) (headerOk (words k)) (shape k) (k .before .header .ensures) (sym (k .is-accepted .ensures) ∙ no)) (bad-header (words k) (sym (tested k) ∙ no))
-
-mul-chain-ok : tie.Need-mul-chain-ok
-mul-chain-ok c = let r = room c .width in omega arith
-
-chain-ok-requires : tie.Need-chain-ok-requires
-chain-ok-requires c κs = room c
-
-no-shape-requires : tie.Need-no-shape-requires
-no-shape-requires c κs = search needs
 
 returns-2 : tie.Need-returns-2
 returns-2 c =
@@ -74,14 +59,4 @@ returns-3 c =
     shape-of (words (e .before)) true _ (is e) (well-formed (words (e .before)) true (right e) (sym (chains k) ∙ not-false _ (c .if2 .left)))
 
 pub judge-spec : {M : Type 1} → statement M
-judge-spec =
-    tie.close
-    (tie.spec
-    header-requires
-    is-accepted-requires
-    returns
-    mul-chain-ok
-    chain-ok-requires
-    no-shape-requires
-    returns-2
-    returns-3)
+judge-spec = tie.close (tie.spec (λ c κs. search needs) (λ c κs. search needs) returns (λ c. let r = room c .width in omega arith) (λ c κs. room c) (λ c κs. search needs) returns-2 returns-3)

@@ -29,26 +29,8 @@ module _ (c : tie.After-next-blank Inv-loop μ-loop) where
   abbrev bytes : List ℕ
   bytes = take (c .next-blank .result - at) (drop at text)
 
-none-requires : tie.Need-none-requires Inv-loop μ-loop
-none-requires c κs = search needs
-
 loop-holds : tie.Need-loop-holds Inv-loop μ-loop
 loop-holds c = judging-none (c .before .before .args .text .now) (c .none .ensures)
-
-next-blank-requires : tie.Need-next-blank-requires Inv-loop μ-loop
-next-blank-requires c κs = c .loop-test .taken
-
-sub-number-in : tie.Need-sub-number-in Inv-loop μ-loop
-sub-number-in c = step c .start
-
-part-number-in-start : tie.Need-part-number-in-start Inv-loop μ-loop
-part-number-in-start c = let q = step c .start in let r = step c .end in search needs
-
-part-number-in-end : tie.Need-part-number-in-end Inv-loop μ-loop
-part-number-in-end c = let q = step c .start in let r = step c .end in search needs
-
-number-in-requires : tie.Need-number-in-requires Inv-loop μ-loop
-number-in-requires c κs = search needs
 
 returns : tie.Need-returns Inv-loop μ-loop
 returns c =
@@ -78,9 +60,6 @@ loop-again c =
     judging-more (text k) (k .before .before .loop .inv) (bytes k) (k .next-blank .result + 1) (n .number-in .result) (step k .next) (n .number-in .ensures)
     (let q = step k .start in omega arith) (not-false _ (c .before .if1 .left)) (c .with .ensures)
 
-input-requires : tie.Need-input-requires Inv-loop μ-loop
-input-requires c κs = search needs
-
 returns-2 : tie.Need-returns-2 Inv-loop μ-loop
 returns-2 c =
     let l = c .before in
@@ -89,20 +68,6 @@ returns-2 c =
 pub judge-spec : {M : Type 1} → statement M
 judge-spec =
     tie.close
-    (tie.spec
-    Inv-loop
-    μ-loop
-    none-requires
-    loop-holds
-    next-blank-requires
-    sub-number-in
-    part-number-in-start
-    part-number-in-end
-    number-in-requires
-    returns
-    with-requires
-    add-at
-    loop-less
-    loop-again
-    input-requires
-    returns-2)
+    (tie.spec Inv-loop μ-loop (λ c κs. search needs) loop-holds (λ c κs. c .loop-test .taken) (λ c. step c .start)
+    (λ c. let q = step c .start in let r = step c .end in search needs) (λ c. let q = step c .start in let r = step c .end in search needs) (λ c κs. search needs) returns
+    with-requires add-at loop-less loop-again (λ c κs. search needs) returns-2)

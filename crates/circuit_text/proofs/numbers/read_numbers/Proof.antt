@@ -43,36 +43,6 @@ module _ (c : tie.After-next-blank Inv-loop μ-loop) where
 loop-holds : tie.Need-loop-holds Inv-loop μ-loop
 loop-holds c = let s = c .before .before in taken-none (s .args .text .now) (s .args .numbers .now)
 
-next-blank-requires : tie.Need-next-blank-requires Inv-loop μ-loop
-next-blank-requires c κs = c .loop-test .taken
-
-sub-number-in : tie.Need-sub-number-in Inv-loop μ-loop
-sub-number-in c = step c .start
-
-part-number-in-start : tie.Need-part-number-in-start Inv-loop μ-loop
-part-number-in-start c = let q = step c .start in let r = step c .end in search needs
-
-part-number-in-end : tie.Need-part-number-in-end Inv-loop μ-loop
-part-number-in-end c = let q = step c .start in let r = step c .end in search needs
-
-number-in-requires : tie.Need-number-in-requires Inv-loop μ-loop
-number-in-requires c κs = search needs
-
-mul-numbers : tie.Need-mul-numbers Inv-loop μ-loop
-mul-numbers c = let q = room (c .before .before) in omega (arith, c .before .before .before .before .loop .inv .same)
-
-slice-write-numbers : tie.Need-slice-write-numbers Inv-loop μ-loop
-slice-write-numbers c = let q = room (c .before .before) in search needs
-
-add-count : tie.Need-add-count Inv-loop μ-loop
-add-count c = let q = room (c .before .before) in omega (arith, c .before .before .before .before .loop .inv .same)
-
-add-at : tie.Need-add-at Inv-loop μ-loop
-add-at c = let k = c .before .before in omega (arith, step k .end, k .before .before .before .before .before .pre .0)
-
-loop-less : tie.Need-loop-less Inv-loop μ-loop
-loop-less c = let k = c .before .before in omega (arith, step k .start, k .before .loop-test .taken)
-
 loop-again : tie.Need-loop-again Inv-loop μ-loop
 loop-again c =
     let k = c .before .before in
@@ -82,9 +52,6 @@ loop-again c =
     let ok = number-test (bytes k) (c .number-in .result) (c .number-in .ensures) ∙ good k in
     subst (λ (v : ℕ). Taken (text k) (s .args .numbers .now) (set (l .loop .numbers) (l .loop .count) v) (e + 1) (l .loop .count + 1)) (sym (number-value (bytes k) (c .number-in .result) (c .number-in .ensures) ok))
     (taken-more (text k) (s .args .numbers .now) (l .loop .numbers) (l .loop .inv) (bytes k) (e + 1) (step k .next) (let q = step k .start in omega arith) (good k))
-
-same-length : tie.Need-same-length Inv-loop μ-loop
-same-length c = c .before .loop .inv .same
 
 returns : tie.Need-returns Inv-loop μ-loop
 returns c =
@@ -97,20 +64,9 @@ returns c =
 pub read-numbers-spec : {M : Type 1} → statement M
 read-numbers-spec =
     tie.close
-    (tie.spec
-    Inv-loop
-    μ-loop
-    loop-holds
-    next-blank-requires
-    sub-number-in
-    part-number-in-start
-    part-number-in-end
-    number-in-requires
-    mul-numbers
-    slice-write-numbers
-    add-count
-    add-at
-    loop-less
-    loop-again
-    same-length
-    returns)
+    (tie.spec Inv-loop μ-loop loop-holds (λ c κs. c .loop-test .taken) (λ c. step c .start) (λ c. let q = step c .start in let r = step c .end in search needs)
+    (λ c. let q = step c .start in let r = step c .end in search needs) (λ c κs. search needs)
+    (λ c. let q = room (c .before .before) in omega (arith, c .before .before .before .before .loop .inv .same)) (λ c. let q = room (c .before .before) in search needs)
+    (λ c. let q = room (c .before .before) in omega (arith, c .before .before .before .before .loop .inv .same))
+    (λ c. let k = c .before .before in omega (arith, step k .end, k .before .before .before .before .before .pre .0))
+    (λ c. let k = c .before .before in omega (arith, step k .start, k .before .loop-test .taken)) loop-again (λ c. c .before .loop .inv .same) returns)

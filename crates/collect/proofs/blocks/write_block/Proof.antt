@@ -44,59 +44,17 @@ module _ (t : tie.In-loop Inv-loop μ-loop) where
   next-in : place (start first .args .at) (start first .args .d) (t .before .loop .j) + branchSize (start first .args .d) ≤ length (start first .args .work .now)
   next-in = branch-in (start first) (t .before .loop .j) (t .loop-test .taken)
 
-branch-store-requires : tie.Need-branch-store-requires Inv-loop μ-loop
-branch-store-requires c κs = bank-branch (c .pre .1 .1 .1) (c .args .b) (c .pre .0)
-
-mul-w : tie.Need-mul-w Inv-loop μ-loop
-mul-w c = omega (arith, square-small (c .before .args .d) (c .before .pre .1 .1 .1 .dim))
-
-mul-p : tie.Need-mul-p Inv-loop μ-loop
-mul-p c = omega (arith, own-in (c .before))
-
-add-p : tie.Need-add-p Inv-loop μ-loop
-add-p c = omega (arith, own-in (c .before))
-
-mul-p-2 : tie.Need-mul-p-2 Inv-loop μ-loop
-mul-p-2 c = omega (arith, own-in (c .before))
-
-add-p-2 : tie.Need-add-p-2 Inv-loop μ-loop
-add-p-2 c = omega (arith, own-in (c .before))
-
-write-overlaps-requires : tie.Need-write-overlaps-requires Inv-loop μ-loop
-write-overlaps-requires c κs = let s = c .before .before in writable (s .pre .1 .1 .1) (s .pre .0) (s .pre .1 .1 .0)
-
-add-find-branch : tie.Need-add-find-branch Inv-loop μ-loop
-add-find-branch c = let s = start (c .before) in omega (arith, s .pre .0, s .pre .1 .1 .1 .few)
-
-find-branch-requires : tie.Need-find-branch-requires Inv-loop μ-loop
-find-branch-requires c κs = let s = start (c .before) in (omega (arith, s .pre .0), λ j h. bank-branch (s .pre .1 .1 .1) j h)
-
 loop-holds : tie.Need-loop-holds Inv-loop μ-loop
 loop-holds c =
     let k = c .before .before in
     let f = found k (c .find-branch .ensures) in
     (f .high, (f .here, summed-past (first-summed (begun k)) f))
 
-mul-q : tie.Need-mul-q Inv-loop μ-loop
-mul-q c = omega (arith, next-in c)
-
-add-q : tie.Need-add-q Inv-loop μ-loop
-add-q c = omega (arith, next-in c)
-
-mul-q-2 : tie.Need-mul-q-2 Inv-loop μ-loop
-mul-q-2 c = omega (arith, next-in c)
-
-add-q-2 : tie.Need-add-q-2 Inv-loop μ-loop
-add-q-2 c = omega (arith, next-in c)
-
 add-overlaps-requires : tie.Need-add-overlaps-requires Inv-loop μ-loop
 add-overlaps-requires c κs =
     let t = c .before in
     let s = start (first t) in
     addable (s .pre .1 .1 .1) (s .pre .0) (t .loop-test .taken) (first-room (begun (first t))) (t .before .loop .inv .1 .1)
-
-add-find-branch-2 : tie.Need-add-find-branch-2 Inv-loop μ-loop
-add-find-branch-2 c = omega arith
 
 find-branch-requires-2 : tie.Need-find-branch-requires-2 Inv-loop μ-loop
 find-branch-requires-2 c κs =
@@ -131,27 +89,11 @@ returns c =
 pub write-block-spec : {M : Type 1} → statement M
 write-block-spec =
     tie.close
-    (tie.spec
-    Inv-loop
-    μ-loop
-    branch-store-requires
-    mul-w
-    mul-p
-    add-p
-    mul-p-2
-    add-p-2
-    write-overlaps-requires
-    add-find-branch
-    find-branch-requires
-    loop-holds
-    mul-q
-    add-q
-    mul-q-2
-    add-q-2
-    add-overlaps-requires
-    add-find-branch-2
-    find-branch-requires-2
-    loop-less
-    loop-again
-    same-length
-    returns)
+    (tie.spec Inv-loop μ-loop (λ c κs. bank-branch (c .pre .1 .1 .1) (c .args .b) (c .pre .0))
+    (λ c. omega (arith, square-small (c .before .args .d) (c .before .pre .1 .1 .1 .dim))) (λ c. omega (arith, own-in (c .before)))
+    (λ c. omega (arith, own-in (c .before))) (λ c. omega (arith, own-in (c .before))) (λ c. omega (arith, own-in (c .before)))
+    (λ c κs. let s = c .before .before in writable (s .pre .1 .1 .1) (s .pre .0) (s .pre .1 .1 .0))
+    (λ c. let s = start (c .before) in omega (arith, s .pre .0, s .pre .1 .1 .1 .few))
+    (λ c κs. let s = start (c .before) in (omega (arith, s .pre .0), λ j h. bank-branch (s .pre .1 .1 .1) j h)) loop-holds (λ c. omega (arith, next-in c))
+    (λ c. omega (arith, next-in c)) (λ c. omega (arith, next-in c)) (λ c. omega (arith, next-in c)) add-overlaps-requires (λ c. omega arith) find-branch-requires-2
+    loop-less loop-again same-length returns)

@@ -34,23 +34,8 @@ module _ (t : tie.In-loop Inv-loop μ-loop) where
   scale : value (t .before .before .read-cell .result) ≡ cellAt (s .args .work .now) (s .args .p)
   scale = ap value (t .before .before .read-cell .ensures)
 
-read-cell-requires : tie.Need-read-cell-requires Inv-loop μ-loop
-read-cell-requires c κs = let s = c .pre .entries .scale in (s .room, s .exponent)
-
 loop-holds : tie.Need-loop-holds Inv-loop μ-loop
 loop-holds c = begin (λ k. le-refl cellSize)
-
-mul-add-overlap : tie.Need-mul-add-overlap Inv-loop μ-loop
-mul-add-overlap c = omega (arith, s (c .before) .pre .room)
-
-add-add-overlap : tie.Need-add-add-overlap Inv-loop μ-loop
-add-add-overlap c = omega (arith, s (c .before) .pre .room)
-
-mul-add-overlap-2 : tie.Need-mul-add-overlap-2 Inv-loop μ-loop
-mul-add-overlap-2 c = omega (arith, q-in (c .before))
-
-add-add-overlap-2 : tie.Need-add-add-overlap-2 Inv-loop μ-loop
-add-add-overlap-2 c = omega (arith, q-in (c .before))
 
 add-overlap-requires : tie.Need-add-overlap-requires Inv-loop μ-loop
 add-overlap-requires c κs =
@@ -63,12 +48,6 @@ add-overlap-requires c κs =
       (subst (Coords 1 narrowExponent) x (s t .pre .entries .scale .coords), s t .pre .entries .factors i h),
     )
 
-add-c : tie.Need-add-c Inv-loop μ-loop
-add-c c = omega arith
-
-loop-less : tie.Need-loop-less Inv-loop μ-loop
-loop-less c = omega arith
-
 loop-again : tie.Need-loop-again Inv-loop μ-loop
 loop-again c =
     let a = c .before in
@@ -77,27 +56,12 @@ loop-again c =
     let q = cellAt (n .work .now) (n .k + t .before .loop .c * cellSize) in
     again (t .before .loop .inv) (t .loop-test .taken) (a .add-overlap .ensures) (ap cellWords (λ i. exact ._⊕_ (cell-same (own t) i) (exact ._⊗_ (scale t i) (conj q))))
 
-same-length : tie.Need-same-length Inv-loop μ-loop
-same-length c = long (c .before .loop .inv)
-
 returns : tie.Need-returns Inv-loop μ-loop
 returns c = done (c .before .loop .inv) (c .loop-test .left)
 
 pub add-row-spec : {M : Type 1} → statement M
 add-row-spec =
     tie.close
-    (tie.spec
-    Inv-loop
-    μ-loop
-    read-cell-requires
-    loop-holds
-    mul-add-overlap
-    add-add-overlap
-    mul-add-overlap-2
-    add-add-overlap-2
-    add-overlap-requires
-    add-c
-    loop-less
-    loop-again
-    same-length
-    returns)
+    (tie.spec Inv-loop μ-loop (λ c κs. let s = c .pre .entries .scale in (s .room, s .exponent)) loop-holds (λ c. omega (arith, s (c .before) .pre .room))
+    (λ c. omega (arith, s (c .before) .pre .room)) (λ c. omega (arith, q-in (c .before))) (λ c. omega (arith, q-in (c .before))) add-overlap-requires (λ c. omega arith)
+    (λ c. omega arith) loop-again (λ c. long (c .before .loop .inv)) returns)

@@ -32,49 +32,10 @@ module _ (t : tie.In-loop Inv-loop μ-loop) where
 loop-holds : tie.Need-loop-holds Inv-loop μ-loop
 loop-holds c = begin (λ k. le-refl cellSize)
 
-mul-mirror-entry : tie.Need-mul-mirror-entry Inv-loop μ-loop
-mul-mirror-entry c = omega (arith, from-in (c .before))
-
-add-mirror-entry : tie.Need-add-mirror-entry Inv-loop μ-loop
-add-mirror-entry c = omega (arith, from-in (c .before))
-
-mul-mirror-entry-2 : tie.Need-mul-mirror-entry-2 Inv-loop μ-loop
-mul-mirror-entry-2 c = omega (arith, from-in (c .before))
-
-add-mirror-entry-2 : tie.Need-add-mirror-entry-2 Inv-loop μ-loop
-add-mirror-entry-2 c = omega (arith, from-in (c .before))
-
-mul-mirror-entry-3 : tie.Need-mul-mirror-entry-3 Inv-loop μ-loop
-mul-mirror-entry-3 c = omega (arith, to-in (c .before))
-
-mul-mirror-entry-4 : tie.Need-mul-mirror-entry-4 Inv-loop μ-loop
-mul-mirror-entry-4 c = omega (arith, to-in (c .before))
-
-add-mirror-entry-3 : tie.Need-add-mirror-entry-3 Inv-loop μ-loop
-add-mirror-entry-3 c = omega (arith, to-in (c .before))
-
-mul-mirror-entry-5 : tie.Need-mul-mirror-entry-5 Inv-loop μ-loop
-mul-mirror-entry-5 c = omega (arith, to-in (c .before))
-
-add-mirror-entry-4 : tie.Need-add-mirror-entry-4 Inv-loop μ-loop
-add-mirror-entry-4 c = omega (arith, to-in (c .before))
-
-mul-mirror-entry-6 : tie.Need-mul-mirror-entry-6 Inv-loop μ-loop
-mul-mirror-entry-6 c = omega (arith, factor-in (c .before))
-
-add-mirror-entry-5 : tie.Need-add-mirror-entry-5 Inv-loop μ-loop
-add-mirror-entry-5 c = omega (arith, factor-in (c .before))
-
 mirror-entry-requires : tie.Need-mirror-entry-requires Inv-loop μ-loop
 mirror-entry-requires c κs =
     let t = c .before in
     mirrored (start t .pre) (t .before .loop .inv) (t .loop-test .taken)
-
-add-c : tie.Need-add-c Inv-loop μ-loop
-add-c c = omega arith
-
-loop-less : tie.Need-loop-less Inv-loop μ-loop
-loop-less c = omega arith
 
 loop-again : tie.Need-loop-again Inv-loop μ-loop
 loop-again c =
@@ -82,33 +43,13 @@ loop-again c =
     let t = a .before .before in
     again (t .before .loop .inv) (t .loop-test .taken) (a .mirror-entry .ensures) (ap cellWords (column-is (start t .pre .column) (t .before .loop .inv) (t .loop-test .taken)))
 
-same-length : tie.Need-same-length Inv-loop μ-loop
-same-length c = long (c .before .loop .inv)
-
 returns : tie.Need-returns Inv-loop μ-loop
 returns c = done (c .before .loop .inv) (c .loop-test .left)
 
 pub mirror-column-spec : {M : Type 1} → statement M
 mirror-column-spec =
     tie.close
-    (tie.spec
-    Inv-loop
-    μ-loop
-    loop-holds
-    mul-mirror-entry
-    add-mirror-entry
-    mul-mirror-entry-2
-    add-mirror-entry-2
-    mul-mirror-entry-3
-    mul-mirror-entry-4
-    add-mirror-entry-3
-    mul-mirror-entry-5
-    add-mirror-entry-4
-    mul-mirror-entry-6
-    add-mirror-entry-5
-    mirror-entry-requires
-    add-c
-    loop-less
-    loop-again
-    same-length
-    returns)
+    (tie.spec Inv-loop μ-loop loop-holds (λ c. omega (arith, from-in (c .before))) (λ c. omega (arith, from-in (c .before))) (λ c. omega (arith, from-in (c .before)))
+    (λ c. omega (arith, from-in (c .before))) (λ c. omega (arith, to-in (c .before))) (λ c. omega (arith, to-in (c .before))) (λ c. omega (arith, to-in (c .before)))
+    (λ c. omega (arith, to-in (c .before))) (λ c. omega (arith, to-in (c .before))) (λ c. omega (arith, factor-in (c .before)))
+    (λ c. omega (arith, factor-in (c .before))) mirror-entry-requires (λ c. omega arith) (λ c. omega arith) loop-again (λ c. long (c .before .loop .inv)) returns)

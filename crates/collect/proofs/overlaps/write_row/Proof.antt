@@ -29,23 +29,8 @@ module _ (t : tie.In-loop Inv-loop μ-loop) where
   scale : value (t .before .before .read-cell .result) ≡ cellAt (s .args .work .now) (s .args .p)
   scale = ap value (t .before .before .read-cell .ensures)
 
-read-cell-requires : tie.Need-read-cell-requires Inv-loop μ-loop
-read-cell-requires c κs = let s = c .pre .1 .scale in (s .room, s .exponent)
-
 loop-holds : tie.Need-loop-holds Inv-loop μ-loop
 loop-holds c = begin (λ k. le-refl cellSize)
-
-mul-write-overlap : tie.Need-mul-write-overlap Inv-loop μ-loop
-mul-write-overlap c = omega (arith, s (c .before) .pre .0)
-
-add-write-overlap : tie.Need-add-write-overlap Inv-loop μ-loop
-add-write-overlap c = omega (arith, s (c .before) .pre .0)
-
-mul-write-overlap-2 : tie.Need-mul-write-overlap-2 Inv-loop μ-loop
-mul-write-overlap-2 c = omega (arith, q-in (c .before))
-
-add-write-overlap-2 : tie.Need-add-write-overlap-2 Inv-loop μ-loop
-add-write-overlap-2 c = omega (arith, q-in (c .before))
 
 write-overlap-requires : tie.Need-write-overlap-requires Inv-loop μ-loop
 write-overlap-requires c κs =
@@ -56,12 +41,6 @@ write-overlap-requires c κs =
       (subst (Coords 1 narrowExponent) (sym (scale t)) (s t .pre .1 .scale .coords), s t .pre .1 .factors i h),
     )
 
-add-c : tie.Need-add-c Inv-loop μ-loop
-add-c c = omega arith
-
-loop-less : tie.Need-loop-less Inv-loop μ-loop
-loop-less c = omega arith
-
 loop-again : tie.Need-loop-again Inv-loop μ-loop
 loop-again c =
     let a = c .before in
@@ -70,27 +49,12 @@ loop-again c =
     let q = cellAt (n .work .now) (n .k + t .before .loop .c * cellSize) in
     again (t .before .loop .inv) (t .loop-test .taken) (a .write-overlap .ensures) (ap cellWords (λ i. exact ._⊗_ (scale t i) (conj q)))
 
-same-length : tie.Need-same-length Inv-loop μ-loop
-same-length c = long (c .before .loop .inv)
-
 returns : tie.Need-returns Inv-loop μ-loop
 returns c = done (c .before .loop .inv) (c .loop-test .left)
 
 pub write-row-spec : {M : Type 1} → statement M
 write-row-spec =
     tie.close
-    (tie.spec
-    Inv-loop
-    μ-loop
-    read-cell-requires
-    loop-holds
-    mul-write-overlap
-    add-write-overlap
-    mul-write-overlap-2
-    add-write-overlap-2
-    write-overlap-requires
-    add-c
-    loop-less
-    loop-again
-    same-length
-    returns)
+    (tie.spec Inv-loop μ-loop (λ c κs. let s = c .pre .1 .scale in (s .room, s .exponent)) loop-holds (λ c. omega (arith, s (c .before) .pre .0))
+    (λ c. omega (arith, s (c .before) .pre .0)) (λ c. omega (arith, q-in (c .before))) (λ c. omega (arith, q-in (c .before))) write-overlap-requires (λ c. omega arith)
+    (λ c. omega arith) loop-again (λ c. long (c .before .loop .inv)) returns)

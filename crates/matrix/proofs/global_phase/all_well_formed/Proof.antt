@@ -19,23 +19,11 @@ abbrev μ-loop : tie.MeasureT-loop
 loop-holds : tie.Need-loop-holds Inv-loop μ-loop
 loop-holds c = (omega arith, refl)
 
-mul-well-formed-at : tie.Need-mul-well-formed-at Inv-loop μ-loop
-mul-well-formed-at c = omega arith
-
-well-formed-at-requires : tie.Need-well-formed-at-requires Inv-loop μ-loop
-well-formed-at-requires c κs = omega arith
-
 returns : tie.Need-returns Inv-loop μ-loop
 returns c =
     let a = c .before in
     let l = a .before .before in
     sym (all-no (l .before .args .n) (l .loop .i) _ (a .before .loop-test .taken) (sym (a .well-formed-at .ensures) ∙ not-true _ (c .if1 .taken)))
-
-add-i : tie.Need-add-i Inv-loop μ-loop
-add-i c = omega arith
-
-loop-less : tie.Need-loop-less Inv-loop μ-loop
-loop-less c = omega arith
 
 loop-again : tie.Need-loop-again Inv-loop μ-loop
 loop-again c =
@@ -50,16 +38,4 @@ returns-2 c =
     sym (ap (λ (n : ℕ). allBelow n (λ (k : ℕ). wellFormedAt (l .before .args .s .now) (k * cellSize))) (sym e) ∙ l .loop .inv .1)
 
 pub all-well-formed-spec : {M : Type 1} → statement M
-all-well-formed-spec =
-    tie.close
-    (tie.spec
-    Inv-loop
-    μ-loop
-    loop-holds
-    mul-well-formed-at
-    well-formed-at-requires
-    returns
-    add-i
-    loop-less
-    loop-again
-    returns-2)
+all-well-formed-spec = tie.close (tie.spec Inv-loop μ-loop loop-holds (λ c. omega arith) (λ c κs. omega arith) returns (λ c. omega arith) (λ c. omega arith) loop-again returns-2)

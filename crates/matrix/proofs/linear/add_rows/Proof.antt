@@ -39,18 +39,6 @@ module _ (t : tie.In-loop Inv-loop μ-loop) where
   right : Same (t .before .loop .buf) (s .args .buf .now) (s .args .q + t .before .loop .c * cellSize) cellSize
   right = cut (kept (t .before .loop .inv) (s .args .q) (s .args .d * cellSize) (s .pre .1 .apart)) cellSize (t .before .loop .c) (block-in (t .loop-test .taken) cellSize)
 
-mul-a : tie.Need-mul-a Inv-loop μ-loop
-mul-a c = omega (arith, p-in c)
-
-add-a : tie.Need-add-a Inv-loop μ-loop
-add-a c = omega (arith, p-in c)
-
-mul-b : tie.Need-mul-b Inv-loop μ-loop
-mul-b c = omega (arith, q-in c)
-
-add-b : tie.Need-add-b Inv-loop μ-loop
-add-b c = omega (arith, q-in c)
-
 combined-entry-requires : tie.Need-combined-entry-requires Inv-loop μ-loop
 combined-entry-requires c κs =
     let t = c .before in (
@@ -58,20 +46,8 @@ combined-entry-requires c κs =
       (s t .pre .1 .scale, factor-same (right t) (s t .pre .1 .factor (t .before .loop .c) (t .loop-test .taken))),
     )
 
-mul-at : tie.Need-mul-at Inv-loop μ-loop
-mul-at c = let t = c .before .before in omega (arith, s t .pre .0 .to-room, t .loop-test .taken)
-
-add-at : tie.Need-add-at Inv-loop μ-loop
-add-at c = let t = c .before .before in omega (arith, s t .pre .0 .to-room, t .loop-test .taken)
-
 write-cell-requires : tie.Need-write-cell-requires Inv-loop μ-loop
 write-cell-requires c κs = let t = c .before .before .before in omega (arith, s t .pre .0 .to-room, t .loop-test .taken, long (t .before .loop .inv))
-
-add-c : tie.Need-add-c Inv-loop μ-loop
-add-c c = omega arith
-
-loop-less : tie.Need-loop-less Inv-loop μ-loop
-loop-less c = omega arith
 
 loop-again : tie.Need-loop-again Inv-loop μ-loop
 loop-again c =
@@ -82,29 +58,13 @@ loop-again c =
     again (t .before .loop .inv) (t .loop-test .taken) (w .write-cell .ensures)
     (ap cellWords (v .combined-entry .ensures ∙ (λ i. exact ._⊕_ (exact ._⊗_ (value (a .x)) (cell-same (left t) i)) (exact ._⊗_ (value (a .y)) (cell-same (right t) i)))))
 
-same-length : tie.Need-same-length Inv-loop μ-loop
-same-length c = long (c .before .loop .inv)
-
 returns : tie.Need-returns Inv-loop μ-loop
 returns c = done (c .before .loop .inv) (c .loop-test .left)
 
 pub add-rows-spec : {M : Type 1} → statement M
 add-rows-spec =
     tie.close
-    (tie.spec
-    Inv-loop
-    μ-loop
-    loop-holds
-    mul-a
-    add-a
-    mul-b
-    add-b
-    combined-entry-requires
-    mul-at
-    add-at
-    write-cell-requires
-    add-c
-    loop-less
-    loop-again
-    same-length
-    returns)
+    (tie.spec Inv-loop μ-loop loop-holds (λ c. omega (arith, p-in c)) (λ c. omega (arith, p-in c)) (λ c. omega (arith, q-in c)) (λ c. omega (arith, q-in c))
+    combined-entry-requires (λ c. let t = c .before .before in omega (arith, s t .pre .0 .to-room, t .loop-test .taken))
+    (λ c. let t = c .before .before in omega (arith, s t .pre .0 .to-room, t .loop-test .taken)) write-cell-requires (λ c. omega arith) (λ c. omega arith) loop-again
+    (λ c. long (c .before .loop .inv)) returns)

@@ -33,31 +33,13 @@ module _ (t : tie.In-loop Inv-loop μ-loop) where
   src : Same (t .before .loop .buf) (s .args .buf .now) (s .args .from + t .before .loop .c * cellSize) cellSize
   src = cut (kept (t .before .loop .inv) (s .args .from) (s .args .d * cellSize) (s .pre .apart)) cellSize (t .before .loop .c) (block-in (t .loop-test .taken) cellSize)
 
-mul-q : tie.Need-mul-q Inv-loop μ-loop
-mul-q c = omega (arith, q-in c)
-
-add-q : tie.Need-add-q Inv-loop μ-loop
-add-q c = omega (arith, q-in c)
-
 scaled-entry-requires : tie.Need-scaled-entry-requires Inv-loop μ-loop
 scaled-entry-requires c κs =
     let t = c .before in
     (s t .pre .scale, factor-same (src t) (s t .pre .factor (t .before .loop .c) (t .loop-test .taken)))
 
-mul-at : tie.Need-mul-at Inv-loop μ-loop
-mul-at c = let t = c .before .before in omega (arith, s t .pre .to-room, t .loop-test .taken)
-
-add-at : tie.Need-add-at Inv-loop μ-loop
-add-at c = let t = c .before .before in omega (arith, s t .pre .to-room, t .loop-test .taken)
-
 write-cell-requires : tie.Need-write-cell-requires Inv-loop μ-loop
 write-cell-requires c κs = let t = c .before .before .before in omega (arith, s t .pre .to-room, t .loop-test .taken, long (t .before .loop .inv))
-
-add-c : tie.Need-add-c Inv-loop μ-loop
-add-c c = omega arith
-
-loop-less : tie.Need-loop-less Inv-loop μ-loop
-loop-less c = omega arith
 
 loop-again : tie.Need-loop-again Inv-loop μ-loop
 loop-again c =
@@ -66,27 +48,13 @@ loop-again c =
     let t = v .before .before in
     again (t .before .loop .inv) (t .loop-test .taken) (w .write-cell .ensures) (ap cellWords (v .scaled-entry .ensures ∙ ap (exact ._⊗_ (value (s t .args .x))) (cell-same (src t))))
 
-same-length : tie.Need-same-length Inv-loop μ-loop
-same-length c = long (c .before .loop .inv)
-
 returns : tie.Need-returns Inv-loop μ-loop
 returns c = done (c .before .loop .inv) (c .loop-test .left)
 
 pub multiply-row-spec : {M : Type 1} → statement M
 multiply-row-spec =
     tie.close
-    (tie.spec
-    Inv-loop
-    μ-loop
-    loop-holds
-    mul-q
-    add-q
-    scaled-entry-requires
-    mul-at
-    add-at
-    write-cell-requires
-    add-c
-    loop-less
-    loop-again
-    same-length
-    returns)
+    (tie.spec Inv-loop μ-loop loop-holds (λ c. omega (arith, q-in c)) (λ c. omega (arith, q-in c)) scaled-entry-requires
+    (λ c. let t = c .before .before in omega (arith, s t .pre .to-room, t .loop-test .taken))
+    (λ c. let t = c .before .before in omega (arith, s t .pre .to-room, t .loop-test .taken)) write-cell-requires (λ c. omega arith) (λ c. omega arith) loop-again
+    (λ c. long (c .before .loop .inv)) returns)

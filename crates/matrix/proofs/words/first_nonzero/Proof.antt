@@ -26,26 +26,11 @@ abbrev μ-loop : tie.MeasureT-loop
 loop-holds : tie.Need-loop-holds Inv-loop μ-loop
 loop-holds c = (c .pre .0, refl)
 
-mul-zero-at : tie.Need-mul-zero-at Inv-loop μ-loop
-mul-zero-at c = omega arith
-
-add-zero-at : tie.Need-add-zero-at Inv-loop μ-loop
-add-zero-at c = omega arith
-
-zero-at-requires : tie.Need-zero-at-requires Inv-loop μ-loop
-zero-at-requires c κs = omega arith
-
 returns : tie.Need-returns Inv-loop μ-loop
 returns c =
     let a = c .before in
     let l = a .before .before in
     sym (l .loop .inv .1 ∙ first-here (l .before .args .n) (l .loop .i) _ (a .before .loop-test .taken) (sym (a .zero-at .ensures) ∙ not-true _ (c .if1 .taken)))
-
-add-i : tie.Need-add-i Inv-loop μ-loop
-add-i c = omega arith
-
-loop-less : tie.Need-loop-less Inv-loop μ-loop
-loop-less c = omega arith
 
 loop-again : tie.Need-loop-again Inv-loop μ-loop
 loop-again c =
@@ -59,17 +44,4 @@ returns-2 c =
     sym (l .loop .inv .1 ∙ first-end (l .before .args .n) (l .loop .i) _ (l .loop .inv .0) (c .loop-test .left))
 
 pub first-nonzero-spec : {M : Type 1} → statement M
-first-nonzero-spec =
-    tie.close
-    (tie.spec
-    Inv-loop
-    μ-loop
-    loop-holds
-    mul-zero-at
-    add-zero-at
-    zero-at-requires
-    returns
-    add-i
-    loop-less
-    loop-again
-    returns-2)
+first-nonzero-spec = tie.close (tie.spec Inv-loop μ-loop loop-holds (λ c. omega arith) (λ c. omega arith) (λ c κs. omega arith) returns (λ c. omega arith) (λ c. omega arith) loop-again returns-2)

@@ -18,30 +18,6 @@ use Rattle.scalar.proofs.Scalar.equals.Tie as tie
 eq-word : (x y : ℤ) → mag x < 2 ^ 63 → mag y < 2 ^ 63 → eqb (ofZ w64 x) (ofZ w64 y) ≡ eqℤ x y
 eq-word x y h k = eq-words x y (record { sfits = h }) (record { sfits = k })
 
-array-copy-out-result : tie.Need-array-copy-out-result
-array-copy-out-result c = search needs
-
-array-copy-out-result-2 : tie.Need-array-copy-out-result-2
-array-copy-out-result-2 c = search needs
-
-array-copy-out-result-3 : tie.Need-array-copy-out-result-3
-array-copy-out-result-3 c = search needs
-
-array-copy-out-result-4 : tie.Need-array-copy-out-result-4
-array-copy-out-result-4 c = search needs
-
-array-copy-out-result-5 : tie.Need-array-copy-out-result-5
-array-copy-out-result-5 c = search needs
-
-array-copy-out-result-6 : tie.Need-array-copy-out-result-6
-array-copy-out-result-6 c = search needs
-
-array-copy-out-result-7 : tie.Need-array-copy-out-result-7
-array-copy-out-result-7 c = search needs
-
-array-copy-out-result-8 : tie.Need-array-copy-out-result-8
-array-copy-out-result-8 c = search needs
-
 returns : tie.Need-returns
 returns c =
     let c7 = c .before in
@@ -63,13 +39,5 @@ returns c =
 pub equals-spec : {M : Type 1} → statement M
 equals-spec =
     tie.close
-    (tie.spec
-    array-copy-out-result
-    array-copy-out-result-2
-    array-copy-out-result-3
-    array-copy-out-result-4
-    array-copy-out-result-5
-    array-copy-out-result-6
-    array-copy-out-result-7
-    array-copy-out-result-8
-    returns)
+    (tie.spec (λ c. search needs) (λ c. search needs) (λ c. search needs) (λ c. search needs) (λ c. search needs) (λ c. search needs) (λ c. search needs)
+    (λ c. search needs) returns)

@@ -14,14 +14,8 @@ use Rattle.scalar.proofs.products.times.Tie as tie
 abbrev start : tie.After-struct-known2 → tie.Start
 start c = c .before .before .before .before
 
-add-f : tie.Need-add-f
-add-f c = search needs
-
 product-requires : tie.Need-product-requires
 product-requires c κs = let s = start c in (factor-within (value (s .args .x)) (s .pre .0), factor-within (value (s .args .y)) (s .pre .1))
-
-reduce-requires : tie.Need-reduce-requires
-reduce-requires c κs = let s = start (c .before) in omega (arith, s .pre .0 .exponent, s .pre .1 .exponent)
 
 returns : tie.Need-returns
 returns c =
@@ -30,4 +24,4 @@ returns c =
     c .reduce .ensures ∙ ap (λ (l : List ℤ). scalarOf (lowest (numberOf l) (a .x .e + a .y .e))) (m .product .ensures)
 
 pub times-spec : {M : Type 1} → statement M
-times-spec = tie.close (tie.spec add-f product-requires reduce-requires returns)
+times-spec = tie.close (tie.spec (λ c. search needs) product-requires (λ c κs. let s = start (c .before) in omega (arith, s .pre .0 .exponent, s .pre .1 .exponent)) returns)

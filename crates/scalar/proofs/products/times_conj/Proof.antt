@@ -15,18 +15,12 @@ use Rattle.scalar.proofs.products.times_conj.Tie as tie
 abbrev start : tie.After-struct-known2 → tie.Start
 start c = c .before .before .before .before
 
-add-f : tie.Need-add-f
-add-f c = search needs
-
 conj-product-requires : tie.Need-conj-product-requires
 conj-product-requires c κs =
     let s = start c in
     let left : Within narrowNumerator (value (s .args .x) .num) = factor-within (value (s .args .x)) (s .pre .0) in
     let right : Within narrowNumerator (value (s .args .y) .num) = factor-within (value (s .args .y)) (s .pre .1) in
     search needs
-
-reduce-requires : tie.Need-reduce-requires
-reduce-requires c κs = let s = start (c .before) in omega (arith, s .pre .0 .exponent, s .pre .1 .exponent)
 
 returns : tie.Need-returns
 returns c =
@@ -35,4 +29,4 @@ returns c =
     c .reduce .ensures ∙ ap (λ (l : List ℤ). scalarOf (lowest (numberOf l) (a .x .e + a .y .e))) (m .conj-product .ensures)
 
 pub times-conj-spec : {M : Type 1} → statement M
-times-conj-spec = tie.close (tie.spec add-f conj-product-requires reduce-requires returns)
+times-conj-spec = tie.close (tie.spec (λ c. search needs) conj-product-requires (λ c κs. let s = start (c .before) in omega (arith, s .pre .0 .exponent, s .pre .1 .exponent)) returns)
