@@ -40,7 +40,7 @@ fitsAll w b (x ⊞ y) = _&&_ (ltb (bnd b x + bnd b y) (2 ^ hbits w)) (_&&_ (fits
 fitsAll w b (x ⊠ y) = _&&_ (ltb (bnd b x * bnd b y) (2 ^ hbits w)) (_&&_ (fitsAll w b x) (fitsAll w b y))
 fitsAll w b (⊟ x) = fitsAll w b x
 
--- and the whole
+-- an expression and all its parts fit
 abbrev pub fitsTop : Width → (ℕ → ℕ) → Expr → Bool
 fitsTop w b e = _&&_ (ltb (bnd b e) (2 ^ hbits w)) (fitsAll w b e)
 

@@ -65,7 +65,7 @@ module _ {A : Type 0} (share : A → A → Bool) (d : A) where
       go (yes l) r = refl
       go (no l) r = ap suc r
 
-  -- it passes only what it does not share with
+  -- an inserted pair passes only what it does not share with
   free : (b : Bool) → (b ≡ true → ⊥) → b ≡ false
   free true h = absurd (h refl)
   free false h = refl

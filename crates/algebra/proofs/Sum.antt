@@ -35,7 +35,7 @@ module _ (𝓡 : Semi) where
           ap₂ _⊕_ (sum-zero n (λ (k : ℕ). f k ⊗ g k) (λ k j. h k (omega arith) (omega arith))) (ap (λ (k : ℕ). f k ⊗ g k) (sym e)) ∙ zero-add (f i) (g i)
       go (no e) r = ap₂ _⊕_ (r (omega arith)) (h n (omega arith) (λ x. e (sym x))) ∙ add-zero 𝓡 (f i) (g i)
 
-  -- and with two
+  -- a sum of which all terms but two are zero
   pub sum-two : (n i j : ℕ) (f g : ℕ → R) → i < n → j < n → i ≢ j → ((k : ℕ) → k < n → k ≢ i → k ≢ j → f k ⊗ g k ≡ 𝟘) → sum ops n (λ (k : ℕ). f k ⊗ g k) ≡ f i ⊗ g i ⊕ f j ⊗ g j
   sum-two zero i j f g l m e h = absurd (omega arith)
   sum-two (suc n) i j f g l m e h = go (ℕ-discrete i n) (ℕ-discrete j n) (λ l m. sum-two n i j f g l m e (λ k p. h k (omega arith)))

@@ -81,7 +81,7 @@ module _ (n m : ℕ) (g : Gate) (ok : valid n m g ≡ true) (z : Branch) (bs : L
       record { exponent = omega (arith, k .coords .exponent); size = k .coords .size }
 
   module _ {l : List ℤ} {from : ℕ} (held : Holds l from (bankWords (2 ^ n) bs)) where
-    -- and so are those of its branches
+    -- the entries of a bank's branches are factors in lowest form
     module _ (E : ℕ) (small : E ≤ narrowExponent) (enough : Enough E n bs) (j i : ℕ) (h : j < length bs) (hi : i < 2 ^ n * 2 ^ n) where
       abbrev x : Exact
       x = getD (getD bs j z .matrix) i (exact .𝟘)
@@ -104,7 +104,7 @@ module _ (n m : ℕ) (g : Gate) (ok : valid n m g ≡ true) (z : Branch) (bs : L
     product-is j h v r c q = times-same exacts (2 ^ n) (gateEntry n g v) (gateEntry n g v) (matrix.cell l (from + j * branchSize (2 ^ n)) (2 ^ n)) (cell exact (2 ^ n) (getD bs j z .matrix)) r c
         (λ k hk. refl) (λ k hk. bank-read (2 ^ n) bs held z j h .number (k * 2 ^ n + c) (digits-lt hk q))
 
-    -- and so is the sum of two rows, where the rows of the operators lie in slots
+    -- the sum of two rows is an entry of the product, where the rows of the operators lie in slots
     module _ (slots : ℕ) (few-qubits : n ≤ 5) (rows : (v : ℕ) → v < length (operators g) → RowsAt l (slots + v * branchSize (2 ^ n)) n g v (2 ^ n)) where
       operable : (v : ℕ) → v < ops → Ready n g v
       operable v hv = valid-ready n m g v ok hv

@@ -39,7 +39,7 @@ fn apply_rows(work: &mut [i64], m: usize, op: usize, old: usize, new: usize, d: 
     }
 }
 
-// The same; zeros for a zero matrix.
+// Write an operator times the matrix at `old` to `new`; zeros for a zero matrix.
 pub fn apply_operator(work: &mut [i64], m: usize, op: usize, old: usize, new: usize, d: usize)
     requires { ⌜ Applying (now work) m op old new d ⌝ }
     ensures { λ _. ⌜ now (work .exit) ≡ written (now (work .entry)) new d (rowSum (now (work .entry)) m op old d) ⌝ }

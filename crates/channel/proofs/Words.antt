@@ -57,7 +57,7 @@ start-is w n i h = λ k. le-leb headerSize (recordAt w i) (omega arith) k && (eq
             let z : headerSize + i * (recordHead + r) - headerSize ≡ i * (recordHead + r) + 0 = omega arith in
             (ap (λ (k : ℕ). k % (recordHead + r)) z ∙ digits-mod i (omega arith), ap (λ (k : ℕ). k / (recordHead + r)) z ∙ digits-div i (omega arith))
 
--- and the record lies inside the n records
+-- a record that starts at one of n places lies inside the n records
 pub starts-inside : {w n a : ℕ} → Starts w n a → a + recordSize w ≤ headerSize + n * recordSize w
 starts-inside {w} {n} {a} s = by (recordSize w) (s .place) (s .is) (s .below)
   where

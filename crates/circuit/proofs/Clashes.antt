@@ -53,11 +53,11 @@ module _ (n m : ℕ) (σ : List ℕ) (l : Limits) (ws ends : List ℕ) (result w
       (sym (layered-yes ∙ every-append words (layers ++ numbers) ∙ ap (λ (b : Bool). every yes words && b) (every-append layers numbers)) ∙ e) in
       (p, and-split (every yes layers) (every yes numbers) q)
 
-  -- its gate list is accepted too
+  -- the gate list of an accepted layered circuit is accepted too
   pub layered-accepts : accepted (layeredVerdict n m σ l ws ends result work) ≡ true → accepted (channelVerdict n m σ l ws result work) ≡ true
   layered-accepts e = let a = accepted-parts e in channel-accepts n m σ l ws result work ∙ every-append words numbers ∙ (λ i. a .0 i && a .1 .1 i)
 
-  -- and nothing clashes
+  -- no two gates of a layer of an accepted layered circuit clash
   pub layered-free : accepted (layeredVerdict n m σ l ws ends result work) ≡ true → free clash [] (fired ends 0 (gatesOf ws)) ≡ true
   layered-free e =
       sym (clashes-free [] 0 (fired ends 0 (gatesOf ws)))

@@ -90,11 +90,11 @@ module _ (ends : List ℕ) {xs ys : List Gate} {table : List ℕ} (order : Sched
     kept = λ i j l h e. absurd (true≢false (sym e));
   }
 
-  -- it clashes exactly where the list does
+  -- a reordering inside layers clashes exactly where the list does
   pub clashes-alike : free clash [] (fired ends 0 ys) ≡ free clash [] (fired ends 0 xs)
   clashes-alike = free-of clash clash-sym (schedule-trace (λ (a b : Fired). false) idle fired-order) []
 
-  -- where nothing clashes it is a schedule
+  -- where nothing clashes a reordering inside layers is a schedule
   pub layered-schedule : free clash [] (fired ends 0 ys) ≡ true → Schedule share (gate 0 0 0 0 0) xs ys table
   layered-schedule e = record { long = order .long; wide = order .wide; below = order .below; once = order .once; moved = order .moved; kept = kept }
     where

@@ -45,7 +45,7 @@ clashQuestions before i (g ∷ gs) = question 12 (not (some (clash g) before)) (
 abbrev pub layerQuestions : List ℕ → List Gate → List Question
 layerQuestions ends gs = question 11 (closing (length gs) 0 ends) BadLayers ∷ clashQuestions [] 0 (fired ends 0 gs)
 
--- those of circuit_channel, with the layers' after the gates'
+-- the questions of circuit_channel, with the layers' after the gates'
 module _ (n m : ℕ) (σ : List ℕ) (l : Limits) (ws ends : List ℕ) (result work : ℕ) where
   abbrev pub layeredQuestions : List Question
   layeredQuestions = wordQuestions n m l ws ++ (layerQuestions ends (gatesOf ws) ++ numberQuestions (footprintOf m (gatesOf ws)) n m σ l result work)

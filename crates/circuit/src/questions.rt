@@ -130,7 +130,7 @@ pub fn judge_circuit(
     }
 }
 
-// The same of a layered circuit: its layers are asked between the gates and the store.
+// The verdict on a layered circuit, as `judge_circuit` has it, with the layers asked between the gates and the store.
 pub fn judge_layered(
     n: u32,
     bits: u32,

@@ -168,7 +168,7 @@ module _ (t : List ℕ) {at count : ℕ} (g : Along t at count) where
     }
 
 -- ---- the numbers in their room
--- those read lie in the room l
+-- the numbers read so far lie in the room l
 pub record Taken (t l₀ l : List ℕ) (at count : ℕ) : Type 0 where
   pub along : Along t at count
   pub room : sets l₀ 0 (map value (pieces t)) ≡ sets l count (map value (from t at))

@@ -36,7 +36,7 @@ conj-zero x = λ i. ((eqb (natAbs (x .num .re .re)) 0 && eqb (natAbs (x .num .re
 pub overlap-mirror : (x y : Exact) → conj (exact ._⊗_ x (conj y)) ≡ exact ._⊗_ y (conj x)
 overlap-mirror x y = conj-by x (conj y) ∙ ap (exact ._⊗_ (conj x)) (conj-conj y) ∙ exacts .mul-comm (conj x) y
 
--- and of a sum with one
+-- entry (r, c) of a sum with an overlap from entry (c, r)
 pub sum-mirror : (a x y : Exact) → conj (exact ._⊕_ a (exact ._⊗_ x (conj y))) ≡ exact ._⊕_ (conj a) (exact ._⊗_ y (conj x))
 sum-mirror a x y = conj-plus a (exact ._⊗_ x (conj y)) ∙ ap (exact ._⊕_ (conj a)) (overlap-mirror x y)
 
@@ -59,7 +59,7 @@ module _ (l : List ℤ) (at : ℕ) (x : Exact) (m : List ℤ) (q : ℕ) (low : i
 pub overlap-none : (l : List ℤ) (at e : ℕ) (x : Exact) (m : List ℤ) (q : ℕ) → Sum l at e → zeroAt m q ≡ true → l ≡ sets l at (cellWords (overlapped l at x m q))
 overlap-none l at e x m q s z = sym (ap (λ (v : Exact). sets l at (cellWords v)) (right-none l at x m q (s .lowest) z) ∙ cell-there l at (s .exponent))
 
--- and so does a zero left factor those of a row
+-- a zero left factor leaves the words of a row as they are
 pub row-none : {l : List ℤ} {to : ℕ} {m : List ℤ} {p k w : ℕ} → Row l to m p k w → zeroAt m p ≡ true → l ≡ fill l to w (λ (c : ℕ). overlapped l (to + c * cellSize) (cellAt m p) m (k + c * cellSize))
 row-none {l} {to} {m} {p} {k} {w} r z = sym (fill-there l to w _ (λ c h. r .sums c h .exponent) (λ c h. left-none l (to + c * cellSize) (cellAt m p) m (k + c * cellSize) (r .sums c h .lowest) z))
 

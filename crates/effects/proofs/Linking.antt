@@ -31,6 +31,6 @@ record-less {d} m = let p : d ≤ d * d = by d (m .some) in let q = mul-le-mul p
     by : (d : ℕ) → 1 ≤ d → d ≤ d * d
     by d h = let q : 1 * d ≤ d * d = mul-le-mul h (le-refl d) in omega arith
 
--- so the matching index is no greater
+-- the index of an effect's record is no greater than the one that it matches
 pub link-less : (a s t : ℕ) → t ≤ s → headerSize ≤ a → headerSize + (a - headerSize) / s * t ≤ a
 link-less a s t h k = let p = mul-le-mul (le-refl ((a - headerSize) / s)) h in let q = div-add-mod' (a - headerSize) s in omega arith

@@ -28,7 +28,7 @@ zero-by x y e =
 pub by-zero : (x y : Exact) → isZero (y .num) ≡ true → exact ._⊗_ x y ≡ exact .𝟘
 by-zero x y e = exacts .mul-comm x y ∙ zero-by y x e
 
--- it adds nothing
+-- a product with a zero factor adds nothing
 module _ (s x y : Exact) (low : isLowest s ≡ true) where
   pub zero-left : isZero (x .num) ≡ true → exact ._⊕_ s (exact ._⊗_ x y) ≡ s
   zero-left z = ap (exact ._⊕_ s) (zero-by x y z) ∙ plus-zero s low

@@ -59,7 +59,7 @@ fn multiply_row(buf: &mut [i64], x: Scalar, from: usize, to: usize, d: usize)
     }
 }
 
-// The same; zeros are written and ones copied.
+// Write a row times x to `to`: zeros for x = 0, a copy for x = 1.
 fn scale_row(buf: &mut [i64], x: Scalar, from: usize, to: usize, d: usize)
     requires { ⌜ Scaling (now buf) (value x) from to d ⌝ }
     ensures { λ _. ⌜ now (buf .exit) ≡ fill (now (buf .entry)) to d (scaledRow (now (buf .entry)) (value x) from) ⌝ }
@@ -91,7 +91,7 @@ fn add_rows(buf: &mut [i64], x: Scalar, p: usize, y: Scalar, q: usize, to: usize
     }
 }
 
-// The same; a row that is multiplied by zero is not read.
+// Write x times the row at p plus y times the row at q to `to`. A row that is multiplied by zero is not read.
 pub fn combine_rows(buf: &mut [i64], x: Scalar, p: usize, y: Scalar, q: usize, to: usize, d: usize)
     requires { ⌜ Scaling (now buf) (value x) p to d × Scaling (now buf) (value y) q to d ⌝ }
     ensures { λ _. ⌜ now (buf .exit) ≡ fill (now (buf .entry)) to d (combinedRow (now (buf .entry)) (value x) p (value y) q) ⌝ }

@@ -38,7 +38,7 @@ module _ {A : Type 0} (f : Question → A) (z : A) where
       go true e r = r e
       go false e r = refl
 
--- so the first no of xs ++ ys is that of ys where xs have none, else that of xs
+-- the first no of xs ++ ys is that of ys where xs have none, else that of xs
 module _ {A : Type 0} (f : Question → A) (z : A) (xs ys : List Question) where
   pub append-yes : every yes xs ≡ true → firstBy f z (xs ++ ys) ≡ firstBy f z ys
   append-yes e = first-append f z xs ys ∙ first-none f (firstBy f z ys) xs e

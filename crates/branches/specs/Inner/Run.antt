@@ -32,7 +32,7 @@ operatorWords n d g k = cells (d * 2) (rowEntry n g k)
 abbrev pub withOperators : List ℤ → ℕ → ℕ → ℕ → Gate → List ℤ
 withOperators l slots n d g = blocks (branchSize d) l slots (length (operators g)) (operatorWords n d g)
 
--- and with the products of `count` branches written
+-- the words, with the rows of the gate's operators and the products of `count` branches written
 abbrev pub gateStepped : List ℤ → ℕ → ℕ → ℕ → ℕ → ℕ → ℕ → Gate → List ℤ
 gateStepped l slots n d from to count g =
     let m = withOperators l slots n d g in

@@ -68,7 +68,7 @@ module _ (l : List ℤ) (at d : ℕ) where
   abbrev pub blockOf : ℕ → ℕ → layout.Block
   blockOf n s = record { store = s; entry = λ k. overlaps n s (k / layout.side d) (k % layout.side d) }
 
-  -- and its record, as the last of a chain
+  -- the record of a store's block, as the last of a chain
   abbrev pub recordOf : ℕ → ℕ → List ℤ
   recordOf n s = layout.recordWords (layout.side d) 0 (blockOf n s)
 

@@ -98,7 +98,7 @@ coreOf g j =
 abbrev pub valid : ℕ → ℕ → Gate → Bool
 valid n m g = formed g && (placed n m g && supported g)
 
--- and one of its operators
+-- a gate that passes the questions, with the number of one of its operators
 pub record Ready (n : ℕ) (g : Gate) (j : ℕ) : Type 0 where
   pub known : formed g ≡ true
   pub on : onQubits n g ≡ true

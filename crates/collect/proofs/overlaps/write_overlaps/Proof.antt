@@ -45,7 +45,7 @@ module _ (c : tie.After-clear Inv-loop μ-loop) where
       rows-cleared (s found .pre) (t found .loop-test .taken) (t found .before .loop .inv .1) (entry found .low) (entry found .high)
       (λ i p q. not-false _ (entry found .passed i p q)) (c .clear .ensures)
 
--- and a row is left
+-- a row that is not yet written is left
 below : (c : tie.Else1 Inv-loop μ-loop) → let a = found (c .before .before) in a .first-nonzero .result < s a .args .w
 below c = let e = c .if1 .left in let a = found (c .before .before) in omega (arith, entry a .high)
 

@@ -66,7 +66,7 @@ m2 = ((s ⊞ (con (pos 2) ⊠ t)) ⊞ ⊟ d) ⊞ e
 abbrev m3 : Expr
 m3 = (w ⊞ ⊟ c) ⊞ r
 
--- and as the product has them
+-- the four numerators as the product has them
 abbrev xy : Pair (Pair Expr)
 xy = formulas ._⊗_ x (pair (pair y0 y1) (pair (⊟ y2) (⊟ y3)))
 

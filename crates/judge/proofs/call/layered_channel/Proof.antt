@@ -22,7 +22,7 @@ tested : (c : tie.After-is-accepted) → let a = c .before .before .before .befo
     layeredAccepts (a .qubits) (a .bits) (a .store .now) (a .limits) (a .gates .now) (a .ends .now) (a .result .now) (a .work .now) ≡ c .is-accepted .result
 tested c = sym (c .is-accepted .ensures ∙ ap accepted (c .before .judge-layered .ensures .0))
 
--- and then the gate list is accepted
+-- where the layered circuit is accepted, its gate list is
 sound : (c : tie.Then1) → let a = c .before .before .before .before .before .before .args in
     accepts (a .qubits) (a .bits) (a .store .now) (a .limits) (a .gates .now) (a .result .now) (a .work .now) ≡ true
 sound c =
