@@ -14,7 +14,7 @@ ghost use lib.ListN.{length};
 ghost use Rattle.gate.specs.Gate.{gateAt};
 ghost use Rattle.gate.specs.Operators.{operators};
 ghost use Rattle.gate.specs.Inner.Entries.{flips};
-ghost use Rattle.gate.specs.Verdict.{gateOf};
+ghost use Rattle.gate.specs.Inner.Words.{gateOf};
 ghost use Rattle.branches.specs.Inner.Store.{outcomeBit};
 ghost use Rattle.branches.specs.Inner.Run.{Slots, withOperators, gateStepped, GateStep, Runs, Ran};
 

@@ -15,7 +15,7 @@ use Rattle.verdict.proofs.Questions.{Refuses, after-yes, after-no}
 use Rattle.gate.specs.declared.judge.Asking.{Asking}
 use Rattle.gate.specs.declared.judge.Asking.the-variants.{Channel, Unitary}
 use Rattle.gate.specs.Gate.{Gate, gateSize, gateAt, gatesFrom}
-use Rattle.gate.specs.Verdict.{gateQuestions}
+use Rattle.gate.specs.Questions.{gateQuestions}
 use Rattle.gate.proofs.Listed.{gates-more, gates-none}
 use Rattle.circuit.specs.Questions.{gatesQuestions}
 

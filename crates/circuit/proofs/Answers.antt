@@ -15,7 +15,7 @@ use Rattle.verdict.proofs.Questions.{yes, Refuses, all-yes}
 use Rattle.gate.specs.declared.judge.Asking.{Asking}
 use Rattle.gate.specs.declared.judge.Asking.the-variants.{Channel, Unitary}
 use Rattle.gate.specs.Gate.{Gate, gateSize, gatesOf, formed, placed, supported}
-use Rattle.gate.specs.Verdict.{gateQuestions}
+use Rattle.gate.specs.Questions.{gateQuestions}
 use Rattle.gate.specs.Inner.Entries.{valid}
 use Rattle.circuit.specs.declared.limits.Limits.{Limits}
 use Rattle.circuit.specs.Limits.{matrixCeilings, branchCeilings}

@@ -12,7 +12,7 @@ use Rattle.verdict.specs.Questions.{Question, question, firstNo}
 use Rattle.gate.specs.declared.judge.Asking.{Asking}
 use Rattle.gate.specs.declared.judge.Asking.the-variants.{Channel, Unitary}
 use Rattle.gate.specs.Gate.{Gate, gateSize, gatesOf, weight, maxWeight}
-use Rattle.gate.specs.Verdict.{gateQuestions}
+use Rattle.gate.specs.Questions.{gateQuestions}
 use Rattle.circuit.specs.declared.limits.Limits.{Limits}
 use Rattle.circuit.specs.declared.footprint.Footprint.{Footprint}
 use Rattle.circuit.specs.declared.sizes.Sizes.{Sizes}

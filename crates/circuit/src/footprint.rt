@@ -8,7 +8,7 @@ ghost use Prim.Native.Nat.{ℕ, _+_, _*_, _-_, _/_, _≤_};
 ghost use lib.ListN.{length};
 ghost use Rattle.algebra.specs.Lists.{some};
 ghost use Rattle.gate.specs.Gate.{Gate, gateSize, gatesFrom, gatesOf};
-ghost use Rattle.gate.specs.Verdict.{gateOf};
+ghost use Rattle.gate.specs.Inner.Words.{gateOf};
 ghost use Rattle.circuit.specs.Footprint.{writes, footprintOf};
 ghost use Rattle.circuit.specs.Inner.Footprint.{newly};
 

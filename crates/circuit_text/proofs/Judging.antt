@@ -12,7 +12,7 @@ use Rattle.circuit_text.specs.declared.input.Seen.{Seen}
 use Rattle.text.specs.Decimal.{value, isNumber}
 use Rattle.circuit_text.specs.Text.{pieces}
 use Rattle.circuit_text.specs.Input.{circuitIn, isInput}
-use Rattle.text.specs.Number.{numberOf}
+use Rattle.text.specs.Inner.Number.{numberOf}
 use Rattle.circuit_text.specs.Inner.Reading.{noneSeen, seenWith, seenInput, inputIn}
 use Rattle.text.proofs.Read.{number-test, number-value}
 use Rattle.circuit_text.proofs.Pieces.{from, Along, along-none, along-all, along-count, along-bad, along-value, along-more}

@@ -17,8 +17,8 @@ use Rattle.circuit_text.specs.declared.input.Circuit.{Circuit}
 use Rattle.circuit_text.specs.declared.input.Seen.{Seen}
 use Rattle.text.specs.Decimal.{value, isNumber}
 use Rattle.circuit_text.specs.Text.{maxBytes, bodyLength, body, pieces}
-use Rattle.circuit_text.specs.Input.{maxBits, maxGates, numberCount, maxByte, bitsIn, gatesIn, storeIn, circuitIn, bytes, isInput, numbersOf, isInputText, inputOf, filled, stored}
-use Rattle.circuit_text.specs.Inner.Reading.{maxNumbers, noneSeen, seenWith, seenOk, seenInput, inputIn}
+use Rattle.circuit_text.specs.Input.{maxBits, maxGates, numberCount, maxByte, bitsIn, gatesIn, storeIn, circuitIn, bytes, isInput, numbersOf, isInputText, inputOf}
+use Rattle.circuit_text.specs.Inner.Reading.{filled, stored, maxNumbers, noneSeen, seenWith, seenOk, seenInput, inputIn}
 
 -- what holds of the numbers of an input
 pub record Right (ns : List ℕ) : Type 0 where

@@ -4,7 +4,6 @@ use mathlib.Core.List.{List, map}
 use Prim.Native.Nat.{ℕ, _+_, _*_}
 use lib.Dec.{eqb, leb}
 use lib.ListN.{length, getD, take, drop}
-use lib.Seq.{sets}
 use Rattle.algebra.specs.Lists.{every, allBelow}
 use Rattle.circuit_text.specs.declared.input.Circuit.{Circuit}
 use Rattle.circuit_text.specs.declared.input.Input.{Input}
@@ -57,10 +56,3 @@ isInputText t = (leb (length t) maxBytes && every isNumber (pieces (body t))) &&
 
 abbrev pub inputOf : List ℕ → Input
 inputOf t = cond (isInputText t) (Input.Given (circuitIn (numbersOf t))) Input.Refused
-
--- the room for the numbers and for the store after reading: as it was, where the text is no input
-abbrev pub filled : List ℕ → List ℕ → List ℕ
-filled t l = cond (isInputText t) (sets l 0 (numbersOf t)) l
-
-abbrev pub stored : List ℕ → List ℕ → List ℕ
-stored t l = cond (isInputText t) (sets l 0 (storeIn (numbersOf t))) l

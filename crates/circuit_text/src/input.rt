@@ -10,8 +10,8 @@ ghost use Prim.Native.Nat.{_+_, _≤_};
 ghost use lib.ListN.{length, take, drop};
 ghost use lib.Seq.{sets};
 ghost use Rattle.circuit_text.specs.Text.{maxBytes, pieces};
-ghost use Rattle.circuit_text.specs.Input.{maxBits, bytes, inputOf, filled, stored};
-ghost use Rattle.circuit_text.specs.Inner.Reading.{maxNumbers, noneSeen, seenWith, seenInput, inputIn};
+ghost use Rattle.circuit_text.specs.Input.{maxBits, bytes, inputOf};
+ghost use Rattle.circuit_text.specs.Inner.Reading.{filled, stored, maxNumbers, noneSeen, seenWith, seenInput, inputIn};
 
 // The most bytes that a text has.
 pub const MAX_BYTES: usize = 2048;

@@ -14,7 +14,7 @@ use Rattle.gate.specs.Gate.{Gate, gate, arity, qubits, bits, elem, disti
 use Rattle.gate.specs.Inner.Kinds.{oneQubit, splitting, controlledOnce, controlledTwice, targeted, swapping, swap, cswap}
 use Rattle.gate.specs.Operators.{Small, operator, operators, noUnitary, controlled, swapped, identity, operatorAt}
 use Rattle.gate.specs.Embed.{embed, gateEntry}
-use Rattle.gate.specs.Verdict.{onQubits}
+use Rattle.gate.specs.Questions.{onQubits}
 use Rattle.gate.specs.Inner.Entries.{valid, Table, tableOf, coreOf, smallOf, unitaryOf, targetOf, Ready, Apart2, Apart3}
 use Rattle.gate.proofs.Gate.{elem-in}
 use Rattle.gate.proofs.Placed.{one-table, two-table, three-table}

@@ -9,7 +9,7 @@ use lib.Seq.{take-all}
 use borrow.Author.Tests.{le-leb, ne-eqb}
 use Rattle.algebra.specs.Lists.{every}
 use Rattle.gate.specs.Gate.{Gate, gate, rz, measure, lastKind, arity, qubits, distinct, formed, placed, bits}
-use Rattle.gate.specs.Verdict.{onQubits}
+use Rattle.gate.specs.Questions.{onQubits}
 
 -- ---- question 4
 pub formed-measure : (m a b c k : ℕ) → m ≡ measure → eqb k 0 && eqb c 0 ≡ formed (gate m a b c k)

@@ -1,3 +1,4 @@
 -- What inner functions ask and proofs need.
+pub mod Words
 pub mod Kinds
 pub mod Entries

@@ -1,6 +1,6 @@
 pub mod Gate
 pub mod Operators
 pub mod Embed
-pub mod Verdict
+pub mod Questions
 pub mod Embedding
 pub mod Inner

@@ -12,7 +12,8 @@ ghost use lib.ListN.{length, drop};
 ghost use Rattle.algebra.specs.Lists.{every};
 ghost use Rattle.gate.specs.Gate.{gateSize, gateAt, arity, elem, bits, formed, placed, supported, weight, splits};
 ghost use Rattle.verdict.specs.Questions.{firstNo};
-ghost use Rattle.gate.specs.Verdict.{gateOf, threeAnswers, onQubits, gateQuestions};
+ghost use Rattle.gate.specs.Inner.Words.{gateOf};
+ghost use Rattle.gate.specs.Questions.{threeAnswers, onQubits, gateQuestions};
 
 // The five words of a gate.
 pub struct GateWords {

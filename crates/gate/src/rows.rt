@@ -13,7 +13,7 @@ ghost use mathlib.Core.Path.{_≡_};
 ghost use Prim.Native.Nat.{_+_, _-_, _*_, _^_, _≤_, _<_};
 ghost use lib.ListN.{length};
 ghost use Rattle.cells.specs.Cells.{cellSize, fill};
-ghost use Rattle.gate.specs.Verdict.{gateOf};
+ghost use Rattle.gate.specs.Inner.Words.{gateOf};
 ghost use Rattle.gate.specs.Inner.Entries.{Ready, flips, controls, rowEntry, pairOf, rowPair};
 
 // The entries of a row in its own column and in its partner's.

@@ -6,7 +6,7 @@ ghost use mathlib.Core.Path.{_≡_};
 ghost use mathlib.Core.List.{[], _∷_};
 ghost use lib.ListN.{take};
 ghost use Rattle.gate.specs.Gate.{elem, qubits, bits, meet, share};
-ghost use Rattle.gate.specs.Verdict.{gateOf};
+ghost use Rattle.gate.specs.Inner.Words.{gateOf};
 
 // Whether q is one of the first `used` of a, b, c.
 fn is_among(q: u32, used: u32, a: u32, b: u32, c: u32) -> bool

@@ -13,7 +13,7 @@ ghost use mathlib.Core.Bool.{true};
 ghost use Prim.Native.Nat.{_<_};
 ghost use Rattle.gate.specs.Gate.{gate, elem};
 ghost use Rattle.gate.specs.Operators.{phase, operatorAt, identity};
-ghost use Rattle.gate.specs.Verdict.{gateOf};
+ghost use Rattle.gate.specs.Inner.Words.{gateOf};
 ghost use Rattle.gate.specs.Inner.Kinds.{constants, unitaryKinds, splitting, targeted};
 ghost use Rattle.gate.specs.Inner.Entries.{Ready, unitaryOf, targetOf, tableOf, coreOf};
 

@@ -6,8 +6,8 @@ use Prim.Native.Nat.{ℕ, _+_, _*_, _≤_}
 use native.Mathlib.Omega.{arith}
 use lib.ListN.{length, take, drop, length-drop}
 use lib.Seq.{sets, sets-eq, length-sets, length-take-le, take-at, drop-at, take-add}
-use Rattle.circuit_text.specs.Input.{maxBits, bitsIn, gatesIn, storeIn, wordsIn, numbersOf, isInputText, filled, stored}
-use Rattle.circuit_text.specs.Inner.Reading.{maxNumbers}
+use Rattle.circuit_text.specs.Input.{maxBits, bitsIn, gatesIn, storeIn, wordsIn, numbersOf, isInputText}
+use Rattle.circuit_text.specs.Inner.Reading.{filled, stored, maxNumbers}
 use Rattle.gate.specs.Gate.{gateSize}
 use Rattle.circuit_text.proofs.Shapes.{sound, given-numbers, given-store, first-words}
 

@@ -12,7 +12,7 @@ use mir.Syntax.{w64}
 use mir.Val.{SFits, toZ, ofZ}
 use mir.Facts.{toZ-ofZ}
 use Rattle.text.specs.Decimal.{isBlank, isDigit, digit}
-use Rattle.text.specs.Number.{maxTenth}
+use Rattle.text.specs.Inner.Number.{maxTenth}
 use Rattle.replay.specs.declared.numeral.Digits.{Digits}
 use Rattle.replay.specs.declared.numeral.Word.{Word}
 use Rattle.replay.specs.Numerals.{digits, withByte, wordOf, wordFrom, wordAt, wordNo}

@@ -7,7 +7,7 @@ use lib.Dec.{eqb, ltb}
 use lib.ListN.{drop}
 use lib.IntN.{ℤ, pos, negℤ}
 use Rattle.text.specs.Decimal.{isBlank, isDigit, digit}
-use Rattle.text.specs.Number.{maxTenth}
+use Rattle.text.specs.Inner.Number.{maxTenth}
 use Rattle.replay.specs.declared.numeral.Digits.{Digits}
 use Rattle.replay.specs.declared.numeral.Word.{Word}
 

@@ -14,7 +14,7 @@ use Rattle.algebra.specs.Lists.{every}
 use Rattle.algebra.proofs.Tests.{and-split}
 use Rattle.text.specs.declared.number.Number.{Number}
 use Rattle.text.specs.Decimal.{isDigit, digit, value, maxDigits, maxNumber, isNumber}
-use Rattle.text.specs.Number.{noNumber, numberOf}
+use Rattle.text.specs.Inner.Number.{noNumber, numberOf}
 
 pub digit-range : (b : ℕ) → isDigit b ≡ true → (48 ≤ b) × (b ≤ 57)
 digit-range b e = let t = and-split (leb 48 b) (leb b 57) e in (leb-true 48 b (t .0), leb-true b 57 (t .1))

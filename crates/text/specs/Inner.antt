@@ -1,2 +1,3 @@
 -- What contracts of inner functions need.
 pub mod Written
+pub mod Number

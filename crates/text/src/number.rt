@@ -4,7 +4,7 @@ ghost use mathlib.Core.Path.{_≡_};
 ghost use mathlib.Core.Bool.{true};
 ghost use Prim.Native.Nat.{_≤_};
 ghost use Rattle.text.specs.Decimal.{isDigit, digit};
-ghost use Rattle.text.specs.Number.{maxTenth, noNumber, numberOf};
+ghost use Rattle.text.specs.Inner.Number.{maxTenth, noNumber, numberOf};
 
 // The most digits of a number, and the largest one.
 pub const MAX_DIGITS: usize = 10;

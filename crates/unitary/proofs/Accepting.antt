@@ -19,7 +19,7 @@ use Rattle.cells.specs.Cells.{fill, cells, cellSize}
 use Rattle.gate.specs.declared.judge.Asking.the-variants.{Unitary}
 use Rattle.gate.specs.Gate.{Gate, gateSize, measure, gatesOf, formed, placed, supported, splits, weight, maxWeight}
 use Rattle.gate.specs.Inner.Entries.{valid}
-use Rattle.gate.specs.Verdict.{onQubits, gateQuestions}
+use Rattle.gate.specs.Questions.{onQubits, gateQuestions}
 use Rattle.gate.proofs.Questions.{placed-other}
 use Rattle.kraus.specs.Branch.{branches}
 use Rattle.circuit.specs.declared.limits.Limits.{Limits}

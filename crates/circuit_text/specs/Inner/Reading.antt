@@ -3,11 +3,12 @@ use mathlib.Core.Bool.{Bool, true, cond, _&&_, _||_}
 use mathlib.Core.List.{List, [], _∷_, map}
 use Prim.Native.Nat.{ℕ, suc, _+_, _*_}
 use lib.Dec.{eqb, leb, ltb}
+use lib.Seq.{sets}
 use Rattle.algebra.specs.Lists.{every}
 use Rattle.circuit_text.specs.declared.input.Seen.{Seen}
 use Rattle.circuit_text.specs.declared.input.Input.{Input}
 use Rattle.text.specs.Decimal.{isBlank, value, isNumber}
-use Rattle.circuit_text.specs.Input.{maxBits, maxGates, numberCount, maxByte, circuitIn, isInput}
+use Rattle.circuit_text.specs.Input.{maxBits, maxGates, numberCount, maxByte, storeIn, circuitIn, isInput, numbersOf, isInputText}
 
 -- the most numbers of an input
 abbrev pub maxNumbers : ℕ
@@ -41,3 +42,10 @@ seenInput s = cond (seenOk s) (Input.Given (record { qubits = s .qubits; bits = 
 -- the circuit in the pieces of a text
 abbrev pub inputIn : List (List ℕ) → Input
 inputIn ps = cond (every isNumber ps && isInput (map value ps)) (Input.Given (circuitIn (map value ps))) Input.Refused
+
+-- the room for the numbers and for the store after reading: as it was, where the text is no input
+abbrev pub filled : List ℕ → List ℕ → List ℕ
+filled t l = cond (isInputText t) (sets l 0 (numbersOf t)) l
+
+abbrev pub stored : List ℕ → List ℕ → List ℕ
+stored t l = cond (isInputText t) (sets l 0 (storeIn (numbersOf t))) l

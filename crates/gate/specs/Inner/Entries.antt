@@ -11,7 +11,7 @@ use Rattle.scalar.specs.declared.Scalar.{Scalar}
 use Rattle.scalar.specs.Calls.{value, scalarOf}
 use Rattle.gate.specs.declared.rows.Pair.{Pair}
 use Rattle.gate.specs.Gate.{Gate, gate, arity, elem, formed, placed, supported}
-use Rattle.gate.specs.Verdict.{onQubits}
+use Rattle.gate.specs.Questions.{onQubits}
 use Rattle.gate.specs.Operators.{Small, operators, operatorAt, unitaries, noUnitary, one, none, identity}
 use Rattle.gate.specs.Embed.{gateEntry}
 use Rattle.gate.specs.Inner.Kinds.{splitting, swapping, swap, cswap}

@@ -3,7 +3,7 @@ use mathlib.Core.Path.{sym, ap}
 use mathlib.Core.Bool.{Bool, cond}
 use borrow.Author.Tests.{eq-eqb, ne-eqb}
 use Rattle.gate.specs.Gate.{measure}
-use Rattle.gate.specs.Verdict.{gateOf}
+use Rattle.gate.specs.Inner.Words.{gateOf}
 use Rattle.branches.specs.Inner.Store.{noBit}
 use Rattle.branches.proofs.run.outcome_bit.Statement.{statement}
 use Rattle.branches.proofs.run.outcome_bit.Tie as tie

@@ -4,7 +4,7 @@ use native.Mathlib.Omega.{arith}
 use lib.Pow.{pow-mono}
 use lib.ListN.{length}
 use Rattle.gate.specs.Operators.{operators}
-use Rattle.gate.specs.Verdict.{gateOf}
+use Rattle.gate.specs.Inner.Words.{gateOf}
 use Rattle.branches.proofs.Gates.{ready-second, splits-none, splits-some, one-operator, more-operators}
 use borrow.Author.Needs.{needs}
 use Rattle.branches.proofs.run.write_operators.Statement.{statement}

@@ -7,7 +7,7 @@ use native.Mathlib.Omega.{arith}
 use lib.ListN.{length}
 use Rattle.algebra.specs.Lists.{some}
 use Rattle.gate.specs.Gate.{Gate, gateSize, gatesFrom}
-use Rattle.gate.specs.Verdict.{gateOf}
+use Rattle.gate.specs.Inner.Words.{gateOf}
 use Rattle.gate.proofs.Listed.{gates-none}
 use Rattle.circuit.specs.Footprint.{writes}
 use Rattle.circuit.proofs.Counts.{written-more}

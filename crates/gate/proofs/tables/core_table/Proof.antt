@@ -4,7 +4,7 @@ use borrow.Author.Needs.{needs}
 use borrow.Author.Tests.{eq-eqb, ne-eqb}
 use Rattle.gate.specs.Gate.{arity, measure, reset}
 use Rattle.gate.specs.Inner.Kinds.{unitaryKinds, swap, cswap}
-use Rattle.gate.specs.Verdict.{gateOf}
+use Rattle.gate.specs.Inner.Words.{gateOf}
 use Rattle.gate.proofs.Dispatch.{listed, no-split, one-kinds, target-kinds, split-two, core-by}
 use Rattle.gate.proofs.tables.core_table.Statement.{statement}
 use Rattle.gate.proofs.tables.core_table.Tie as tie

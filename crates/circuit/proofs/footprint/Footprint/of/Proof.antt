@@ -3,7 +3,7 @@ use Prim.Native.Nat.{_+_, _-_, _/_}
 use native.Mathlib.Omega.{arith}
 use lib.ListN.{length}
 use Rattle.gate.specs.Gate.{gateSize, gatesFrom}
-use Rattle.gate.specs.Verdict.{gateOf}
+use Rattle.gate.specs.Inner.Words.{gateOf}
 use Rattle.circuit.proofs.Counts.{Counted, counted-none, counted-more, counted-all, splits-one, newly-one, weight-one}
 use Rattle.circuit.proofs.footprint.Footprint.of.Statement.{statement}
 use Rattle.circuit.proofs.footprint.Footprint.of.Tie as tie

@@ -1,5 +1,5 @@
 -- Only a measure has a classical bit.
-use Rattle.gate.specs.Verdict.{gateOf}
+use Rattle.gate.specs.Inner.Words.{gateOf}
 use Rattle.gate.proofs.Questions.{placed-measure, placed-other}
 use borrow.Author.Needs.{needs}
 use Rattle.gate.proofs.judge.GateWords.is_placed.Statement.{statement}

@@ -5,7 +5,8 @@ use lib.Dec.{eqb}
 use borrow.Author.Needs.{needs}
 use Rattle.verdict.specs.Questions.{firstNo}
 use Rattle.gate.specs.declared.judge.Asking.{Asking}
-use Rattle.gate.specs.Verdict.{gateOf, threeAnswers, gateQuestions}
+use Rattle.gate.specs.Inner.Words.{gateOf}
+use Rattle.gate.specs.Questions.{threeAnswers, gateQuestions}
 use Rattle.gate.proofs.judge.GateWords.judge.Statement.{statement}
 use Rattle.gate.proofs.judge.GateWords.judge.Tie as tie
 

@@ -4,7 +4,7 @@ use mathlib.Core.Bool.{Bool, true, false}
 use Prim.Native.Nat.{ℕ}
 use native.Mathlib.Omega.{arith}
 use Rattle.gate.specs.Gate.{arity, elem, qubits}
-use Rattle.gate.specs.Verdict.{gateOf}
+use Rattle.gate.specs.Inner.Words.{gateOf}
 use Rattle.gate.proofs.Sharing.{some-one, some-two, some-three}
 use borrow.Author.Needs.{needs}
 use Rattle.gate.proofs.judge.GateWords.meets.Statement.{statement}

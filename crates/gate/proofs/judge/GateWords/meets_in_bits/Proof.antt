@@ -7,7 +7,7 @@ use lib.Dec.{eqb}
 use borrow.Author.Needs.{needs}
 use borrow.Author.Tests.{eq-eqb, ne-eqb}
 use Rattle.gate.specs.Gate.{measure, elem, bits, meet}
-use Rattle.gate.specs.Verdict.{gateOf}
+use Rattle.gate.specs.Inner.Words.{gateOf}
 use Rattle.gate.proofs.judge.GateWords.meets_in_bits.Statement.{statement}
 use Rattle.gate.proofs.judge.GateWords.meets_in_bits.Tie as tie
 

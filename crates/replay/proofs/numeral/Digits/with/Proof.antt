@@ -4,7 +4,7 @@ use mathlib.Core.Bool.{true, false}
 use borrow.Author.Needs.{needs}
 use borrow.Author.Tests.{not-true, not-false, eq-eqb, ne-eqb, lt-ltb, le-ltb}
 use Rattle.text.specs.Decimal.{isDigit}
-use Rattle.text.specs.Number.{maxTenth}
+use Rattle.text.specs.Inner.Number.{maxTenth}
 use Rattle.replay.specs.Numerals.{digits}
 use Rattle.replay.proofs.Reading.{byte-is}
 use Rattle.replay.proofs.numeral.Digits.with.Statement.{statement}

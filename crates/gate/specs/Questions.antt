@@ -8,12 +8,7 @@ use Rattle.verdict.specs.declared.Verdict.the-variants.{UnsupportedAt, OperandA
 use Rattle.verdict.specs.Questions.{Question, question}
 use Rattle.gate.specs.declared.judge.Asking.{Asking}
 use Rattle.gate.specs.declared.judge.Asking.the-variants.{Channel, Unitary}
-use Rattle.gate.specs.declared.judge.GateWords.{GateWords}
-use Rattle.gate.specs.Gate.{Gate, gate, qubits, distinct, formed, placed, supported, splits}
-
--- the gate that the code's struct holds
-abbrev pub gateOf : GateWords → Gate
-gateOf w = gate (w .kind) (w .a) (w .b) (w .c) (w .k)
+use Rattle.gate.specs.Gate.{Gate, qubits, distinct, formed, placed, supported, splits}
 
 -- questions 4 to 6 of gate i, by their answers
 abbrev pub threeAnswers : ℕ → Bool → Bool → Bool → List Question
