@@ -49,6 +49,8 @@ enum {
     FOREITUKA_SHORT = 8,            /* too few words for the result or the work */
     FOREITUKA_LARGE = 9,            /* a number too large: a result out of range, an operand that is not narrow */
     FOREITUKA_MALFORMED = 10,       /* a scalar, matrix or channel that is none */
+    FOREITUKA_LAYERS = 11,          /* the ends of layers do not rise strictly from at least 1, or do not close at the gate count */
+    FOREITUKA_CLASH = 12,           /* two gates of one layer share a qubit or a bit; the lowest index of such a later gate is given */
     FOREITUKA_SAME = 100,           /* compare: no entry differs */
     FOREITUKA_DIMENSIONS = 101,     /* compare: dimensions or bit counts differ */
     FOREITUKA_ENTRY = 102,          /* compare: an entry differs; place and scalars say which */
@@ -118,6 +120,18 @@ enum {
  * the reply names one, else 0. Replies: 0 to 8. */
 uint32_t foreituka_circuit_channel(uint32_t qubits, uint32_t bits, const uint8_t *store, size_t store_bytes, const uint32_t *gates,
                                    size_t gate_words, const uint64_t limits[6], int64_t *result, size_t result_words, int64_t *work,
+                                   size_t work_words, uint64_t *index);
+
+/* The channel of a layered circuit: a gate list with the ends of its layers, each the count of gates so far; an empty gate list has no ends. It
+ * is the channel of the gate list, left in both buffers as circuit_channel leaves it, and any order inside a layer gives the same one. Once
+ * every gate has passed, the layers are judged (11, then 12), and then the store and the rest as above. Replies: 0 to 8, 11, 12. */
+uint32_t foreituka_layered_channel(uint32_t qubits, uint32_t bits, const uint8_t *store, size_t store_bytes, const uint32_t *gates,
+                                   size_t gate_words, const uint32_t *ends, size_t end_count, const uint64_t limits[6], int64_t *result,
+                                   size_t result_words, int64_t *work, size_t work_words, uint64_t *index);
+
+/* The reply and index of the call above, from the lengths of its buffers alone: nothing is run, and no buffer is lent. */
+uint32_t foreituka_layered_verdict(uint32_t qubits, uint32_t bits, const uint8_t *store, size_t store_bytes, const uint32_t *gates,
+                                   size_t gate_words, const uint32_t *ends, size_t end_count, const uint64_t limits[6], size_t result_words,
                                    size_t work_words, uint64_t *index);
 
 /* The unitary matrix of a circuit without measures and resets: d² scalars, row by row, no header. result: FOREITUKA_UNITARY_WORDS words or

@@ -1,6 +1,7 @@
 /*
  * A judge in a control rack: static buffers, no heap. A compiler pass has rewritten the circuit that a lab sent; before the rack runs the
- * new one, it asks whether both do the same, and prints the first difference if not.
+ * new one, it asks whether both do the same, and prints the first difference if not. The rack fires gates in layers: a circuit may come with
+ * the ends of its layers, none of which uses a qubit or a classical bit twice.
  */
 #include "foreituka.h"
 
@@ -9,13 +10,18 @@
 
 enum { QUBITS = 2, BITS = 2, SPLITS = 2 };
 
+/* no ends: a list of gates, one after the other */
 typedef struct {
     const char *name;
     const uint32_t *gates;
     size_t words;
+    const uint32_t *ends;
+    size_t layers;
 } circuit;
 
-#define CIRCUIT(name, gates) {name, gates, sizeof gates / sizeof gates[0]}
+#define COUNT(a) (sizeof(a) / sizeof((a)[0]))
+#define CIRCUIT(name, gates) {name, gates, COUNT(gates), NULL, 0}
+#define LAYERED(name, gates, ends) {name, gates, COUNT(gates), ends, COUNT(ends)}
 
 static const uint32_t sent[] = {
     FOREITUKA_GATE_H,       0, 0, 0, 0,
@@ -52,8 +58,22 @@ static const uint32_t misplaced[] = {
     FOREITUKA_GATE_CNOT,    0, 2, 0, 0,
 };
 
+/* x with the first h, and both measures at once */
+static const uint32_t together[] = {2, 3, 4, 5, 7};
+/* h and t on qubit 0 at once */
+static const uint32_t crowded[] = {3, 4, 5, 7};
+/* the last two gates belong to no layer */
+static const uint32_t open_ended[] = {2, 3, 4, 5};
+
 static const circuit original = CIRCUIT("sent", sent);
-static const circuit rewritten[] = {CIRCUIT("scheduled", scheduled), CIRCUIT("mistaken", mistaken), CIRCUIT("misplaced", misplaced)};
+static const circuit rewritten[] = {
+    CIRCUIT("scheduled", scheduled),
+    CIRCUIT("mistaken", mistaken),
+    CIRCUIT("misplaced", misplaced),
+    LAYERED("layered", scheduled, together),
+    LAYERED("crowded", scheduled, crowded),
+    LAYERED("open-ended", scheduled, open_ended),
+};
 static const uint8_t store[BITS] = {0, 0};
 static const uint64_t limits[6] = FOREITUKA_DEFAULT_LIMITS;
 
@@ -62,8 +82,16 @@ static int64_t right[FOREITUKA_CHANNEL_WORDS(QUBITS, BITS)];
 static int64_t work[FOREITUKA_CHANNEL_WORK_WORDS(QUBITS, SPLITS)];
 
 static uint32_t judge(const circuit *c, int64_t *result, uint64_t *index) {
-    return foreituka_circuit_channel(QUBITS, BITS, store, sizeof store, c->gates, c->words, limits, result, sizeof left / sizeof left[0], work,
-                                     sizeof work / sizeof work[0], index);
+    if (c->ends)
+        return foreituka_layered_channel(QUBITS, BITS, store, sizeof store, c->gates, c->words, c->ends, c->layers, limits, result, COUNT(left),
+                                         work, COUNT(work), index);
+    return foreituka_circuit_channel(QUBITS, BITS, store, sizeof store, c->gates, c->words, limits, result, COUNT(left), work, COUNT(work), index);
+}
+
+/* the same, before any buffer is at hand */
+static uint32_t verdict_alone(const circuit *c, uint64_t *index) {
+    return foreituka_layered_verdict(QUBITS, BITS, store, sizeof store, c->gates, c->words, c->ends, c->layers, limits, COUNT(left), COUNT(work),
+                                     index);
 }
 
 static void print_scalar(const int64_t *x) {
@@ -71,15 +99,19 @@ static void print_scalar(const int64_t *x) {
 }
 
 static uint32_t check(const circuit *c) {
-    uint64_t index, place[3];
+    uint64_t index, alone, place[3];
     int64_t scalars[10];
     uint32_t verdict = judge(c, right, &index);
     printf("%s: ", c->name);
+    if (c->ends && (verdict_alone(c, &alone) != verdict || alone != index)) {
+        printf("the verdict alone is another\n");
+        return UINT32_MAX;
+    }
     if (verdict != FOREITUKA_ACCEPTED) {
-        printf("refused %" PRIu32 " at gate %" PRIu64 "\n", verdict, index);
+        printf("refused %" PRIu32 ", index %" PRIu64 "\n", verdict, index);
         return verdict;
     }
-    verdict = foreituka_compare(left, sizeof left / sizeof left[0], right, sizeof right / sizeof right[0], place, scalars);
+    verdict = foreituka_compare(left, COUNT(left), right, COUNT(right), place, scalars);
     switch (verdict) {
     case FOREITUKA_SAME:
         printf("same\n");
@@ -101,11 +133,11 @@ static uint32_t check(const circuit *c) {
 
 int main(void) {
     static char line[256];
-    static const uint32_t expected[] = {FOREITUKA_SAME, FOREITUKA_ENTRY, FOREITUKA_OPERAND};
+    static const uint32_t expected[] = {FOREITUKA_SAME, FOREITUKA_ENTRY, FOREITUKA_OPERAND, FOREITUKA_SAME, FOREITUKA_CLASH, FOREITUKA_LAYERS};
     uint64_t index;
     int wrong = 0;
     setvbuf(stdout, line, _IOLBF, sizeof line); /* else stdio would take a buffer from the heap */
     if (judge(&original, left, &index) != FOREITUKA_ACCEPTED) return 1;
-    for (size_t i = 0; i < sizeof rewritten / sizeof rewritten[0]; i++) wrong |= check(&rewritten[i]) != expected[i];
+    for (size_t i = 0; i < COUNT(rewritten); i++) wrong |= check(&rewritten[i]) != expected[i];
     return wrong;
 }

@@ -177,6 +177,23 @@ pub fn judge_channel(
     j.verdict
 }
 
+// The verdict alone, of a layered circuit.
+pub fn judge_layered_channel(
+    n: u32,
+    bits: u32,
+    store: &[u8],
+    l: Limits,
+    words: &[u32],
+    ends: &[u32],
+    result: u64,
+    work: u64,
+) -> Verdict
+    ensures { λ r. ⌜ r ≡ layeredVerdict n bits (now (store .entry)) l (now (words .entry)) (now (ends .entry)) result work ⌝ }
+{
+    let j = judge_layered(n, bits, store, l, words, ends, result, work);
+    j.verdict
+}
+
 // circuit_unitary's questions from the gates on; `d` is the number of rows.
 fn judge_matrix(n: u32, d: u64, words: &[u32], result: u64, work: u64) -> Verdict
     requires { ⌜ (d ≡ 2 ^ n) × (d ≤ maxRows) ⌝ }
