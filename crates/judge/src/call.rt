@@ -84,10 +84,10 @@ pub fn layered_channel(
 {
     let r = result.len();
     let w = work.len();
-    let j = judge_layered(qubits, bits, store, limits, gates, ends, r as u64, w as u64);
-    let v = j.verdict;
-    if v.is_accepted() {
-        run_and_deliver(j.splits, qubits, bits, store, gates, result, work);
+    let judged = judge_layered(qubits, bits, store, limits, gates, ends, r as u64, w as u64);
+    let verdict = judged.verdict;
+    if verdict.is_accepted() {
+        run_and_deliver(judged.splits, qubits, bits, store, gates, result, work);
     }
-    v
+    verdict
 }
