@@ -1,3 +1,4 @@
+pub mod Counts
 pub mod Numerals
 pub mod Record
 pub mod Checksum

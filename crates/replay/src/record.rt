@@ -1,24 +1,29 @@
 // The record of a case's answers, read number by number and held against what the calls answered.
+use crate::count::added;
 use crate::numeral::read;
 use crate::scalars::read_scalar;
+use cells::CELL;
 use scalar::Scalar;
 ghost use mathlib.Core.Path.{_≡_};
 ghost use mathlib.Core.Bool.{true};
 ghost use Rattle.replay.specs.Record.{recordOf, withNumber, withNumbers, withScalar, withByte, withBytes};
 
-// Whether all that was compared so far agrees, and where the rest of the record begins. Only the comparisons below change it.
+// Whether all that was compared so far agrees, where the rest of the record begins, and how many numbers were compared. Only the comparisons below
+// change it.
 pub struct Record {
     agrees: bool,
     next: usize,
+    compared: u64,
 }
 
 impl Record {
     pub fn begin(at: usize) -> Record
-        ensures { λ r. ⌜ r ≡ recordOf true at ⌝ }
+        ensures { λ r. ⌜ r ≡ recordOf true at 0 ⌝ }
     {
         Record {
             agrees: true,
             next: at,
+            compared: 0,
         }
     }
 
@@ -34,6 +39,12 @@ impl Record {
         self.next
     }
 
+    pub fn compared(self) -> u64
+        ensures { λ r. ⌜ r ≡ self .compared ⌝ }
+    {
+        self.compared
+    }
+
     // The next number is this one.
     pub fn number(self, text: &[u8], n: u64) -> Record
         ensures { λ r. ⌜ r ≡ withNumber (now (text .entry)) self n ⌝ }
@@ -42,6 +53,7 @@ impl Record {
         Record {
             agrees: self.agrees & (word.size == n),
             next: word.next,
+            compared: added(self.compared, 1),
         }
     }
 
@@ -59,7 +71,7 @@ impl Record {
         seen
     }
 
-    // The next scalar is this one.
+    // The next scalar is this one: as many numbers as a cell has words.
     pub fn scalar(self, text: &[u8], s: Scalar) -> Record
         ensures { λ r. ⌜ r ≡ withScalar (now (text .entry)) self s ⌝ }
     {
@@ -68,10 +80,11 @@ impl Record {
         Record {
             agrees: self.agrees & s.equals(value),
             next: recorded.next,
+            compared: added(self.compared, CELL as u64),
         }
     }
 
-    // The next byte is this one; behind the text's end there is none.
+    // The next byte is this one; behind the text's end there is none to compare.
     fn byte(self, text: &[u8], b: u8) -> Record
         ensures { λ r. ⌜ r ≡ withByte (now (text .entry)) self b ⌝ }
     {
@@ -80,11 +93,13 @@ impl Record {
             return Record {
                 agrees: self.agrees & (text[at] == b),
                 next: at + 1,
+                compared: added(self.compared, 1),
             };
         }
         Record {
             agrees: false,
             next: at,
+            compared: self.compared,
         }
     }
 

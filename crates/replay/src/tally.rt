@@ -1,23 +1,19 @@
 // What a replay counts and prints.
+use crate::count::added;
+use crate::count::counted;
 use crate::record::Record;
 use libc::STDOUT_FILENO;
 ghost use mathlib.Core.Path.{_≡_};
-ghost use Rattle.replay.specs.Tally.{counted, firstOf, none, withCase};
+ghost use Rattle.replay.specs.Tally.{firstOf, none, withCase};
 
-// All cases; those that agree, by where the record comes from; those that do not, and the number of the first of these, from 1.
+// All cases; those that agree, by where the record comes from; those that do not, and the number of the first of these, from 1; the numbers compared.
 pub struct Tally {
     cases: u64,
     of_rust: u64,
     of_document: u64,
     disagree: u64,
     first: u64,
-}
-
-// A count, with one more where `more` says so; it stops at a million.
-fn counted(n: u64, more: bool) -> u64
-    ensures { λ r. ⌜ r ≡ counted n more ⌝ }
-{
-    if more & (n < 1000000) { n + 1 } else { n }
+    compared: u64,
 }
 
 // The number of the first case that does not agree, or 0: the first one before, or this case.
@@ -25,6 +21,12 @@ fn first_of(before: u64, case: u64, agrees: bool) -> u64
     ensures { λ r. ⌜ r ≡ firstOf before case agrees ⌝ }
 {
     if agrees | (0 < before) { before } else { case }
+}
+
+// Prints a number and what follows it.
+fn say(n: u64, words: &[u8]) {
+    io::print_decimal(STDOUT_FILENO, n);
+    io::write_all(STDOUT_FILENO, words);
 }
 
 impl Tally {
@@ -37,6 +39,7 @@ impl Tally {
             of_document: 0,
             disagree: 0,
             first: 0,
+            compared: 0,
         }
     }
 
@@ -52,24 +55,21 @@ impl Tally {
             of_document: counted(self.of_document, agrees & !rust),
             disagree: counted(self.disagree, !agrees),
             first: first_of(self.first, cases, agrees),
+            compared: added(self.compared, seen.compared()),
         }
     }
 
     // One line for a kind of cases; a second one names the first case that does not agree. It answers nothing, and no contract can say what is written.
     pub fn print(self, kind: u64) {
         io::write_all(STDOUT_FILENO, b"kind ");
-        io::print_decimal(STDOUT_FILENO, kind);
-        io::write_all(STDOUT_FILENO, b": ");
-        io::print_decimal(STDOUT_FILENO, self.of_rust);
-        io::write_all(STDOUT_FILENO, b" agree with the Rust, ");
-        io::print_decimal(STDOUT_FILENO, self.of_document);
-        io::write_all(STDOUT_FILENO, b" with document 01, ");
-        io::print_decimal(STDOUT_FILENO, self.disagree);
-        io::write_all(STDOUT_FILENO, b" disagree\n");
+        say(kind, b": ");
+        say(self.of_rust, b" agree with the Rust, ");
+        say(self.of_document, b" with document 01, ");
+        say(self.disagree, b" disagree; ");
+        say(self.compared, b" numbers compared\n");
         if 0 < self.disagree {
             io::write_all(STDOUT_FILENO, b"the first is case ");
-            io::print_decimal(STDOUT_FILENO, self.first);
-            io::write_all(STDOUT_FILENO, b"\n");
+            say(self.first, b"\n");
         }
     }
 }

@@ -1,8 +1,7 @@
 // Cases of channels that are given by their words: compare, classical_blocks and the lookup.
+use crate::circuits::compare_call;
 use crate::circuits::effects_call;
-use channel::compare::compare;
 use channel::lookup::lookup;
-use replay::answers::check_difference;
 use replay::answers::check_part;
 use replay::numeral::read;
 use replay::record::Record;
@@ -19,8 +18,7 @@ fn called(
     store: &[u8],
     effects: &mut [i64],
 ) -> Record {
-    let d = compare(left, right);
-    let compared = check_difference(Record::begin(at), text, d);
+    let compared = compare_call(text, at, left, right);
     let traced = effects_call(compared, text, left, effects);
     check_part(traced, text, lookup(left, store))
 }

@@ -88,6 +88,12 @@ pub fn effects_call(seen: Record, text: &[u8], channel: &[i64], result: &mut [i6
     check_effects(seen, text, v, result)
 }
 
+// What compare finds in two channels.
+pub fn compare_call(text: &[u8], at: usize, left: &[i64], right: &[i64]) -> Record {
+    let d = compare(left, right);
+    check_difference(Record::begin(at), text, d)
+}
+
 // The calls on marked buffers.
 fn called(
     is_unitary: bool,
@@ -174,6 +180,5 @@ pub fn compare_case(
 ) -> Record {
     let second = channel_of(text, at, store, words, left, work);
     let answer = channel_of(text, second, store, words, right, work);
-    let d = compare(left, right);
-    check_difference(Record::begin(answer), text, d)
+    compare_call(text, answer, left, right)
 }

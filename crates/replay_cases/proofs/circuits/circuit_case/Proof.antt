@@ -61,7 +61,10 @@ called-requires : tie.Need-called-requires
 called-requires c κs = search needs
 
 same-length : tie.Need-same-length
-same-length c = search needs
+same-length c =
+    let f = c .before .before .before .before .before .before .before .before .before in
+    let w = f .before .before .before .before .before .before .before in
+    search (needs, w .before .before .store .given)
 
 same-length-2 : tie.Need-same-length-2
 same-length-2 c = search needs

@@ -1,0 +1,56 @@
+"""What the replay of a text prints where every answer agrees: for each kind its cases by source, and how many recorded numbers there are to compare.
+
+Reads the text by the form of its cases, as the scripts' heads say, and knows nothing of the program: what a case is given is passed over, and the rest of its
+line is its record. (A case of `list` has its record behind its text: the answer's length, and its bytes, each of which counts as a number.)
+"""
+import sys
+
+
+def limits(given):
+    return given[7:] if given[0] else given[1:]
+
+
+def counted(given, size=1):
+    """Behind a count and as many groups of `size` numbers."""
+    return given[1 + size * given[0]:]
+
+
+def circuit(given):
+    return counted(counted(limits(given)[2:]))
+
+
+def words(given):
+    return counted(given[1:], 2)
+
+
+RECORD = {
+    0: lambda given: given[11:],
+    1: lambda given: words(words(given[1:])[1:]),
+    2: lambda given: circuit(given)[3:],
+    3: lambda given: circuit(given)[3:],
+    4: lambda given: circuit(circuit(given)),
+    5: lambda given: counted(words(words(given))[1:]),
+}
+LISTING = 6
+
+
+def main():
+    text = sys.stdin.buffer
+    for _ in range(int(text.readline())):
+        kind, cases = map(int, text.readline().split())
+        sources, compared = [0, 0], 0
+        for _ in range(cases):
+            source, *given = map(int, text.readline().split())
+            sources[source] += 1
+            if kind == LISTING:
+                text.read(given[0] + 1)
+                answer = int(text.readline())
+                text.read(answer)
+                compared += 1 + answer
+            else:
+                compared += len(RECORD[kind](given))
+        print(f"kind {kind}: {sources[0]} agree with the Rust, {sources[1]} with document 01, 0 disagree; {compared} numbers compared")
+    assert not text.read()
+
+
+main()
