@@ -32,6 +32,12 @@ calls! {
     circuit_channel(qubits: u32, bits: u32, store: *const u8, store_bytes: usize, gates: *const u32, gate_words: usize,
         limits: *const u64, result: *mut i64, result_words: usize, work: *mut i64, work_words: usize, index: *mut u64) -> u32,
         foreituka_circuit_channel, plain_circuit_channel;
+    layered_channel(qubits: u32, bits: u32, store: *const u8, store_bytes: usize, gates: *const u32, gate_words: usize, ends: *const u32,
+        end_count: usize, limits: *const u64, result: *mut i64, result_words: usize, work: *mut i64, work_words: usize, index: *mut u64) -> u32,
+        foreituka_layered_channel, plain_layered_channel;
+    layered_verdict(qubits: u32, bits: u32, store: *const u8, store_bytes: usize, gates: *const u32, gate_words: usize, ends: *const u32,
+        end_count: usize, limits: *const u64, result_words: usize, work_words: usize, index: *mut u64) -> u32,
+        foreituka_layered_verdict, plain_layered_verdict;
     circuit_unitary(qubits: u32, gates: *const u32, gate_words: usize, limits: *const u64, result: *mut i64, result_words: usize,
         work: *mut i64, work_words: usize, index: *mut u64) -> u32,
         foreituka_circuit_unitary, plain_circuit_unitary;

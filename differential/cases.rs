@@ -1,9 +1,10 @@
 //! The cases: each set is a number of cases and a rule from a case's number and a seed to the case.
 use crate::calls::CEILINGS;
-use crate::calls::kind::{CH, CNOT, H, MEASURE, RESET, RZ, SX, T};
+use crate::calls::kind::{CH, CNOT, H, MEASURE, RESET, RZ, SX, T, X};
 use crate::checks::{Case, Operation, weight};
 use crate::lent::Rng;
 use crate::rust::Words;
+use std::sync::LazyLock;
 
 pub struct Set {
     pub name: &'static str,
@@ -275,10 +276,8 @@ fn limit_edges(i: u64, rng: &mut Rng) -> Case {
 }
 
 /// Gates with words out of place: other kinds, operands out of range or repeated, unused words that are not 0, odd lengths, bad stores.
-fn faulty(_: u64, rng: &mut Rng) -> Case {
-    let n = rng.below(4) as u32;
-    let bits = rng.below(3) as u32;
-    let mut words = circuit(rng, n, bits, 4, 2);
+fn spoil(rng: &mut Rng, words: &mut Words) {
+    let (n, bits) = (words.qubits, words.bits);
     if rng.one_in(4) {
         let kind = *rng.pick(&UNSUPPORTED);
         if let Some(mut g) = gate(rng, n, bits, &[kind]) {
@@ -310,6 +309,13 @@ fn faulty(_: u64, rng: &mut Rng) -> Case {
         }
         _ => (),
     }
+}
+
+fn faulty(_: u64, rng: &mut Rng) -> Case {
+    let n = rng.below(4) as u32;
+    let bits = rng.below(3) as u32;
+    let mut words = circuit(rng, n, bits, 4, 2);
+    spoil(rng, &mut words);
     if rng.one_in(3) {
         Case::Unitary { words, limits: CEILINGS, extra: extra(rng) }
     } else {
@@ -427,6 +433,128 @@ fn damaged(i: u64, rng: &mut Rng) -> Case {
     Case::Damaged { left, right, sets, cut, store, short: if rng.one_in(4) { 1 + rng.below(3) } else { 0 } }
 }
 
+// ---- layers
+
+/// The ends of layers whose gates share nothing; now and then a layer ends earlier than it must.
+fn layering(rng: &mut Rng, gates: &[u32]) -> Vec<u32> {
+    let gates: Vec<&[u32]> = gates.chunks_exact(5).collect();
+    let (mut ends, mut start) = (Vec::new(), 0);
+    for i in 1..gates.len() {
+        if gates[start..i].iter().any(|g| share(g, gates[i])) || rng.one_in(6) {
+            ends.push(i as u32);
+            start = i;
+        }
+    }
+    if !gates.is_empty() {
+        ends.push(gates.len() as u32);
+    }
+    ends
+}
+
+/// One gate a layer, all in one, two layers as one, or ends that are none: too low, too high, repeated, out of order, missing.
+fn other_ends(rng: &mut Rng, ends: &mut Vec<u32>, count: u32) {
+    let odd = [0, 0, 1, 2, count.saturating_sub(1), count, count + 1, (1 << 31) - 1, 1 << 31, u32::MAX - 1, u32::MAX];
+    let at = rng.below(ends.len().max(1) as u64) as usize;
+    match rng.below(9) {
+        0 => *ends = (1..=count).collect(),
+        1 => *ends = vec![count],
+        2 => *ends = vec![],
+        3 | 4 if at < ends.len() => {
+            ends.remove(at);
+        }
+        5 if at < ends.len() => ends[at] = *rng.pick(&odd),
+        6 if at < ends.len() => ends.insert(at, *rng.pick(&[ends[at], ends[at] - 1, ends[at] + 1, 0, u32::MAX])),
+        7 if at + 1 < ends.len() => ends.swap(at, at + 1),
+        _ => ends.push(*rng.pick(&odd)),
+    }
+}
+
+/// 1,024 gates on different qubits in one layer, and what stands close to that: a gate more or less, two that share, other ends.
+fn full_layer(rng: &mut Rng) -> Case {
+    let count = *rng.pick(&[1024, 1024, 1024, 1023, 1025]);
+    let mut gates: Vec<[u32; 5]> = (0..count).map(|q| [*rng.pick(&[H, T, X, RESET, MEASURE]), q, 0, 0, 0]).collect();
+    for (g, bit) in gates.iter_mut().filter(|g| g[0] == MEASURE).zip(0..) {
+        g[2] = bit;
+    }
+    for _ in 0..rng.below(3) {
+        let (i, j) = (rng.below(count as u64) as usize, rng.below(count as u64) as usize);
+        if rng.one_in(2) {
+            gates[i][1] = gates[j][1];
+        } else {
+            (gates[i], gates[j]) = ([MEASURE, gates[i][1], 1023, 0, 0], [MEASURE, gates[j][1], 1023, 0, 0]);
+        }
+    }
+    let mut ends = vec![count];
+    match rng.below(4) {
+        0 => ends.insert(0, 1 + rng.below(count as u64 - 1) as u32),
+        1 => other_ends(rng, &mut ends, count),
+        _ => (),
+    }
+    let bits = *rng.pick(&[64, 1024, 2000]);
+    let words = Words { qubits: *rng.pick(&[1024, 1025, 1023, u32::MAX]), bits, store: vec![0; bits as usize], gates: gates.concat() };
+    Case::Layers { words, ends, limits: CEILINGS, extra: (0, 0), shuffle: rng.next() }
+}
+
+/// Lists at the edges, with their ends: no gates, two gates, 1,024.
+fn edges() -> Vec<(Words, Vec<u32>)> {
+    let list = |qubits: u32, gates: Vec<[u32; 5]>| Words { qubits, bits: 0, store: vec![], gates: gates.concat() };
+    let x = |count: u32, qubits: u32| (0..count).map(|i| [X, i % qubits, 0, 0, 0]).collect();
+    let mut out: Vec<(Words, Vec<u32>)> = [vec![], vec![0], vec![1], vec![0, 0], vec![u32::MAX]].map(|ends| (list(1, vec![]), ends)).to_vec();
+    let two = [vec![2], vec![1, 2], vec![], vec![0], vec![1], vec![3], vec![0, 2], vec![0, 1, 2], vec![1, 1, 2], vec![2, 2], vec![2, 1], vec![1, 2, 3],
+        vec![u32::MAX], vec![1, u32::MAX], vec![2, u32::MAX], vec![u32::MAX, 2], vec![1 << 31, 2], vec![u32::MAX, u32::MAX]];
+    for ends in two {
+        out.push((list(2, x(2, 2)), ends.clone()));
+        out.push((list(1, x(2, 1)), ends));
+    }
+    out.push((list(1024, x(1024, 1024)), vec![1024]));
+    out.push((list(1024, x(1024, 1023)), vec![1024]));
+    out.push((list(1024, x(1024, 1024)), (1..=1024).collect()));
+    out.push((list(2, x(1024, 2)), (1..=1024).collect()));
+    out.push((list(2, x(1024, 2)), (1..=512).map(|k| 2 * k).collect()));
+    out.push((list(2, x(1025, 2)), vec![]));
+    out
+}
+
+static EDGES: LazyLock<Vec<(Words, Vec<u32>)>> = LazyLock::new(edges);
+
+fn layers(i: u64, rng: &mut Rng) -> Case {
+    if let Some((words, ends)) = EDGES.get(i as usize) {
+        return Case::Layers { words: words.clone(), ends: ends.clone(), limits: CEILINGS, extra: (0, 0), shuffle: rng.next() };
+    }
+    if i % 100 == 99 {
+        return full_layer(rng);
+    }
+    // on many qubits layers are long, and a circuit with no other fault is over the limits
+    let n = *rng.pick(&[0, 1, 1, 2, 2, 2, 2, 3, 3, 3, 6, 12, 64]);
+    let bits = *rng.pick(&[0, 1, 1, 2, 2, 5, 33]);
+    let mut words = circuit(rng, n, bits, if n == 3 { 7 } else if n > 3 { 30 } else { 10 }, 3);
+    if rng.one_in(40) {
+        words.gates.extend((0..49).flat_map(|_| [H, 0, 0, 0, 0]));
+    }
+    let mut ends = layering(rng, &words.gates);
+    // a layer of measures, on different qubits and maybe into one bit
+    if n > 1 && bits > 0 && rng.one_in(5) {
+        for q in 0..n.min(3) {
+            words.gates.extend([MEASURE, q, rng.below(bits.min(4) as u64) as u32, 0, 0]);
+        }
+        ends.push(words.gates.len() as u32 / 5);
+    }
+    if rng.one_in(3) {
+        let count = words.gates.len() as u32 / 5;
+        other_ends(rng, &mut ends, count);
+    }
+    if rng.one_in(5) {
+        spoil(rng, &mut words);
+    }
+    let mut limits = CEILINGS;
+    if rng.one_in(10) {
+        let k = rng.below(6) as usize;
+        limits[k] = *rng.pick(&[0, 1, 2, 3, 4, CEILINGS[k] + 1, u64::MAX]);
+    }
+    let extra = if rng.one_in(4) { extra(rng) } else { (0, 0) };
+    Case::Layers { words, ends, limits, extra, shuffle: rng.next() }
+}
+
 // ---- phases and scalars
 
 fn cell(rng: &mut Rng, bounds: &[i64], exponents: &[i64]) -> [i64; 5] {
@@ -529,6 +657,7 @@ pub fn sets() -> Vec<Set> {
         Set { name: "faulty", about: "faulty circuits", count: 20000, quick: 800, case: faulty },
         Set { name: "short", about: "short buffers", count: 3000, quick: 200, case: short_buffers },
         Set { name: "compare", about: "pairs of circuits, both orders", count: 12000, quick: 300, case: comparison },
+        Set { name: "layers", about: "layered circuits, in order and shuffled", count: 20000, quick: 500, case: layers },
         Set { name: "damaged", about: "channels with words damaged", count: 20000, quick: 600, case: damaged },
         Set { name: "phases", about: "phase tests, both orders", count: 8000, quick: 300, case: phases },
         Set { name: "scalars", about: "scalar calls at the ranges' ends", count: 100000, quick: 3000, case: scalars },

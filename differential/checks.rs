@@ -5,7 +5,7 @@ use crate::rust::{self, Words};
 use crate::semantics::Matrix;
 use crate::semantics::channel::Channel;
 use crate::semantics::test_support::Scalar;
-use std::collections::BTreeMap;
+use std::collections::{BTreeMap, HashSet};
 
 /// Calls compared, by name: with the Rust, with document 01 alone (the plain C version and the rules in this file), and how often with each reply. A
 /// reply that the Rust does not have (8, 9, 10) is document 01's, also where the Rust was asked.
@@ -57,6 +57,8 @@ pub enum Case {
     /// circuit_channel, then classical_blocks, lookup and compare with itself on what it left.
     Channel { words: Words, limits: [u64; 6], extra: (i64, i64) },
     Unitary { words: Words, limits: [u64; 6], extra: (i64, i64) },
+    /// layered_channel and its verdict alone, beside circuit_channel on the gate list; then the same with the gates of each layer shuffled, by a seed, and compare of the two.
+    Layers { words: Words, ends: Vec<u32>, limits: [u64; 6], extra: (i64, i64), shuffle: u64 },
     /// The channels of two circuits, compared in both orders.
     Compare { left: Words, right: Words },
     /// compare (both orders), classical_blocks and lookup on words of any kind: those of two circuits' channels with words set to values.
@@ -144,26 +146,48 @@ fn need(w: &Words, unitary: bool) -> (usize, usize) {
     }
 }
 
-fn circuit_call(calls: &Calls, unitary: bool, w: &Words, limits: &[u64; 6], extra: (i64, i64)) -> Result<Reply, String> {
+/// A call on a circuit; a layered one has its ends.
+#[derive(Clone, Copy)]
+enum Ask<'a> {
+    Channel,
+    Layered(&'a [u32]),
+    Unitary,
+}
+
+fn circuit_call(calls: &Calls, ask: Ask, w: &Words, limits: &[u64; 6], extra: (i64, i64)) -> Result<Reply, String> {
+    let unitary = matches!(ask, Ask::Unitary);
     let need = need(w, unitary);
     let (result_words, work_words) = lengths(need, extra);
     let mut rng = Rng(w.gates.iter().fold(w.qubits as u64, |h, g| h.wrapping_mul(31).wrapping_add(*g as u64)));
     let store = Lent::holding(&mut rng, &w.store);
     let gates = Lent::holding(&mut rng, &w.gates);
+    let ends = Lent::holding(&mut rng, if let Ask::Layered(ends) = ask { ends } else { &[] });
     let lent_limits = Lent::holding(&mut rng, limits);
     let mut result = Lent::<i64>::noise(&mut rng, result_words);
     let mut work = Lent::<i64>::noise(&mut rng, work_words);
     let mut index = Lent::<u64>::noise(&mut rng, 1);
     let verdict = unsafe {
-        if unitary {
-            (calls.circuit_unitary)(w.qubits, gates.ptr(), gates.len(), lent_limits.ptr(), result.mut_ptr(), result.len(), work.mut_ptr(), work.len(),
-                index.mut_ptr())
-        } else {
-            (calls.circuit_channel)(w.qubits, w.bits, store.ptr(), store.len(), gates.ptr(), gates.len(), lent_limits.ptr(), result.mut_ptr(),
-                result.len(), work.mut_ptr(), work.len(), index.mut_ptr())
+        match ask {
+            Ask::Unitary => (calls.circuit_unitary)(w.qubits, gates.ptr(), gates.len(), lent_limits.ptr(), result.mut_ptr(), result.len(),
+                work.mut_ptr(), work.len(), index.mut_ptr()),
+            Ask::Layered(_) => (calls.layered_channel)(w.qubits, w.bits, store.ptr(), store.len(), gates.ptr(), gates.len(), ends.ptr(), ends.len(),
+                lent_limits.ptr(), result.mut_ptr(), result.len(), work.mut_ptr(), work.len(), index.mut_ptr()),
+            Ask::Channel => (calls.circuit_channel)(w.qubits, w.bits, store.ptr(), store.len(), gates.ptr(), gates.len(), lent_limits.ptr(),
+                result.mut_ptr(), result.len(), work.mut_ptr(), work.len(), index.mut_ptr()),
         }
     };
-    if !(store.kept() && gates.kept() && lent_limits.kept()) {
+    if let Ask::Layered(_) = ask {
+        // the verdict alone, of buffers of these lengths
+        let mut alone = Lent::<u64>::noise(&mut rng, 1);
+        let number = unsafe {
+            (calls.layered_verdict)(w.qubits, w.bits, store.ptr(), store.len(), gates.ptr(), gates.len(), ends.ptr(), ends.len(), lent_limits.ptr(),
+                result_words, work_words, alone.mut_ptr())
+        };
+        if (number, alone.words()[0]) != (verdict, index.words()[0]) || !alone.edges_kept() {
+            return Err(format!("{}: replies {verdict} at {}, and the verdict alone is {number} at {}", calls.name, index.words()[0], alone.words()[0]));
+        }
+    }
+    if !(store.kept() && gates.kept() && ends.kept() && lent_limits.kept()) {
         return Err(format!("{}: an input has changed", calls.name));
     }
     if !(result.edges_kept() && work.edges_kept() && index.edges_kept()) {
@@ -186,9 +210,9 @@ fn circuit_call(calls: &Calls, unitary: bool, w: &Words, limits: &[u64; 6], extr
 }
 
 /// The archive's reply, after a comparison with the plain C version's.
-fn both(unitary: bool, w: &Words, limits: &[u64; 6], extra: (i64, i64)) -> Result<Reply, String> {
-    let got = circuit_call(&ARCHIVE, unitary, w, limits, extra)?;
-    let want = circuit_call(&PLAIN, unitary, w, limits, extra)?;
+fn both(ask: Ask, w: &Words, limits: &[u64; 6], extra: (i64, i64)) -> Result<Reply, String> {
+    let got = circuit_call(&ARCHIVE, ask, w, limits, extra)?;
+    let want = circuit_call(&PLAIN, ask, w, limits, extra)?;
     same("verdict and index", (got.verdict, got.index), (want.verdict, want.index), "plain C")?;
     same_words("result", &got.result, &want.result, "plain C")?;
     Ok(got)
@@ -210,29 +234,39 @@ fn askable(w: &Words, limits: &[u64]) -> bool {
     gates_well_formed(&w.gates) && limits.iter().zip(&CEILINGS).all(|(l, c)| l <= c) && weight(&w.gates) <= 48
 }
 
-/// The archive's channel and the Rust's, equal; None where it is refused.
-fn channel(w: &Words, limits: &[u64; 6], extra: (i64, i64), counts: &mut Counts) -> Result<Option<(Vec<i64>, Channel)>, String> {
-    let got = both(false, w, limits, extra)?;
-    let ask = askable(w, limits) && w.store.iter().all(|b| *b <= 1);
+/// Whether the Rust can be asked for a channel.
+fn channel_askable(w: &Words, limits: &[u64]) -> bool {
+    askable(w, limits) && w.store.iter().all(|b| *b <= 1)
+}
+
+/// The archive's reply to circuit_channel and, where it accepts, the Rust's channel, equal.
+fn channel_reply(w: &Words, limits: &[u64; 6], extra: (i64, i64), counts: &mut Counts) -> Result<(Reply, Option<Channel>), String> {
+    let got = both(Ask::Channel, w, limits, extra)?;
+    let ask = channel_askable(w, limits);
     counts.add("circuit_channel", ask && got.verdict != 8, got.verdict);
     if !ask {
-        return if got.verdict == 0 { Err("accepted, where the Rust cannot be asked".into()) } else { Ok(None) };
+        return if got.verdict == 0 { Err("accepted, where the Rust cannot be asked".into()) } else { Ok((got, None)) };
     }
     match rust::circuit_channel(&w.circuit().unwrap(), &w.store, limits) {
-        Err(e) => same("verdict and index", (got.verdict, got.index), rust::refusal(e), "the Rust").map(|_| None),
+        Err(e) => same("verdict and index", (got.verdict, got.index), rust::refusal(e), "the Rust").map(|_| (got, None)),
         Ok(c) => {
             same("verdict and index", (got.verdict, got.index), (added(w, need(w, false), extra), 0), "document 01")?;
             if got.verdict != 0 {
-                return Ok(None);
+                return Ok((got, None));
             }
             let size = 3 + 5 * (1usize << (4 * w.qubits));
             let order: Vec<u64> = (0..got.result[2] as usize).map(|j| store_at(&got.result, 4 + j * size)).collect();
             let want = rust::layout(c.quantum_dim, c.num_cbits, &order, c.blocks.iter())
                 .ok_or_else(|| format!("stores: the archive {order:?}, the Rust {:?}", c.blocks.keys().collect::<Vec<_>>()))?;
             same_words("channel", &got.result, &want, "the Rust")?;
-            Ok(Some((got.result, c)))
+            Ok((got, Some(c)))
         }
     }
+}
+
+/// The archive's channel and the Rust's, equal; None where it is refused.
+fn channel(w: &Words, limits: &[u64; 6], extra: (i64, i64), counts: &mut Counts) -> Result<Option<(Vec<i64>, Channel)>, String> {
+    channel_reply(w, limits, extra, counts).map(|(got, c)| c.map(|c| (got.result, c)))
 }
 
 fn store_at(words: &[i64], at: usize) -> u64 {
@@ -240,7 +274,7 @@ fn store_at(words: &[i64], at: usize) -> u64 {
 }
 
 fn unitary(w: &Words, limits: &[u64; 6], extra: (i64, i64), counts: &mut Counts) -> Fault {
-    let got = both(true, w, limits, extra)?;
+    let got = both(Ask::Unitary, w, limits, extra)?;
     let ask = askable(w, &limits[..4]);
     counts.add("circuit_unitary", ask && got.verdict != 8, got.verdict);
     if !ask {
@@ -253,6 +287,105 @@ fn unitary(w: &Words, limits: &[u64; 6], extra: (i64, i64), counts: &mut Counts)
             if got.verdict != 0 { Ok(()) } else { same_words("unitary", &got.result, &rust::cells(&m).unwrap(), "the Rust") }
         }
     }
+}
+
+// ---- layers
+
+/// Number and index of the first of questions 1 to 6 that is answered by no.
+fn words_due(w: &Words, limits: &[u64; 6]) -> Option<(u32, u64)> {
+    let gate = |g: &[u32]| {
+        let qubits = || g[1..1 + qubit_words(g[0])].iter();
+        if !gates_well_formed(g) {
+            Some(5)
+        } else if qubits().any(|q| *q >= w.qubits) || qubits().collect::<HashSet<_>>().len() < qubits().len() || (g[0] == 12 && g[2] >= w.bits) {
+            Some(3)
+        } else {
+            (matches!(g[0], 14 | 17 | 18 | 21..=24) || (g[0] == 7 && g[4] == 8)).then_some(2)
+        }
+    };
+    if limits.iter().zip(&CEILINGS).any(|(l, c)| l > c) {
+        Some((6, 0))
+    } else if w.gates.len() % 5 != 0 {
+        Some((5, 0))
+    } else if w.gates.len() as u64 / 5 > limits[3] {
+        Some((1, 0))
+    } else {
+        w.gates.chunks_exact(5).zip(0..).find_map(|(g, i)| gate(g).map(|v| (v, i)))
+    }
+}
+
+/// 11 or 12 with its index. The qubits and bits that a layer uses are gathered; the first gate that finds one of its own among them clashes.
+fn layers_due(gates: &[u32], ends: &[u32]) -> Option<(u32, u64)> {
+    let edges: Vec<usize> = std::iter::once(0).chain(ends.iter().map(|e| *e as usize)).collect();
+    if edges.windows(2).any(|e| e[0] >= e[1]) || edges[ends.len()] != gates.len() / 5 {
+        return Some((11, 0));
+    }
+    for layer in edges.windows(2) {
+        let mut used = HashSet::new();
+        for i in layer[0]..layer[1] {
+            let g = &gates[5 * i..5 * i + 5];
+            let mut own: Vec<(&str, u32)> = g[1..1 + qubit_words(g[0])].iter().map(|q| ("qubit", *q)).collect();
+            if g[0] == 12 {
+                own.push(("bit", g[2]));
+            }
+            if own.iter().any(|u| used.contains(u)) {
+                return Some((12, i as u64));
+            }
+            used.extend(own);
+        }
+    }
+    None
+}
+
+/// The archive's reply to layered_channel: the first refusal that is due, or circuit_channel's of the gate list, with its words. Also the Rust's channel.
+fn layered(w: &Words, ends: &[u32], limits: &[u64; 6], extra: (i64, i64), counts: &mut Counts) -> Result<(Reply, Option<Channel>), String> {
+    let (list, c) = channel_reply(w, limits, extra, counts)?;
+    let got = both(Ask::Layered(ends), w, limits, extra)?;
+    let words = words_due(w, limits);
+    if let Some(due) = words {
+        same("circuit_channel", (list.verdict, list.index), due, "document 01")?;
+    }
+    let due = words.or_else(|| layers_due(&w.gates, ends)).unwrap_or((list.verdict, list.index));
+    let rust = channel_askable(w, limits) && got.verdict <= 4;
+    counts.add("layered_channel", rust, got.verdict);
+    counts.add("layered_verdict", rust, got.verdict);
+    same("layered_channel", (got.verdict, got.index), due, "the rules of layers")?;
+    if got.verdict == 0 {
+        same_words("layered channel", &got.result, &list.result, "circuit_channel")?;
+    }
+    Ok((got, c))
+}
+
+/// The gates of each layer in another order. The layer of a gate is how many ends it has passed, whatever they are; a list that is no list of gates has only itself.
+fn shuffled(gates: &[u32], ends: &[u32], rng: &mut Rng) -> Vec<u32> {
+    if gates.len() % 5 != 0 {
+        return gates.to_vec();
+    }
+    let mut order: Vec<usize> = (0..gates.len() / 5).collect();
+    let layer: Vec<usize> = order.iter().map(|i| ends.iter().filter(|e| **e as usize <= *i).count()).collect();
+    for i in (0..order.len()).rev() {
+        let first = layer.partition_point(|l| *l < layer[i]);
+        order.swap(i, first + rng.below((i - first + 1) as u64) as usize);
+    }
+    order.iter().flat_map(|i| gates[5 * i..5 * i + 5].to_vec()).collect()
+}
+
+fn layers(w: &Words, ends: &[u32], limits: &[u64; 6], extra: (i64, i64), shuffle: u64, counts: &mut Counts) -> Fault {
+    let other = Words { gates: shuffled(&w.gates, ends, &mut Rng(shuffle)), ..w.clone() };
+    let (x, a) = layered(w, ends, limits, extra, counts)?;
+    let (y, b) = layered(&other, ends, limits, extra, counts)?;
+    // a refusal that names a gate may be another one's; every other is the same
+    let shown = |r: &Reply| if matches!(r.verdict, 2 | 3 | 5 | 12) { (12, 0) } else { (r.verdict, r.index) };
+    same("shuffled layers", shown(&y), shown(&x), "the layers in order")?;
+    if x.verdict != 0 {
+        return Ok(());
+    }
+    let (Some(a), Some(b)) = (a, b) else { return Err("accepted, where the Rust has no channel".into()) };
+    for (l, r, p) in [(&x, &y, (&a, &b)), (&y, &x, (&b, &a))] {
+        compare(&l.result, &r.result, Some(p), counts)?;
+        same("compare of shuffled layers", compare_call(&ARCHIVE, &l.result, &r.result)?.0, 100, "the schedule rule")?;
+    }
+    Ok(())
 }
 
 fn compare_call(calls: &Calls, left: &[i64], right: &[i64]) -> Result<(u32, [u64; 3], [i64; 10]), String> {
@@ -406,7 +539,7 @@ fn read(words: &[i64]) -> Option<Channel> {
 }
 
 fn plain_channel(w: &Words) -> Vec<i64> {
-    circuit_call(&ARCHIVE, false, w, &CEILINGS, (0, 0)).map(|r| r.result).unwrap_or_default()
+    circuit_call(&ARCHIVE, Ask::Channel, w, &CEILINGS, (0, 0)).map(|r| r.result).unwrap_or_default()
 }
 
 fn set_words(words: &mut [i64], sets: &[(bool, u64, i64)], side: bool) {
@@ -518,6 +651,7 @@ pub fn check(case: &Case, counts: &mut Counts) -> Fault {
             Ok(())
         }
         Case::Unitary { words, limits, extra } => unitary(words, limits, *extra, counts),
+        Case::Layers { words, ends, limits, extra, shuffle } => layers(words, ends, limits, *extra, *shuffle, counts),
         Case::Compare { left, right } => {
             let (x, y) = (channel(left, &CEILINGS, (0, 0), counts)?, channel(right, &CEILINGS, (0, 0), counts)?);
             let (Some((x, a)), Some((y, b))) = (x, y) else { return Ok(()) };
@@ -537,7 +671,7 @@ pub fn check(case: &Case, counts: &mut Counts) -> Fault {
             lookup(&x, store, a.as_ref(), counts)
         }
         Case::Phase { left, right, scale, sets, dims, cut } => {
-            let of = |w: &Words| circuit_call(&ARCHIVE, true, w, &CEILINGS, (0, 0)).map(|r| r.result).unwrap_or_default();
+            let of = |w: &Words| circuit_call(&ARCHIVE, Ask::Unitary, w, &CEILINGS, (0, 0)).map(|r| r.result).unwrap_or_default();
             let (mut x, mut y) = (of(left), of(right));
             for cell in y.chunks_exact_mut(5) {
                 if let Some(w) = fitting(&rust::scalar(cell).mul(&rust::scalar(scale))) {
@@ -634,6 +768,30 @@ fn smaller(case: &Case) -> Vec<Case> {
     match case {
         Case::Channel { words, limits, extra } => smaller_call(words, *limits, *extra, |words, limits, extra| Case::Channel { words, limits, extra }),
         Case::Unitary { words, limits, extra } => smaller_call(words, *limits, *extra, |words, limits, extra| Case::Unitary { words, limits, extra }),
+        Case::Layers { words, ends, limits, extra, shuffle } => {
+            let with = |words: Words, ends: Vec<u32>| Case::Layers { words, ends, limits: *limits, extra: *extra, shuffle: *shuffle };
+            let mut out: Vec<Case> = smaller_words(words).into_iter().map(|w| with(w, ends.clone())).collect();
+            // a gate less, and every end behind it one less
+            for i in 0..words.gates.len() / 5 {
+                let mut gates = words.gates.clone();
+                gates.drain(5 * i..5 * i + 5);
+                let mut ends: Vec<u32> = ends.iter().map(|e| if *e as usize > i { e - 1 } else { *e }).collect();
+                ends.dedup();
+                out.push(with(Words { gates, ..words.clone() }, ends));
+            }
+            for i in 0..ends.len() {
+                let mut fewer = ends.clone();
+                fewer.remove(i);
+                out.push(with(words.clone(), fewer));
+            }
+            if *limits != CEILINGS {
+                out.push(Case::Layers { words: words.clone(), ends: ends.clone(), limits: CEILINGS, extra: *extra, shuffle: *shuffle });
+            }
+            if *extra != (0, 0) {
+                out.push(Case::Layers { words: words.clone(), ends: ends.clone(), limits: *limits, extra: (0, 0), shuffle: *shuffle });
+            }
+            out
+        }
         Case::Compare { left, right } => {
             let lefts = smaller_words(left).into_iter().map(|left| Case::Compare { left, right: right.clone() });
             let rights = smaller_words(right).into_iter().map(|right| Case::Compare { left: left.clone(), right });

@@ -5,21 +5,6 @@ use borrow.Author.Needs.{needs}
 use Rattle.c_circuits.proofs.layered_channel.Statement.{statement}
 use Rattle.c_circuits.proofs.layered_channel.Tie as tie
 
-read-limits-requires : tie.Need-read-limits-requires
-read-limits-requires c κs = search needs
-
-layered-channel-requires : tie.Need-layered-channel-requires
-layered-channel-requires c κs = search needs
-
-report-requires : tie.Need-report-requires
-report-requires c κs = search needs
-
-same-length : tie.Need-same-length
-same-length c = search needs
-
-same-length-2 : tie.Need-same-length-2
-same-length-2 c = search needs
-
 returns : tie.Need-returns
 returns c =
     let j = c .before .before .before .before in
@@ -30,12 +15,4 @@ returns c =
     (λ l. layeredWork (a .qubits) (a .bits) (a .store .now) l (a .gates .now) (a .ends .now) (a .result .now) (a .work .now)) (j .layered-channel .ensures) (c .report .ensures) (k .read-limits .ensures)
 
 pub layered-channel-spec : {M : Type 1} → statement M
-layered-channel-spec =
-    tie.close
-    (tie.spec
-    read-limits-requires
-    layered-channel-requires
-    report-requires
-    same-length
-    same-length-2
-    returns)
+layered-channel-spec = tie.close (tie.spec (λ c κs. search needs) (λ c κs. search needs) (λ c κs. search needs) (λ c. search needs) (λ c. search needs) returns)

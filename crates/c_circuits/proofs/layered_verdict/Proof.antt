@@ -5,15 +5,6 @@ use borrow.Author.Needs.{needs}
 use Rattle.c_circuits.proofs.layered_verdict.Statement.{statement}
 use Rattle.c_circuits.proofs.layered_verdict.Tie as tie
 
-read-limits-requires : tie.Need-read-limits-requires
-read-limits-requires c κs = search needs
-
-judge-layered-channel-requires : tie.Need-judge-layered-channel-requires
-judge-layered-channel-requires c κs = search needs
-
-report-requires : tie.Need-report-requires
-report-requires c κs = search needs
-
 returns : tie.Need-returns
 returns c =
     let j = c .before .before in
@@ -23,10 +14,4 @@ returns c =
     (k .read-limits .ensures)
 
 pub layered-verdict-spec : {M : Type 1} → statement M
-layered-verdict-spec =
-    tie.close
-    (tie.spec
-    read-limits-requires
-    judge-layered-channel-requires
-    report-requires
-    returns)
+layered-verdict-spec = tie.close (tie.spec (λ c κs. search needs) (λ c κs. search needs) (λ c κs. search needs) returns)
