@@ -10,7 +10,7 @@ mod rust;
 mod semantics;
 mod symbolic_angle;
 
-use calls::kind::{CNOT, H, MEASURE, RESET, T, X};
+use calls::kind::{CCX, CNOT, H, MEASURE, RESET, T, X};
 use calls::{ARCHIVE, CEILINGS, Calls, PLAIN};
 use rust::Words;
 use std::hint::black_box;
@@ -20,11 +20,19 @@ struct Row {
     family: &'static str,
     deep: bool,
     words: Words,
+    /// The ends of the layers of a layered circuit.
+    ends: Option<Vec<u32>>,
 }
 
 fn row(family: &'static str, deep: bool, qubits: u32, bits: u32, gates: &[[u32; 3]]) -> Row {
     let gates = gates.iter().flat_map(|g| [g[0], g[1], g[2], 0, 0]).collect();
-    Row { family, deep, words: Words { qubits, bits, store: vec![0; bits as usize], gates } }
+    Row { family, deep, words: Words { qubits, bits, store: vec![0; bits as usize], gates }, ends: None }
+}
+
+/// The same in layers of so many gates.
+fn layered(row: Row, gates: usize) -> Row {
+    let count = row.words.gates.len() / 5;
+    Row { ends: Some((0..count).step_by(gates).map(|start| (start + gates).min(count) as u32).collect()), ..row }
 }
 
 /// 48 h with a t behind each and a cnot behind every third; a measure into bit 0 after the 24th and after the last if asked for.
@@ -86,14 +94,23 @@ fn rows() -> Vec<Row> {
         let gates: Vec<_> = (0..1024).map(|i| [X, i % n, 0]).collect();
         rows.push(row("1,024 x", false, n, 0, &gates));
     }
+    for n in up_to(4) {
+        let gates: Vec<_> = (0..1024).map(|i| [X, i % n, 0]).collect();
+        rows.push(layered(row("1,024 x in layers of n", false, n, 0, &gates), n as usize));
+    }
     rows
 }
 
-fn channel(calls: &Calls, w: &Words, result: &mut [i64], work: &mut [i64]) -> u32 {
+/// circuit_channel, or layered_channel where there are ends.
+fn channel(calls: &Calls, w: &Words, ends: Option<&[u32]>, result: &mut [i64], work: &mut [i64]) -> u32 {
     let mut index = 0;
     let verdict = unsafe {
-        (calls.circuit_channel)(w.qubits, w.bits, w.store.as_ptr(), w.store.len(), w.gates.as_ptr(), w.gates.len(), CEILINGS.as_ptr(),
-            result.as_mut_ptr(), result.len(), work.as_mut_ptr(), work.len(), &mut index)
+        match ends {
+            None => (calls.circuit_channel)(w.qubits, w.bits, w.store.as_ptr(), w.store.len(), w.gates.as_ptr(), w.gates.len(), CEILINGS.as_ptr(),
+                result.as_mut_ptr(), result.len(), work.as_mut_ptr(), work.len(), &mut index),
+            Some(e) => (calls.layered_channel)(w.qubits, w.bits, w.store.as_ptr(), w.store.len(), w.gates.as_ptr(), w.gates.len(), e.as_ptr(), e.len(),
+                CEILINGS.as_ptr(), result.as_mut_ptr(), result.len(), work.as_mut_ptr(), work.len(), &mut index),
+        }
     };
     black_box(&result);
     verdict
@@ -203,12 +220,12 @@ impl Line {
 }
 
 /// The channel's words by the archive, after a check that plain C has the same words and the Rust the same blocks.
-fn agreed(w: &Words) -> (Vec<i64>, Vec<i64>) {
+fn agreed(w: &Words, ends: Option<&[u32]>) -> (Vec<i64>, Vec<i64>) {
     let (result_words, work_words) = w.channel_sizes();
     let mut answers = Vec::new();
     for calls in [&ARCHIVE, &PLAIN] {
         let (mut result, mut work) = (vec![-7; result_words], vec![-7; work_words]);
-        assert_eq!(channel(calls, w, &mut result, &mut work), 0, "{}: refused", calls.name);
+        assert_eq!(channel(calls, w, ends, &mut result, &mut work), 0, "{}: refused", calls.name);
         assert!(work.iter().all(|x| *x == 0), "{}: work words are not zero", calls.name);
         answers.push(result);
     }
@@ -231,8 +248,10 @@ fn main() {
     let (samples, budget) = if quick { (9, Duration::from_millis(300)) } else { (101, Duration::from_millis(2000)) };
     let (most, rust_budget) = if quick { (3, Duration::from_millis(500)) } else { (11, Duration::from_millis(8000)) };
     let names = ["compare, two equal channels", "compare, two equal channels of two blocks"];
+    // 1,024 gates on different qubits: kind, qubits of a gate
+    let full = [("1,024 x in one layer, refused", X, 1), ("1,024 ccx in one layer, refused", CCX, 3)];
     if let Some(o) = &only {
-        if !rows().iter().map(|r| r.family).chain(names).any(|n| n.contains(o.as_str())) {
+        if !rows().iter().map(|r| r.family).chain(names).chain(full.map(|f| f.0)).any(|n| n.contains(o.as_str())) {
             eprintln!("no circuit's name has the words {o:?}");
             std::process::exit(2);
         }
@@ -242,15 +261,15 @@ fn main() {
     let mut lines = Vec::new();
     let mut growth: Vec<(&str, Vec<(u32, f64, f64, f64)>)> = Vec::new();
     for r in rows().iter().filter(|r| only.as_ref().is_none_or(|o| r.family.contains(o.as_str()))) {
-        let w = &r.words;
-        let (mut result, mut work) = agreed(w);
+        let (w, ends) = (&r.words, r.ends.as_deref());
+        let (mut result, mut work) = agreed(w, ends);
         let used = (4 + result[2] as usize * (3 + 5 * (1usize << w.qubits).pow(4))).min(result.len());
         let source = result.clone();
         let (mut a, mut b, mut floor) = (result.clone(), work.clone(), result.clone());
         let (mut floor2, mut zeroed) = (result.clone(), work.clone());
         let t = medians(samples, budget, &mut [
-            &mut || assert_eq!(channel(&ARCHIVE, w, &mut result, &mut work), 0),
-            &mut || assert_eq!(channel(&PLAIN, w, &mut a, &mut b), 0),
+            &mut || assert_eq!(channel(&ARCHIVE, w, ends, &mut result, &mut work), 0),
+            &mut || assert_eq!(channel(&PLAIN, w, ends, &mut a, &mut b), 0),
             &mut || { black_box(&mut floor[..used]).fill(0); black_box(&floor); },
             &mut || { black_box(&mut floor2[..used]).copy_from_slice(&source[..used]); black_box(&floor2); },
             &mut || { black_box(&mut zeroed[..]).fill(0); black_box(&zeroed); },
@@ -266,13 +285,29 @@ fn main() {
             _ => growth.push((r.family, vec![(w.qubits, t[0], units, t[2])])),
         }
     }
+    // every pair of gates is asked before the limit on qubits is
+    for (name, kind, used) in full.iter().filter(|f| only.as_ref().is_none_or(|o| f.0.contains(o.as_str()))) {
+        let gates = (0..1024).flat_map(|i| [*kind, used * i, if *used > 1 { used * i + 1 } else { 0 }, if *used > 2 { used * i + 2 } else { 0 }, 0]);
+        let w = &Words { qubits: 1024 * used, bits: 0, store: vec![], gates: gates.collect() };
+        let ends: Option<&[u32]> = Some(&[1024]);
+        let mut copy = w.gates.clone();
+        let t = medians(samples, budget, &mut [
+            &mut || assert_eq!(channel(&ARCHIVE, w, ends, &mut [], &mut []), 1),
+            &mut || assert_eq!(channel(&PLAIN, w, ends, &mut [], &mut []), 1),
+            &mut || { black_box(black_box(&w.gates).iter().fold(0, |a, g| a ^ g)); },
+            &mut || { black_box(&mut copy[..]).copy_from_slice(&w.gates); black_box(&copy); },
+        ]);
+        let line = Line { name: format!("{name} | {}", w.qubits), deep: false, rust: f64::NAN, archive: t[0], plain: t[1], floor: t[2], copy: t[3], zeroing: 0.0 };
+        line.print();
+        lines.push(line);
+    }
     for measures in [false, true] {
         let name = names[measures as usize];
         if only.as_ref().is_some_and(|o| !name.contains(o.as_str())) {
             continue;
         }
         let w = row("compare", false, 4, measures as u32, &deep(4, measures)).words;
-        let (left, _) = agreed(&w);
+        let (left, _) = agreed(&w, None);
         let right = left.clone();
         for calls in [&ARCHIVE, &PLAIN] {
             assert_eq!(compare(calls, &left, &right), 100, "{}: not the same", calls.name);
@@ -292,7 +327,8 @@ fn main() {
         line.print();
         lines.push(line);
     }
-    println!("\nThe floor: writing the result's words once by memset; for compare, reading both channels' words once.");
+    println!("\nThe floor: writing the result's words once by memset; for compare, reading both channels' words once; for a refused layer, reading the gates' words once.");
+    println!("The Rust has no layers: beside them stands its channel of the gate list, and nothing beside a refusal that it does not have.");
     println!("\nGrowth with n: the archive's time for each of the d^4·V entries of a channel, in ns. It is no worse than the work where it does not rise, or");
     println!("rises no faster than the floor's (a result that no longer fits a cache). A dash: no such row; six h and measure on 4 qubits are over the limits.\n");
     println!("| circuit | n = 1 | 2 | 3 | 4 |\n|---|---|---|---|---|");

@@ -49,6 +49,13 @@ static void nothing(void) {}
 static void channel(void) {
     reply = foreituka_circuit_channel(qubits, bits, store, bits, gates, gate_words, limits, left, WORDS(left), work, WORDS(work), &index_of);
 }
+/* in layers of one gate each */
+static void layered(void) {
+    static uint32_t ends[1024];
+    size_t count = gate_words / 5;
+    for (size_t i = 0; i < count; i++) ends[i] = (uint32_t)i + 1;
+    reply = foreituka_layered_channel(qubits, bits, store, bits, gates, gate_words, ends, count, limits, left, WORDS(left), work, WORDS(work), &index_of);
+}
 static void unitary(void) {
     reply = foreituka_circuit_unitary(qubits, gates, gate_words, limits, left, WORDS(left), work, WORDS(work), &index_of);
 }
@@ -173,35 +180,40 @@ static int exact(void) {
     return 0;
 }
 
+/* in the order of the table */
+enum { CHANNEL, LAYERED, UNITARY, COMPARE, BLOCKS, LOOKUP, PHASE, SCALARS, CALLS };
+
 int main(void) {
     if (exact()) return fprintf(stderr, "memory: a size of the header is not what the calls ask for; reply %u\n", reply), 1;
-    size_t own = used_by(nothing), of[7] = {0};
+    size_t own = used_by(nothing), of[CALLS] = {0};
     for (uint32_t n = 0; n <= QUBITS; n++)
         for (int splits = 0; splits <= (n < 4 ? 4 : 2); splits++) {
             all_kinds(n, splits);
-            of[0] = most(of[0], used_by(channel));
+            of[CHANNEL] = most(of[CHANNEL], used_by(channel));
             if (reply != FOREITUKA_ACCEPTED) return fprintf(stderr, "memory: refused %u at %u qubits\n", reply, n), 1;
+            of[LAYERED] = most(of[LAYERED], used_by(layered));
+            if (reply != FOREITUKA_ACCEPTED) return fprintf(stderr, "memory: layers refused %u at %u qubits\n", reply, n), 1;
             memcpy(right, left, sizeof left);
-            of[2] = most(of[2], used_by(compare));
+            of[COMPARE] = most(of[COMPARE], used_by(compare));
             if (reply != FOREITUKA_SAME) return fprintf(stderr, "memory: not the same: %u\n", reply), 1;
             right[7 + 5 * ((size_t)1 << 4 * n) - 1] ^= 1; /* the last word of the first block: malformed or different */
-            of[2] = most(of[2], used_by(compare));
-            of[3] = most(of[3], used_by(blocks));
-            of[4] = most(of[4], used_by(lookup));
+            of[COMPARE] = most(of[COMPARE], used_by(compare));
+            of[BLOCKS] = most(of[BLOCKS], used_by(blocks));
+            of[LOOKUP] = most(of[LOOKUP], used_by(lookup));
         }
     for (uint32_t n = 0; n <= FOREITUKA_MAX_QUBITS; n++) {
         all_kinds(n, 0);
-        of[1] = most(of[1], used_by(unitary));
+        of[UNITARY] = most(of[UNITARY], used_by(unitary));
         if (reply != FOREITUKA_ACCEPTED) return fprintf(stderr, "memory: unitary refused %u at %u qubits\n", reply, n), 1;
         memcpy(right, left, sizeof left);
-        of[5] = most(of[5], used_by(phase));
+        of[PHASE] = most(of[PHASE], used_by(phase));
         if (reply != FOREITUKA_EQUIVALENT) return fprintf(stderr, "memory: not equivalent: %u\n", reply), 1;
     }
-    of[6] = used_by(scalar_calls);
-    static const char *names[] = {"circuit_channel", "circuit_unitary", "compare", "classical_blocks", "lookup",
-                                  "equivalent_up_to_global_phase", "scalar calls"};
+    of[SCALARS] = used_by(scalar_calls);
+    static const char *names[CALLS] = {"circuit_channel", "layered_channel", "circuit_unitary", "compare", "classical_blocks", "lookup",
+                                       "equivalent_up_to_global_phase", "scalar calls"};
     sizes();
     printf("\n| call | stack, bytes |\n|---|---|\n");
-    for (int i = 0; i < 7; i++) printf("| %s | %zu |\n", names[i], of[i] - own);
+    for (int i = 0; i < CALLS; i++) printf("| %s | %zu |\n", names[i], of[i] - own);
     return 0;
 }

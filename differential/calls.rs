@@ -22,6 +22,7 @@ pub mod kind {
     pub const T: u32 = 5;
     pub const RZ: u32 = 7;
     pub const CNOT: u32 = 8;
+    pub const CCX: u32 = 10;
     pub const MEASURE: u32 = 12;
     pub const RESET: u32 = 13;
     pub const SX: u32 = 16;
