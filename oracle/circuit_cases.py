@@ -1,8 +1,8 @@
 """Cases of circuit_unitary and circuit_channel: `circuit_cases.py unitary` or `circuit_cases.py channel`.
 
-A line: source; limits (0 for the defaults, or 1 and six numbers), n, bits, store length and bytes, gate word count and words, the lengths of result, work and
-effects; verdict, index, checksums of result and work; of a channel the verdict of classical_blocks on that result and the checksum of the effects (a channel
-that was refused leaves words that are refused too). A unitary has no bits, no store and no effects.
+A line: kind 2 for a unitary, 3 for a channel; source; the lengths of result, work and effects; limits (0 for the defaults, or 1 and six numbers), n, bits, store
+length and bytes, gate word count and words; verdict, index, checksums of result and work; of a channel the verdict of classical_blocks on that result and the
+checksum of the effects (a channel that was refused leaves words that are refused too). A unitary has no bits, no store and no effects.
 
 Each lent word holds its place mod 997, plus 1, before the call. Source 0: verdict and entries are the Rust's; 1: a refusal by document 01,
 or one whose words the Rust cannot hold. The order of records is document 01's (rules.py works out which branches survive).
@@ -138,7 +138,7 @@ def unitary_lines(rng, inputs):
                 after[5 * (r * d + c):5 * (r * d + c) + 5] = s
             spent = [0] * unitary_sizes(n)[1]
         sums = checksum(over(result, after)), checksum(over(work, spent))
-        yield [0 if of_rust else 1, *shown([*limits, *CEILINGS[4:]]), n, 0, 0, len(words), *words, result, work, 0, *verdict, *sums], verdict[0]
+        yield [0 if of_rust else 1, result, work, 0, *shown([*limits, *CEILINGS[4:]]), n, 0, 0, len(words), *words, *verdict, *sums], verdict[0]
 
 
 # ---- channels
@@ -241,7 +241,7 @@ def channel_lines(rng, inputs):
         else:
             assert read_channel(pattern(result)) is None
         sums = checksum(over(result, after)), checksum(over(work, spent))
-        yield [0 if of_rust else 1, *shown(limits), n, bits, len(store), *store, len(words), *words, result, work, length, *verdict, *sums, *tail], verdict[0]
+        yield [0 if of_rust else 1, result, work, length, *shown(limits), n, bits, len(store), *store, len(words), *words, *verdict, *sums, *tail], verdict[0]
 
 
 def main():
@@ -253,7 +253,7 @@ def main():
         for line, verdict in made(rng, inputs(rng)):
             lines.append(line)
             verdicts[verdict] = verdicts.get(verdict, 0) + 1
-    print(f"{kind} {len(lines)}", *map(text, lines), sep="\n")
+    print(len(lines), *(text([kind, *line]) for line in lines), sep="\n")
     of_rust = sum(line[0] == 0 for line in lines)
     print(f"seed {seed}: {len(lines)} cases, {of_rust} by the Rust, {len(lines) - of_rust} by document 01; by verdict {dict(sorted(verdicts.items()))}", file=sys.stderr)
 

@@ -1,6 +1,6 @@
 """Pairs of circuits whose channels are compared, by the Rust.
 
-A line: source 0; the left and the right circuit, each as 0 (the default limits), n, bits, store length and bytes, gate word count and words; then the answer:
+A line: kind 4, source 0; the left and the right circuit, each as 0 (the default limits), n, bits, store length and bytes, gate word count and words; then the answer:
 verdict 0; 0 same, 1 dimensions, 2 an entry; the store's two words, row, column, the left and the right scalar (0 unless an entry differs).
 """
 import random
@@ -125,7 +125,7 @@ def main():
             low, high = (sum(b << j for j, b in enumerate(half)) for half in (bits[:32], bits[32:]))
             place = [low, high, *map(int, words[2:])]
         lines.append(text([0, *numbers(p[0]), *numbers(p[1]), 0, kind, *place]))
-    print(f"4 {len(lines)}", *lines, sep="\n")
+    print(len(lines), *(f"4 {line}" for line in lines), sep="\n")
     print(f"seed {SEED}: {len(lines)} pairs by the Rust: {kinds[0]} same, {kinds[1]} of other dimensions, {kinds[2]} that differ in an entry", file=sys.stderr)
 
 

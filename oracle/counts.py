@@ -26,8 +26,8 @@ def words(given):
 RECORD = {
     0: lambda given: given[11:],
     1: lambda given: words(words(given[1:])[1:]),
-    2: lambda given: circuit(given)[3:],
-    3: lambda given: circuit(given)[3:],
+    2: lambda given: circuit(given[3:]),
+    3: lambda given: circuit(given[3:]),
     4: lambda given: circuit(circuit(given)),
     5: lambda given: counted(words(words(given))[1:]),
 }
@@ -35,22 +35,21 @@ LISTING = 6
 
 
 def main():
-    text = sys.stdin.buffer
+    text, kinds = sys.stdin.buffer, {}
     for _ in range(int(text.readline())):
-        kind, cases = map(int, text.readline().split())
-        sources, compared = [0, 0], 0
-        for _ in range(cases):
-            source, *given = map(int, text.readline().split())
-            sources[source] += 1
-            if kind == LISTING:
-                text.read(given[0] + 1)
-                answer = int(text.readline())
-                text.read(answer)
-                compared += 1 + answer
-            else:
-                compared += len(RECORD[kind](given))
-        print(f"kind {kind}: {sources[0]} agree with the Rust, {sources[1]} with document 01, 0 disagree; {compared} numbers compared")
+        kind, source, *given = map(int, text.readline().split())
+        counts = kinds.setdefault(kind, [0, 0, 0])
+        counts[source] += 1
+        if kind == LISTING:
+            text.read(given[0] + 1)
+            answer = int(text.readline())
+            text.read(answer)
+            counts[2] += 1 + answer
+        else:
+            counts[2] += len(RECORD[kind](given))
     assert not text.read()
+    for kind, (rust, document, compared) in kinds.items():
+        print(f"kind {kind}: {rust} agree with the Rust, {document} with document 01, 0 disagree; {compared} numbers compared")
 
 
 main()

@@ -1,6 +1,6 @@
 """Texts for the program that lists a channel, with what it answers.
 
-A case: source and the text's length on one line; the text, a newline; the answer's length on one line; the answer. Source 0: the answer is the Rust's; 1: document
+A case: kind 6, source and the text's length on one line; the text, a newline; the answer's length on one line; the answer. Source 0: the answer is the Rust's; 1: document
 01 decides, by its rules of the text or its questions.
 """
 import random
@@ -93,13 +93,13 @@ def main():
     verdicts = [p and channel_verdict(CEILINGS, *p, RESULT, WORK) for p in inputs]
     told = [bool(p) and v[0] <= 3 and expressible(*p[2:]) for p, v in zip(inputs, verdicts)]
     answers = ask([f"chan {p[0]} {p[1]} {text(p[2])} {len(p[3]) // 5} {text(p[3])}" if t else "unit 0 0" for p, t in zip(inputs, told)])
-    out = [b"6 %d\n" % len(texts)]
+    out = [b"%d\n" % len(texts)]
     for t, v, by_rust, answer in zip(texts, verdicts, told, answers):
         said = b"refused %d %d\n" % v if v else INPUT
         if by_rust:
             assert (refusal(answer) or (0, 0)) == v, (t, answer[:1], v)
             said = "\n".join(answer).encode() + b"\n"
-        out.append(b"%d %d\n%b\n%d\n%b" % (not by_rust, len(t), t, len(said), said))
+        out.append(b"6 %d %d\n%b\n%d\n%b" % (not by_rust, len(t), t, len(said), said))
     sys.stdout.buffer.write(b"".join(out))
     count = {}
     for v in verdicts:

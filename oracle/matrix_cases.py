@@ -1,4 +1,4 @@
-"""Cases of equivalent_up_to_global_phase. A line: source, the left and the right matrix, verdict, answer (1: equivalent).
+"""Cases of equivalent_up_to_global_phase. A line: kind 1, source, the left and the right matrix, verdict, answer (1: equivalent).
 
 A matrix is dim, its number of words, the number of words that are not 0, and place and value of each of these. Source 0: the Rust's answer;
 1: a refusal, which the Rust has not, by document 01.
@@ -128,7 +128,7 @@ def main():
             marks = [(i, w) for i, w in enumerate(ws) if w]
             numbers += [dim, len(ws), len(marks), *(x for m in marks for x in m)]
         lines.append(text([0 if verdict == 0 else 1, *numbers, verdict, same]))
-    print(f"1 {len(lines)}", *lines, sep="\n")
+    print(len(lines), *(f"1 {line}" for line in lines), sep="\n")
     print(f"seed {SEED}: {len(lines)} cases, {by_rust} by the Rust ({equivalent} equivalent), {len(lines) - by_rust} refusals by document 01", file=sys.stderr)
 
 

@@ -1,4 +1,4 @@
-"""Cases of the scalar calls, 18 numbers a line: source, call, two operands of five numbers, verdict, value.
+"""Cases of the scalar calls, 19 numbers a line: kind 0, source, call, two operands of five numbers, verdict, value.
 
 Calls: 0 integer (of the first number), 1 zero, 2 i, 3 inv_sqrt_two, 4 omega (of the first number), 5 add, 6 neg, 7 half, 8 conj, 9 mul.
 Unused numbers are 0. Source 0: the value is the Rust's; 1: a refusal, which the Rust has not, by document 01. A 9 of add, half and integer is
@@ -118,7 +118,7 @@ def main():
         if verdict:
             value = ZERO
         lines.append(" ".join(map(str, (1 if verdict else 0, call, *x, *y, verdict, *value))))
-    print(f"0 {len(lines)}", *lines, sep="\n")
+    print(len(lines), *(f"0 {line}" for line in lines), sep="\n")
     refused = sum(line.startswith("1") for line in lines)
     print(f"seed {SEED}: {len(lines)} cases, {len(lines) - refused} by the Rust, {refused} refusals by document 01", file=sys.stderr)
 

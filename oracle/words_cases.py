@@ -1,6 +1,6 @@
 """Cases of compare, classical_blocks and the lookup on channels given by their words, sound and damaged.
 
-A line: source; the left and the right words, each as length, number of words that are not 0, place and value of these; the length of the effects' buffer; the
+A line: kind 5, source; the left and the right words, each as length, number of words that are not 0, place and value of these; the length of the effects' buffer; the
 store to look for, its length and bytes. Then the answers: compare's verdict, 0 same, 1 dimensions, 2 an entry, the store's two words, row, column, both
 scalars; the verdict of classical_blocks of the left and the checksum of its buffer (whose words hold their place mod 997, plus 1, before the call); length
 and checksum of the part that the lookup in the left hands back. Source 0: compare's answer and the effects are the Rust's; 1: document 01 refuses.
@@ -205,7 +205,7 @@ def main():
         effect_verdicts[effects[1]] = effect_verdicts.get(effects[1], 0) + 1
         of_rust = ok and effects[1] == 0
         lines.append(text([0 if of_rust else 1, *sparse(left), *sparse(right), effects[0], len(store), *store, verdict, kind, *place, *effects[1:], len(part), checksum(part)]))
-    print(f"5 {len(lines)}", *lines, sep="\n")
+    print(len(lines), *(f"5 {line}" for line in lines), sep="\n")
     print(f"seed {SEED}: {len(lines)} cases, compare {dict(sorted(verdicts.items()))}, classical_blocks {dict(sorted(effect_verdicts.items()))}", file=sys.stderr)
 
 

@@ -4,4 +4,5 @@ pub mod Record
 pub mod Checksum
 pub mod Answers
 pub mod Tally
+pub mod Progress
 pub mod Words

@@ -59,8 +59,11 @@ impl Tally {
         }
     }
 
-    // One line for a kind of cases; a second one names the first case that does not agree. It answers nothing, and no contract can say what is written.
+    // One line for a kind that had cases; a second one names the first case that does not agree. It answers nothing, and no contract can say what is written.
     pub fn print(self, kind: u64) {
+        if self.cases == 0 {
+            return;
+        }
         io::write_all(STDOUT_FILENO, b"kind ");
         say(kind, b": ");
         say(self.of_rust, b" agree with the Rust, ");

@@ -3,7 +3,7 @@ use crate::numeral::low;
 use crate::numeral::read;
 use matrix::words::clear;
 ghost use mathlib.Core.Path.{_≡_};
-ghost use Prim.Native.Nat.{min};
+ghost use Prim.Native.Nat.{_≤_, min};
 ghost use lib.ListN.{length, set};
 ghost use Rattle.replay.specs.Words.{marked, placedAt, placedPart, numbersAt, numbersPart};
 
@@ -48,6 +48,7 @@ fn put(buf: &mut [i64], place: u64, value: i64)
 // A length; how many words of the text are not 0, and place and value of each. The others are 0.
 pub fn read_words(text: &[u8], at: usize, buf: &mut [i64]) -> Part
     ensures part { λ r. ⌜ r ≡ placedPart (now (text .entry)) at (now (buf .entry)) ⌝ }
+    ensures room { λ r. ⌜ r .len ≤ length (now (buf .entry)) ⌝ }
     ensures words { λ _. ⌜ now (buf .exit) ≡ placedAt (now (text .entry)) at (now (buf .entry)) .words ⌝ }
 {
     let n = buf.len();
@@ -72,6 +73,7 @@ pub fn read_words(text: &[u8], at: usize, buf: &mut [i64]) -> Part
 // A count, then as many 32-bit words, of which those are kept for which there is room.
 pub fn read_u32s(text: &[u8], at: usize, buf: &mut [u32]) -> Part
     ensures part { λ r. ⌜ r ≡ numbersPart 4294967296 (now (text .entry)) at (now (buf .entry)) ⌝ }
+    ensures room { λ r. ⌜ r .len ≤ length (now (buf .entry)) ⌝ }
     ensures words { λ _. ⌜ now (buf .exit) ≡ numbersAt 4294967296 (now (text .entry)) at (now (buf .entry)) .words ⌝ }
 {
     let count = read(text, at);
@@ -90,6 +92,7 @@ pub fn read_u32s(text: &[u8], at: usize, buf: &mut [u32]) -> Part
 // The same of bytes.
 pub fn read_bytes(text: &[u8], at: usize, buf: &mut [u8]) -> Part
     ensures part { λ r. ⌜ r ≡ numbersPart 256 (now (text .entry)) at (now (buf .entry)) ⌝ }
+    ensures room { λ r. ⌜ r .len ≤ length (now (buf .entry)) ⌝ }
     ensures words { λ _. ⌜ now (buf .exit) ≡ numbersAt 256 (now (text .entry)) at (now (buf .entry)) .words ⌝ }
 {
     let count = read(text, at);

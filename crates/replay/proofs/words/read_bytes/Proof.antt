@@ -60,7 +60,7 @@ returns c =
     let s = f .before .before .before .before .args in
     let e = sym (all-read 256 (s .text .now) (s .at) (s .buf .now) (f .fitting .result) (l .loop .inv) (c .loop-test .left)) in
     let n = f .fitting .ensures ∙ ap (λ (w : Word). min (w .size) (length (s .buf .now))) (f .before .read .ensures) in
-    ((λ i. record { len = n i; next = e i .next }), ap (λ (f : Filled ℕ). f .words) e)
+    ((λ i. record { len = n i; next = e i .next }), (omega (arith, f .fitting .ensures), ap (λ (f : Filled ℕ). f .words) e))
 
 pub read-bytes-spec : {M : Type 1} → statement M
 read-bytes-spec =

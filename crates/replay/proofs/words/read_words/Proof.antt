@@ -76,7 +76,7 @@ returns c =
     let q1 = following t (s .at) 0 q0 (r2 .read2 .ensures) in
     let e = sym (sym (λ i. placed t (q1 i .size) (q1 i .next) (k .clear .ensures i)) ∙ l .loop .inv .1 ∙ placed-end t (l .loop .left) (l .loop .next) (l .loop .buf) (a .loop-test .left)) in
     let n = c .fitting .ensures ∙ ap (λ (w : Word). min (w .size) (length (s .buf .now))) q0 in
-    ((λ i. record { len = n i; next = e i .next }), ap (λ (f : Filled ℤ). f .words) e)
+    ((λ i. record { len = n i; next = e i .next }), (omega (arith, c .fitting .ensures), ap (λ (f : Filled ℤ). f .words) e))
 
 pub read-words-spec : {M : Type 1} → statement M
 read-words-spec =

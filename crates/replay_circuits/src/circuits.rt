@@ -1,0 +1,78 @@
+// Cases of one circuit: circuit_unitary, and circuit_channel with classical_blocks of its result.
+use crate::reading::Circuit;
+use crate::reading::GATES;
+use crate::reading::STORE;
+use crate::reading::read_circuit;
+use judge::call::circuit_channel;
+use replay::answers::check_call;
+use replay::calls::effects_call;
+use replay::numeral::read;
+use replay::record::Record;
+use replay::words::fitting;
+use replay::words::mark;
+use unitary::circuit_unitary;
+use verdict::Verdict;
+
+// Room for the words of a result, for work, and for the words of effects.
+const RESULT: usize = 656000;
+
+const WORK: usize = 167000;
+
+const EFFECTS: usize = 2600;
+
+// The call of this kind: 2 circuit_unitary, else circuit_channel.
+fn asked(
+    kind: u64,
+    c: Circuit,
+    store: &[u8],
+    gates: &[u32],
+    result: &mut [i64],
+    work: &mut [i64],
+) -> Verdict {
+    let limits = c.limits;
+    match kind {
+        2 => circuit_unitary(c.n, gates, limits, result, work),
+        _ => circuit_channel(c.n, c.bits, store, gates, limits, result, work),
+    }
+}
+
+// The call on the circuit at `at` and on marked buffers.
+fn called(kind: u64, text: &[u8], at: usize, result: &mut [i64], work: &mut [i64]) -> Record {
+    let mut store = [0u8; STORE];
+    let mut words = [0u32; GATES];
+    let c = read_circuit(text, at, &mut store, &mut words);
+    let s = c.stored;
+    let g = c.gates;
+    mark(result);
+    mark(work);
+    let v = asked(kind, c, &store[..s], &words[..g], result, work);
+    check_call(Record::begin(c.next), text, v, result, work)
+}
+
+// The effects of a channel, in a buffer of this length; a unitary has none.
+fn traced(kind: u64, seen: Record, text: &[u8], length: u64, channel: &[i64]) -> Record {
+    if kind == 2 {
+        return seen;
+    }
+    let mut effects = [0i64; EFFECTS];
+    let e = fitting(length, EFFECTS);
+    effects_call(seen, text, channel, &mut effects[..e])
+}
+
+// The lengths of three buffers, and a circuit; verdict, index, the checksums of two buffers, and of a channel what its effects are.
+fn answered(kind: u64, text: &[u8], at: usize, result: &mut [i64], work: &mut [i64]) -> Record {
+    let after = read(text, at);
+    let spent = read(text, after.next);
+    let effects = read(text, spent.next);
+    let r = fitting(after.size, result.len());
+    let w = fitting(spent.size, work.len());
+    let seen = called(kind, text, effects.next, &mut result[..r], &mut work[..w]);
+    traced(kind, seen, text, effects.size, &result[..r])
+}
+
+// The same with the buffers that it lends.
+pub fn circuit_case(kind: u64, text: &[u8], at: usize) -> Record {
+    let mut result = [0i64; RESULT];
+    let mut work = [0i64; WORK];
+    answered(kind, text, at, &mut result, &mut work)
+}

@@ -1,0 +1,57 @@
+// Replays the recorded answers of calls that are given circuits: circuit_unitary, circuit_channel with the effects of its result, compare of two circuits'
+// channels, and the listing of a text. The text: how many cases there are, then the cases; a case is its kind, its source (0 the Rust, 1 document 01), what
+// the calls are given, and what they answered.
+mod circuits;
+mod compared;
+mod listings;
+mod reading;
+
+use crate::circuits::circuit_case;
+use crate::compared::compare_case;
+use crate::listings::listing_case;
+use replay::numeral::read;
+use replay::progress::Progress;
+use replay::progress::read_heading;
+use replay::record::Record;
+
+// Room for the text.
+const TEXT: usize = 480000;
+
+// A case of this kind, behind its heading.
+fn case(kind: u64, text: &[u8], at: usize) -> Record {
+    match kind {
+        4 => compare_case(text, at),
+        6 => listing_case(text, at),
+        _ => circuit_case(kind, text, at),
+    }
+}
+
+// One more case.
+fn turn(text: &[u8], progress: Progress) -> Progress {
+    let h = read_heading(text, progress.next());
+    let seen = case(h.kind, text, h.next);
+    progress.with(h, seen)
+}
+
+// All cases.
+fn replay_text(text: &[u8]) {
+    let count = read(text, 0);
+    let mut progress = Progress::begin(count.next);
+    let mut rest = count.size;
+    while 0 < rest {
+        rest -= 1;
+        progress = turn(text, progress);
+    }
+    progress.print();
+}
+
+// Reads the text, and replays it.
+fn replay_input(text: &mut [u8]) {
+    let n = io::read_full(0, text);
+    replay_text(&text[..n]);
+}
+
+fn main() {
+    let mut text = [0u8; TEXT];
+    replay_input(&mut text);
+}

@@ -1,0 +1,55 @@
+// Cases of channels that are given by their words: compare, classical_blocks and the lookup.
+use channel::lookup::lookup;
+use replay::answers::check_part;
+use replay::calls::compare_call;
+use replay::calls::effects_call;
+use replay::numeral::read;
+use replay::record::Record;
+use replay::words::fitting;
+use replay::words::read_bytes;
+use replay::words::read_words;
+
+// Room for the words of a channel, for those of its effects, and for a store.
+const CHANNEL: usize = 1300;
+
+const EFFECTS: usize = 100;
+
+const STORE: usize = 65;
+
+// The three calls.
+fn called(
+    text: &[u8],
+    at: usize,
+    left: &[i64],
+    right: &[i64],
+    store: &[u8],
+    effects: &mut [i64],
+) -> Record {
+    let compared = compare_call(Record::begin(at), text, left, right);
+    let traced = effects_call(compared, text, left, effects);
+    check_part(traced, text, lookup(left, store))
+}
+
+// Left and right words, the length of the effects' buffer, the store to look for; the answers of the three calls.
+pub fn words_case(text: &[u8], at: usize) -> Record {
+    let mut left = [0i64; CHANNEL];
+    let mut right = [0i64; CHANNEL];
+    let mut effects = [0i64; EFFECTS];
+    let mut store = [0u8; STORE];
+    let l = read_words(text, at, &mut left);
+    let r = read_words(text, l.next, &mut right);
+    let length = read(text, r.next);
+    let bytes = read_bytes(text, length.next, &mut store);
+    let m = l.len;
+    let n = r.len;
+    let s = bytes.len;
+    let e = fitting(length.size, EFFECTS);
+    called(
+        text,
+        bytes.next,
+        &left[..m],
+        &right[..n],
+        &store[..s],
+        &mut effects[..e],
+    )
+}

@@ -1,0 +1,55 @@
+// Replays the recorded answers of calls that are given words: the scalar calls, the phase test, and compare, classical_blocks and the lookup of channels.
+// The text: how many cases there are, then the cases; a case is its kind, its source (0 the Rust, 1 document 01), what the calls are given, and what they
+// answered.
+mod channels;
+mod numbers;
+
+use crate::channels::words_case;
+use crate::numbers::phase_case;
+use crate::numbers::scalar_case;
+use replay::numeral::read;
+use replay::progress::Progress;
+use replay::progress::read_heading;
+use replay::record::Record;
+
+// Room for the text.
+const TEXT: usize = 220000;
+
+// A case of this kind, behind its heading.
+fn case(kind: u64, text: &[u8], at: usize) -> Record {
+    match kind {
+        0 => scalar_case(text, at),
+        1 => phase_case(text, at),
+        _ => words_case(text, at),
+    }
+}
+
+// One more case.
+fn turn(text: &[u8], progress: Progress) -> Progress {
+    let h = read_heading(text, progress.next());
+    let seen = case(h.kind, text, h.next);
+    progress.with(h, seen)
+}
+
+// All cases.
+fn replay_text(text: &[u8]) {
+    let count = read(text, 0);
+    let mut progress = Progress::begin(count.next);
+    let mut rest = count.size;
+    while 0 < rest {
+        rest -= 1;
+        progress = turn(text, progress);
+    }
+    progress.print();
+}
+
+// Reads the text, and replays it.
+fn replay_input(text: &mut [u8]) {
+    let n = io::read_full(0, text);
+    replay_text(&text[..n]);
+}
+
+fn main() {
+    let mut text = [0u8; TEXT];
+    replay_input(&mut text);
+}
