@@ -258,4 +258,5 @@ def main():
     print(f"seed {seed}: {len(lines)} cases, {of_rust} by the Rust, {len(lines) - of_rust} by document 01; by verdict {dict(sorted(verdicts.items()))}", file=sys.stderr)
 
 
-main()
+if __name__ == "__main__":
+    main()

@@ -133,8 +133,22 @@ def unitary_sizes(n):
     return 5 * d * d, 4 * (5 * d * d + 2)
 
 
-def channel_verdict(limits, n, bits, store, words, result, work):
-    """circuit_channel's ten questions: (number, index)."""
+def layer_faults(gs, ends):
+    """Questions 11 and 12: the ends of the layers, then each layer's gates, whose qubits and bits are gathered."""
+    if any(e <= last for last, e in zip([0, *ends], ends)) or (ends[-1] if ends else 0) != len(gs):
+        return (11, 0)
+    for start, end in zip([0, *ends], ends):
+        used = set()
+        for i in range(start, end):
+            mine = {("qubit", q) for q in qubits(gs[i])} | ({("bit", gs[i][2])} if gs[i][0] == MEASURE else set())
+            if used & mine:
+                return (12, i)
+            used |= mine
+    return None
+
+
+def channel_verdict(limits, n, bits, store, words, result, work, ends=None):
+    """circuit_channel's ten questions, and with `ends` layered_channel's: (number, index)."""
     if any(a > b for a, b in zip(limits, CEILINGS)):
         return (6, 0)
     if len(words) % 5:
@@ -142,7 +156,7 @@ def channel_verdict(limits, n, bits, store, words, result, work):
     gs = gates(words)
     if len(gs) > limits[3]:
         return (1, 0)
-    if fault := gate_faults(gs, n, bits, False):
+    if fault := gate_faults(gs, n, bits, False) or (layer_faults(gs, ends) if ends is not None else None):
         return fault
     if len(store) != bits or any(b > 1 for b in store):
         return (4, 0)

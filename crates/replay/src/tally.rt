@@ -67,7 +67,7 @@ impl Tally {
         io::write_all(STDOUT_FILENO, b"kind ");
         say(kind, b": ");
         say(self.of_rust, b" agree with the Rust, ");
-        say(self.of_document, b" with document 01, ");
+        say(self.of_document, b" with the documents, ");
         say(self.disagree, b" disagree; ");
         say(self.compared, b" numbers compared\n");
         if 0 < self.disagree {

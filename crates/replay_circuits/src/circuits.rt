@@ -1,9 +1,13 @@
-// Cases of one circuit: circuit_unitary, and circuit_channel with classical_blocks of its result.
+// Cases of one circuit: circuit_unitary, circuit_channel with classical_blocks of its result, and layered_channel.
 use crate::reading::Circuit;
+use crate::reading::ENDS;
 use crate::reading::GATES;
+use crate::reading::LAYERED;
 use crate::reading::STORE;
 use crate::reading::read_circuit;
+use crate::reading::read_ends;
 use judge::call::circuit_channel;
+use judge::call::layered_channel;
 use replay::answers::check_call;
 use replay::calls::effects_call;
 use replay::numeral::read;
@@ -20,18 +24,20 @@ const WORK: usize = 167000;
 
 const EFFECTS: usize = 2600;
 
-// The call of this kind: 2 circuit_unitary, else circuit_channel.
+// The call of this kind: 2 circuit_unitary, 7 layered_channel, else circuit_channel.
 fn asked(
     kind: u64,
     c: Circuit,
     store: &[u8],
     gates: &[u32],
+    ends: &[u32],
     result: &mut [i64],
     work: &mut [i64],
 ) -> Verdict {
     let limits = c.limits;
     match kind {
         2 => circuit_unitary(c.n, gates, limits, result, work),
+        7 => layered_channel(c.n, c.bits, store, gates, ends, limits, result, work),
         _ => circuit_channel(c.n, c.bits, store, gates, limits, result, work),
     }
 }
@@ -40,18 +46,21 @@ fn asked(
 fn called(kind: u64, text: &[u8], at: usize, result: &mut [i64], work: &mut [i64]) -> Record {
     let mut store = [0u8; STORE];
     let mut words = [0u32; GATES];
+    let mut ends = [0u32; ENDS];
     let c = read_circuit(text, at, &mut store, &mut words);
+    let layers = read_ends(kind, text, c.next, &mut ends);
     let s = c.stored;
     let g = c.gates;
+    let e = layers.len;
     mark(result);
     mark(work);
-    let v = asked(kind, c, &store[..s], &words[..g], result, work);
-    check_call(Record::begin(c.next), text, v, result, work)
+    let v = asked(kind, c, &store[..s], &words[..g], &ends[..e], result, work);
+    check_call(Record::begin(layers.next), text, v, result, work)
 }
 
-// The effects of a channel, in a buffer of this length; a unitary has none.
+// The effects of a channel, in a buffer of this length; of a unitary and of a layered circuit none are recorded.
 fn traced(kind: u64, seen: Record, text: &[u8], length: u64, channel: &[i64]) -> Record {
-    if kind == 2 {
+    if (kind == 2) | (kind == LAYERED) {
         return seen;
     }
     let mut effects = [0i64; EFFECTS];

@@ -1,5 +1,5 @@
-// Replays the recorded answers of calls that are given circuits: circuit_unitary, circuit_channel with the effects of its result, compare of two circuits'
-// channels, and the listing of a text. The text: how many cases there are, then the cases; a case is its kind, its source (0 the Rust, 1 document 01), what
+// Replays the recorded answers of calls that are given circuits: circuit_unitary, circuit_channel with the effects of its result, layered_channel, compare of
+// two circuits' channels, and the listing of a text. The text: how many cases there are, then the cases; a case is its kind, its source (0 the Rust, 1 document 01), what
 // the calls are given, and what they answered.
 mod circuits;
 mod compared;
@@ -9,13 +9,14 @@ mod reading;
 use crate::circuits::circuit_case;
 use crate::compared::compare_case;
 use crate::listings::listing_case;
+use libc::STDIN_FILENO;
 use replay::numeral::read;
 use replay::progress::Progress;
 use replay::progress::read_heading;
 use replay::record::Record;
 
 // Room for the text.
-const TEXT: usize = 480000;
+const TEXT: usize = 520000;
 
 // A case of this kind, behind its heading.
 fn case(kind: u64, text: &[u8], at: usize) -> Record {
@@ -47,7 +48,7 @@ fn replay_text(text: &[u8]) {
 
 // Reads the text, and replays it.
 fn replay_input(text: &mut [u8]) {
-    let n = io::read_full(0, text);
+    let n = io::read_full(STDIN_FILENO, text);
     replay_text(&text[..n]);
 }
 

@@ -2,6 +2,7 @@
 use circuit::limits::Limits;
 use replay::numeral::low;
 use replay::numeral::read;
+use replay::words::Part;
 use replay::words::read_bytes;
 use replay::words::read_u32s;
 ghost use Prim.Native.Nat.{_≤_};
@@ -11,6 +12,11 @@ ghost use lib.ListN.{length};
 pub const STORE: usize = 65;
 
 pub const GATES: usize = 5200;
+
+// Room for the ends of layers, and the kind of the cases that have some.
+pub const ENDS: usize = 1100;
+
+pub const LAYERED: u64 = 7;
 
 // Limits, and where the next number begins.
 struct Bounds {
@@ -74,4 +80,14 @@ pub fn read_circuit(text: &[u8], at: usize, store: &mut [u8], words: &mut [u32])
         gates: part.len,
         next: part.next,
     }
+}
+
+// The ends of a circuit's layers, if it has some.
+pub fn read_ends(kind: u64, text: &[u8], at: usize, ends: &mut [u32]) -> Part
+    ensures { λ r. ⌜ r .len ≤ length (now (ends .entry)) ⌝ }
+{
+    if kind == LAYERED {
+        return read_u32s(text, at, ends);
+    }
+    Part { len: 0, next: at }
 }

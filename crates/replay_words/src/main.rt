@@ -7,6 +7,7 @@ mod numbers;
 use crate::channels::words_case;
 use crate::numbers::phase_case;
 use crate::numbers::scalar_case;
+use libc::STDIN_FILENO;
 use replay::numeral::read;
 use replay::progress::Progress;
 use replay::progress::read_heading;
@@ -45,7 +46,7 @@ fn replay_text(text: &[u8]) {
 
 // Reads the text, and replays it.
 fn replay_input(text: &mut [u8]) {
-    let n = io::read_full(0, text);
+    let n = io::read_full(STDIN_FILENO, text);
     replay_text(&text[..n]);
 }
 

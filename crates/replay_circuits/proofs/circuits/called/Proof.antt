@@ -8,6 +8,7 @@ use Rattle.replay_circuits.proofs.circuits.called.Tie as tie
 pub called-spec : {M : Type 1} → statement M
 called-spec =
     tie.close
-    (tie.spec (λ c. search needs) (λ c. search needs) (λ c κs. search needs) (λ c κs. search needs) (λ c κs. search needs) (λ c. search needs) (λ c. sym (length-take-le _ _ (search needs)))
+    (tie.spec (λ c. search needs) (λ c. search needs) (λ c κs. search needs) (λ c. search needs) (λ c κs. search needs) (λ c κs. search needs) (λ c κs. search needs)
+    (λ c. search needs) (λ c. sym (length-take-le _ _ (search needs))) (λ c. search needs) (λ c. sym (length-take-le _ _ (search needs)))
     (λ c. search needs) (λ c. sym (length-take-le _ _ (search needs))) (λ c κs. search needs) (λ c κs. search needs) (λ c κs. search needs) (λ c. search needs) (λ c. search needs)
     (λ c. search needs))
