@@ -10,7 +10,7 @@ mod rust;
 mod semantics;
 mod symbolic_angle;
 
-use calls::kind::{CCX, CNOT, H, MEASURE, RESET, T, X};
+use calls::kind::{CCX, CH, CNOT, CSWAP, CY, CZ, H, MEASURE, RESET, S, SDG, SWAP, T, TDG, X, Y, Z};
 use calls::{ARCHIVE, CEILINGS, Calls, PLAIN};
 use rust::Words;
 use std::hint::black_box;
@@ -242,6 +242,82 @@ fn agreed(w: &Words, ends: Option<&[u32]>) -> (Vec<i64>, Vec<i64>) {
     (answers.swap_remove(0), vec![0; work_words])
 }
 
+// ---- texts
+
+const TEXTS: [&str; 3] = ["OpenQASM, 1,024 gates read", "OpenQASM, a megabyte of comments read", "OpenQASM, 1,024 gates written"];
+
+/// Gates of every kind that has a name, in turn, on 4 qubits and 4 bits: five words each.
+fn named_gates(count: u32) -> Vec<u32> {
+    let one = [X, Y, Z, H, S, SDG, T, TDG, RESET].map(|kind| (kind, 1));
+    let two = [CNOT, CZ, CY, CH, SWAP, MEASURE].map(|kind| (kind, 2));
+    let kinds = [&one[..], &two[..], &[(CCX, 3), (CSWAP, 3)]].concat();
+    let gate = |i: u32| {
+        let (kind, used) = kinds[i as usize % kinds.len()];
+        let word = |j: u32| if j < used { (i + j) % 4 } else { 0 };
+        [kind, word(0), word(1), word(2), 0]
+    };
+    (0..count).flat_map(gate).collect()
+}
+
+/// How many words were read.
+fn read_text(calls: &Calls, text: &[u8], gates: &mut [u32]) -> usize {
+    let (mut counts, mut words, mut position) = ([0; 2], 0, 0);
+    let reply = unsafe {
+        (calls.read_qasm)(text.as_ptr(), text.len(), gates.as_mut_ptr(), gates.len(), counts.as_mut_ptr(), &mut words, &mut position)
+    };
+    assert_eq!((reply, counts), (0, [4, 4]), "{}: refused at {position}", calls.name);
+    black_box(&gates);
+    words
+}
+
+/// How many bytes were written.
+fn write_text(calls: &Calls, gates: &[u32], out: &mut [u8]) -> usize {
+    let (mut bytes, mut index) = (0, 0);
+    let reply = unsafe { (calls.write_qasm)(4, 4, gates.as_ptr(), gates.len(), out.as_mut_ptr(), out.len(), &mut bytes, &mut index) };
+    assert_eq!(reply, 0, "{}: refused", calls.name);
+    black_box(&out);
+    bytes
+}
+
+/// The archive and plain C on a text of 1,024 gates and on one with a mebibyte of comments behind the declarations, after a check that both agree.
+fn texts(samples: usize, budget: Duration, only: Option<&str>) {
+    let gates = named_gates(1024);
+    let mut text = vec![0; 49 * 1024];
+    let size = write_text(&ARCHIVE, &gates, &mut text);
+    text.truncate(size);
+    let few = named_gates(17);
+    let mut long = vec![0; 49 * 17 + 76];
+    let size = write_text(&ARCHIVE, &few, &mut long);
+    long.truncate(size);
+    let at = long.windows(5).position(|w| w == b"creg ").unwrap();
+    let at = at + long[at..].iter().position(|b| *b == b'\n').unwrap() + 1;
+    let comment = [b"// ".as_slice(), &[b'x'; 60], b"\n"].concat();
+    long.splice(at..at, comment.repeat((1 << 20) / comment.len()));
+    for (given, want) in [(&text, &gates), (&long, &few)] {
+        for calls in [&ARCHIVE, &PLAIN] {
+            let mut back = vec![7; want.len()];
+            assert_eq!(read_text(calls, given, &mut back), want.len());
+            assert!(back == *want, "{}: the words are not read back", calls.name);
+        }
+    }
+    let mut other = vec![0; text.len()];
+    write_text(&PLAIN, &gates, &mut other);
+    assert!(text == other, "the archive and plain C write other texts");
+    println!("\nTexts of OpenQASM 2, with no bar; plain C goes over a comment by memchr.\n");
+    println!("| text | bytes | archive | plain C | archive, MB a second | plain C, MB a second | archive ÷ plain C |\n|---|---|---|---|---|---|---|");
+    for (i, name) in TEXTS.iter().enumerate().filter(|(_, n)| only.is_none_or(|o| n.contains(o))) {
+        let given = if i == 1 { &long } else { &text };
+        let (mut a, mut b, mut c, mut d) = (gates.clone(), gates.clone(), text.clone(), text.clone());
+        let t = if i < 2 {
+            medians(samples, budget, &mut [&mut || { read_text(&ARCHIVE, given, &mut a); }, &mut || { read_text(&PLAIN, given, &mut b); }])
+        } else {
+            medians(samples, budget, &mut [&mut || { write_text(&ARCHIVE, &gates, &mut c); }, &mut || { write_text(&PLAIN, &gates, &mut d); }])
+        };
+        let rate = |ns: f64| given.len() as f64 * 1e3 / ns;
+        println!("| {name} | {} | {} | {} | {:.0} | {:.0} | {:.2} |", given.len(), show(t[0]), show(t[1]), rate(t[0]), rate(t[1]), t[0] / t[1]);
+    }
+}
+
 fn main() {
     let quick = asked("--quick");
     let only = std::env::args().skip(1).find(|a| !a.starts_with("--"));
@@ -251,7 +327,7 @@ fn main() {
     // 1,024 gates on different qubits: kind, qubits of a gate
     let full = [("1,024 x in one layer, refused", X, 1), ("1,024 ccx in one layer, refused", CCX, 3)];
     if let Some(o) = &only {
-        if !rows().iter().map(|r| r.family).chain(names).chain(full.map(|f| f.0)).any(|n| n.contains(o.as_str())) {
+        if !rows().iter().map(|r| r.family).chain(names).chain(TEXTS).chain(full.map(|f| f.0)).any(|n| n.contains(o.as_str())) {
             eprintln!("no circuit's name has the words {o:?}");
             std::process::exit(2);
         }
@@ -342,6 +418,9 @@ fn main() {
                 misses.push(format!("{family}: from n = {} to {} the time grows {time:.2} times as fast as d^4·V", p[0].0, p[1].0));
             }
         }
+    }
+    if only.as_ref().is_none_or(|o| TEXTS.iter().any(|n| n.contains(o.as_str()))) {
+        texts(samples, budget, only.as_deref());
     }
     let (who, how) = (if asked("--no-rust") { "the archive" } else { "the Rust, the archive" }, if asked("--minimum") { "Minima" } else { "Medians" });
     println!("\nEvery word of every row agrees between {who} and plain C. {how}{}.", if quick { " of few repeats" } else { " of repeats" });

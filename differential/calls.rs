@@ -19,14 +19,23 @@ macro_rules! calls {
 pub mod kind {
     pub const H: u32 = 0;
     pub const X: u32 = 1;
+    pub const Z: u32 = 2;
+    pub const S: u32 = 3;
+    pub const SDG: u32 = 4;
     pub const T: u32 = 5;
+    pub const TDG: u32 = 6;
     pub const RZ: u32 = 7;
     pub const CNOT: u32 = 8;
+    pub const CZ: u32 = 9;
     pub const CCX: u32 = 10;
     pub const MEASURE: u32 = 12;
     pub const RESET: u32 = 13;
+    pub const Y: u32 = 15;
     pub const SX: u32 = 16;
+    pub const SWAP: u32 = 19;
+    pub const CY: u32 = 20;
     pub const CH: u32 = 25;
+    pub const CSWAP: u32 = 26;
 }
 
 calls! {
@@ -51,6 +60,12 @@ calls! {
     equivalent_up_to_global_phase(left_dim: usize, left: *const i64, left_words: usize, right_dim: usize, right: *const i64,
         right_words: usize) -> u32,
         foreituka_equivalent_up_to_global_phase, plain_equivalent_up_to_global_phase;
+    read_qasm(text: *const u8, text_bytes: usize, gates: *mut u32, gate_words: usize, counts: *mut u32, words: *mut usize,
+        position: *mut usize) -> u32,
+        foreituka_read_qasm, plain_read_qasm;
+    write_qasm(qubits: u32, bits: u32, gates: *const u32, gate_words: usize, out: *mut u8, out_bytes: usize, bytes: *mut usize,
+        index: *mut u64) -> u32,
+        foreituka_write_qasm, plain_write_qasm;
     scalar_integer(n: i64, out: *mut i64) -> u32, foreituka_scalar_integer, plain_scalar_integer;
     scalar_zero(out: *mut i64) -> u32, foreituka_scalar_zero, plain_scalar_zero;
     scalar_i(out: *mut i64) -> u32, foreituka_scalar_i, plain_scalar_i;

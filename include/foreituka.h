@@ -5,13 +5,13 @@
  * word of every layout, docs/CONTRACTS.md what each call promises.
  *
  * What the caller owes, since C cannot say it in a type: each pointer is aligned and reaches as many elements as the length behind it says,
- * as the array in its declaration has, or one (index); a pointer with length 0 may be NULL, and no other; what a call writes (pointers without
- * const) overlaps nothing else that it is given; nobody else writes to any of it during the call. Nothing is owed beyond that: contents that
- * make no sense are refused.
+ * as the array in its declaration has, or one (index, words, position, bytes); a pointer with length 0 may be NULL, and no other; what a call
+ * writes (pointers without const) overlaps nothing else that it is given; nobody else writes to any of it during the call. Nothing is owed
+ * beyond that: contents that make no sense are refused.
  *
- * Out parameters are index, place, scalars and out. They must be writable, and every call writes all of them, whatever its reply: index is 0
- * where the reply names no gate, and place, scalars and out are all zero where there is nothing to say. result and work are other: a refusal
- * changes no word of theirs.
+ * Out parameters are index, place, scalars, counts, words, position, bytes and, of the scalar calls, out. They must be writable, and every call
+ * writes all of them, whatever its reply: index is 0 where the reply names no gate, and the others are all zero where there is nothing to say.
+ * result and work, read_qasm's gates and write_qasm's out are other: a refusal changes nothing of theirs.
  *
  * Threads: nothing is shared between calls, and the archive has no data that a call writes. Calls on different buffers may run at once; what
  * is only read (const) may be the same in all of them.
@@ -46,11 +46,14 @@ enum {
     FOREITUKA_GATES = 5,            /* a malformed gate; its index is given. Or a length that is no multiple of 5; index 0 */
     FOREITUKA_CEILING = 6,          /* a limit is above its ceiling */
     FOREITUKA_WEIGHT = 7,           /* h, ch and sx number more than 48 */
-    FOREITUKA_SHORT = 8,            /* too few words for the result or the work */
+    FOREITUKA_SHORT = 8,            /* too few words for the result or the work; too few words for gates or bytes for a text */
     FOREITUKA_LARGE = 9,            /* a number too large: a result out of range, an operand that is not narrow */
     FOREITUKA_MALFORMED = 10,       /* a scalar, matrix or channel that is none */
     FOREITUKA_LAYERS = 11,          /* the ends of layers do not rise strictly from at least 1, or do not close at the gate count */
     FOREITUKA_CLASH = 12,           /* two gates of one layer share a qubit or a bit; the lowest index of such a later gate is given */
+    FOREITUKA_TEXT = 13,            /* a text of another form than read_qasm's, or a number above 4,294,967,295; its position is given */
+    FOREITUKA_NAME = 14,            /* another word where a gate's name or a register is due; its position is given. Or, from write_qasm, a gate
+                                       whose kind has no name; its index is given */
     FOREITUKA_SAME = 100,           /* compare: no entry differs */
     FOREITUKA_DIMENSIONS = 101,     /* compare: dimensions or bit counts differ */
     FOREITUKA_ENTRY = 102,          /* compare: an entry differs; place and scalars say which */
@@ -114,6 +117,9 @@ enum {
 #define FOREITUKA_UNITARY_WORK_WORDS(n) (4 * (FOREITUKA_MATRIX_WORDS(n) + 2))
 #define FOREITUKA_EFFECTS_WORDS(n, blocks) (4 + (size_t)(blocks) * (3 + FOREITUKA_MATRIX_WORDS(n)))
 
+/* bytes: enough for the text of so many gates */
+#define FOREITUKA_TEXT_BYTES(gates) (76 + 49 * (size_t)(gates))
+
 /* The channel of a circuit of `qubits` qubits and `bits` classical bits that start as `store` (a byte for each, 0 or 1), or the refusal of
  * the first question that fails (docs/FORMATS.md has the questions). result: FOREITUKA_CHANNEL_WORDS words or more; words behind the last
  * block's record are kept. work: FOREITUKA_CHANNEL_WORK_WORDS or more; accepted, so many are zero, the rest is kept. index: the gate's where
@@ -157,6 +163,20 @@ size_t foreituka_lookup(const int64_t *channel, size_t channel_words, const uint
  * narrow), 10, 103, 104. */
 uint32_t foreituka_equivalent_up_to_global_phase(size_t left_dim, const int64_t *left, size_t left_words, size_t right_dim,
                                                  const int64_t *right, size_t right_words);
+
+/* The circuit in a text of OpenQASM 2: the header OPENQASM 2.0; after blanks, the include of qelib1.inc, one qreg, at most one creg, then gates
+ * on indexed operands: x, y, z, h, s, sdg, t, tdg, cx, cz, cy, ch, swap, ccx, cswap, measure, reset. counts are the sizes of the two registers,
+ * gates gets five words a gate, words says how many; operands are not held against the sizes. The earliest fault decides, and position is how
+ * many bytes stand before it; gates is asked for room last. counts, words and position are 0 where the reply says nothing of them.
+ * Replies: 0, 8, 13, 14. */
+uint32_t foreituka_read_qasm(const uint8_t *text, size_t text_bytes, uint32_t *gates, size_t gate_words, uint32_t counts[2], size_t *words,
+                             size_t *position);
+
+/* The text of a circuit, a gate a line, with registers q and c, which read_qasm reads back to the same counts and words. out:
+ * FOREITUKA_TEXT_BYTES bytes or more always suffice; bytes says how many were written, and those behind them are kept. All gates are asked
+ * for their form (5), then for the name of their kind (14), and then out for room (8). Replies: 0, 5, 8, 14. */
+uint32_t foreituka_write_qasm(uint32_t qubits, uint32_t bits, const uint32_t *gates, size_t gate_words, uint8_t *out, size_t out_bytes,
+                              size_t *bytes, uint64_t *index);
 
 /* Scalars, exact. out is zero where the reply is not 0. integer: 0 or 9. zero, i, inv_sqrt_two (√2/2), omega (((1 + i)/√2)^(k mod 8)): 0. neg and
  * conj: 0 or 10. half and add: 0, 9 or 10. mul, of narrow scalars: 0, 9 or 10. */

@@ -1,7 +1,7 @@
 """What the replay of a text prints where every answer agrees: for each kind its cases by source, and how many recorded numbers there are to compare.
 
 Reads the text by the form of its cases, as the scripts' heads say, and knows nothing of the program: what a case is given is passed over, and the rest of its
-line is its record. (A case of `list` has its record behind its text: the answer's length, and its bytes, each of which counts as a number.)
+line is its record. (A case of `list` has its record behind its text: the answer's length, and its bytes, each of which counts as a number; so have texts that are read and written.)
 """
 import sys
 
@@ -30,8 +30,9 @@ RECORD = {
     3: lambda given: circuit(given[3:]),
     4: lambda given: circuit(circuit(given)),
     5: lambda given: counted(words(words(given))[1:]),
+    7: lambda given: counted(circuit(given[3:])),
 }
-LISTING = 6
+LISTING, READ, WRITTEN = 6, 8, 9
 
 
 def main():
@@ -45,11 +46,18 @@ def main():
             answer = int(text.readline())
             text.read(answer)
             counts[2] += 1 + answer
+        elif kind == READ:
+            text.read(given[0] + 1)
+            counts[2] += len(text.readline().split()) - 1
+        elif kind == WRITTEN:
+            answer = counted(given[2:])[1:]
+            text.read(answer[2])
+            counts[2] += 3 + answer[2]
         else:
             counts[2] += len(RECORD[kind](given))
     assert not text.read()
     for kind, (rust, document, compared) in kinds.items():
-        print(f"kind {kind}: {rust} agree with the Rust, {document} with document 01, 0 disagree; {compared} numbers compared")
+        print(f"kind {kind}: {rust} agree with the Rust, {document} with the documents, 0 disagree; {compared} numbers compared")
 
 
 main()

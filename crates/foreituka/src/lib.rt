@@ -3,3 +3,4 @@ pub mod channels;
 pub mod circuits;
 pub mod matrices;
 pub mod scalars;
+pub mod texts;

@@ -4,11 +4,9 @@ use mathlib.Core.Bool.{Bool, true, false, cond}
 use mathlib.Core.List.{List, [], _∷_, _++_}
 use Prim.Native.Nat.{ℕ, zero, suc, _+_, _*_, _/_, _%_, _≤_}
 use native.Mathlib.Nat.{le-refl, le-trans, suc-mul}
-use native.Mathlib.Numerals.{add-one}
 use native.Mathlib.Omega.{arith}
-use lib.Dec.{ltb}
-use lib.ListN.{length, drop, set, length-set, length-append, length-map}
-use lib.Seq.{sets, sets-eq}
+use lib.ListN.{length, drop, length-append, length-map}
+use lib.Seq.{sets-eq}
 use lib.IntN.{ℤ, pos, negsuc, natAbs}
 use Rattle.algebra.specs.Lists.{concatMap}
 use Rattle.exact.specs.Exact.{Exact, isZero}
@@ -22,19 +20,10 @@ use Rattle.text.specs.Decimal.{digits, decimal, signed}
 use Rattle.text.specs.Page.{page, write}
 use Rattle.listing.specs.Listing.{newline, spaced, firstLine, storeBits, entryLine, entryLines, blockLines, listing}
 use Rattle.listing.specs.Claims.{Whole, Short, ShortRefusal, maxListing}
-use Rattle.text.proofs.Put.{put-in}
+use Rattle.text.proofs.Put.{write-from}
 use Rattle.text.proofs.RoundTrip.{digits-most}
 
 -- ---- enough room
-write-from : (bs l : List ℕ) (at : ℕ) → at + length bs ≤ length l → write (page l at) bs ≡ page (sets l at bs) (at + length bs)
-unfolding write
-write-from [] l at h = let e : at ≡ at + 0 = omega arith in ap (page l) e
-write-from (b ∷ bs) l at h =
-    let e : at + 1 + length bs ≡ at + suc (length bs) = omega arith in
-    ap (λ p. write p bs) (sym (put-in l at b (omega arith) .is))
-    ∙ write-from bs (set l at b) (at + 1) (omega (arith, length-set l at b))
-    ∙ (λ i. page (sets (set l at b) (add-one at i) bs) (e i))
-
 pub whole : Whole
 whole bs l h =
     let n : 0 + length bs ≡ length bs = omega arith in

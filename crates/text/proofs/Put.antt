@@ -2,10 +2,12 @@
 use mathlib.Core.Path.{_≡_, refl, sym, ap, _∙_, subst}
 use mathlib.Core.Bool.{Bool, true, false, cond}
 use mathlib.Core.List.{List, [], _∷_, _++_, foldl-append}
-use Prim.Native.Nat.{ℕ, _+_, _<_, _≤_}
+use Prim.Native.Nat.{ℕ, suc, _+_, _<_, _≤_}
+use native.Mathlib.Numerals.{add-one}
 use native.Mathlib.Omega.{arith}
 use lib.Dec.{ltb}
 use lib.ListN.{length, set, length-set}
+use lib.Seq.{sets}
 use borrow.Author.Tests.{lt-ltb, le-ltb, ltb-true}
 use Rattle.text.specs.Page.{Page, page, put, write}
 use Rattle.text.specs.Inner.Written.{Written}
@@ -66,6 +68,16 @@ write-inside p (b ∷ bs) h = write-inside (put p b) bs (put-inside p b h)
 
 pub inside : (o bs : List ℕ) {q : List ℕ} {n : ℕ} → page q n ≡ write (page o 0) bs → n ≤ length q
 inside o bs e = subst (λ (p : Page). p .at ≤ length (p .room)) (sym e) (write-inside (page o 0) bs (omega arith))
+
+-- a text for which there is room is written whole
+pub write-from : (bs l : List ℕ) (at : ℕ) → at + length bs ≤ length l → write (page l at) bs ≡ page (sets l at bs) (at + length bs)
+unfolding write
+write-from [] l at h = let e : at ≡ at + 0 = omega arith in ap (page l) e
+write-from (b ∷ bs) l at h =
+    let e : at + 1 + length bs ≡ at + suc (length bs) = omega arith in
+    ap (λ p. write p bs) (sym (put-in l at b (omega arith) .is))
+    ∙ write-from bs (set l at b) (at + 1) (omega (arith, length-set l at b))
+    ∙ (λ i. page (sets (set l at b) (add-one at i) bs) (e i))
 
 -- q is p after a part of zs, of which ys is left
 pub record Left (p : Page) (zs : List ℕ) (q : Page) (ys : List ℕ) : Type 0 where

@@ -1,0 +1,17 @@
+pub mod Lexing
+pub mod Gaps
+pub mod Gates
+pub mod Lines
+pub mod RoundTrip
+pub mod Sound
+pub mod Length
+pub mod Same
+pub mod Scanning
+pub mod Table
+pub mod Due
+pub mod Kept
+pub mod Moves
+pub mod Openings
+pub mod Going
+pub mod Answer
+pub mod Examples

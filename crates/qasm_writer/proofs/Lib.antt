@@ -1,0 +1,5 @@
+pub mod Lines
+pub mod Asked
+pub mod Lengths
+pub mod Back
+pub mod Examples

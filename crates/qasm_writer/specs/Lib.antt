@@ -1,0 +1,4 @@
+pub mod Call
+pub mod Claims
+pub mod Inner
+pub mod Examples
