@@ -1,12 +1,13 @@
 /*
  * A judge in a control rack: static buffers, no heap. A compiler pass has rewritten the circuit that a lab sent; before the rack runs the
  * new one, it asks whether both do the same, and prints the first difference if not. The rack fires gates in layers: a circuit may come with
- * the ends of its layers, none of which uses a qubit or a classical bit twice.
+ * the ends of its layers, none of which uses a qubit or a classical bit twice. Or it comes as a text in OpenQASM 2.
  */
 #include "foreituka.h"
 
 #include <inttypes.h>
 #include <stdio.h>
+#include <string.h>
 
 enum { QUBITS = 2, BITS = 2, SPLITS = 2 };
 
@@ -74,6 +75,11 @@ static const circuit rewritten[] = {
     LAYERED("crowded", scheduled, crowded),
     LAYERED("open-ended", scheduled, open_ended),
 };
+#define TOP "OPENQASM 2.0;\ninclude \"qelib1.inc\";\nqreg q[2];\ncreg c[2];\n"
+/* the schedule as a compiler prints it, and a text with a gate that is none of those that are read */
+static const char printed[] = TOP "x q[1];\nh q[0];\nt q[0];\nh q[0];\ncx q[0],q[1];\nmeasure q[1] -> c[1];\nmeasure q[0] -> c[0]; // done\n";
+static const char unknown[] = TOP "x q[1];\nu q[0];\n";
+
 static const uint8_t store[BITS] = {0, 0};
 static const uint64_t limits[6] = FOREITUKA_DEFAULT_LIMITS;
 
@@ -131,6 +137,30 @@ static uint32_t check(const circuit *c) {
     return verdict;
 }
 
+/* a circuit that comes as a text */
+static uint32_t check_text(const char *name, const char *text) {
+    static uint32_t gates[5 * 16];
+    uint32_t counts[2];
+    size_t words, position;
+    uint32_t verdict = foreituka_read_qasm((const uint8_t *)text, strlen(text), gates, COUNT(gates), counts, &words, &position);
+    if (verdict != FOREITUKA_ACCEPTED || counts[0] != QUBITS || counts[1] != BITS) {
+        printf("%s: refused %" PRIu32 " at byte %zu, %" PRIu32 " qubits and %" PRIu32 " bits\n", name, verdict, position, counts[0], counts[1]);
+        return verdict;
+    }
+    circuit c = {name, gates, words, NULL, 0};
+    return check(&c);
+}
+
+/* the circuit that was sent, as a text */
+static uint32_t write_text(const circuit *c) {
+    static uint8_t text[FOREITUKA_TEXT_BYTES(16)];
+    uint64_t index;
+    size_t bytes;
+    uint32_t verdict = foreituka_write_qasm(QUBITS, BITS, c->gates, c->words, text, sizeof text, &bytes, &index);
+    printf("%s, as a text:\n%.*s", c->name, (int)bytes, (const char *)text);
+    return verdict;
+}
+
 int main(void) {
     static char line[256];
     static const uint32_t expected[] = {FOREITUKA_SAME, FOREITUKA_ENTRY, FOREITUKA_OPERAND, FOREITUKA_SAME, FOREITUKA_CLASH, FOREITUKA_LAYERS};
@@ -139,5 +169,8 @@ int main(void) {
     setvbuf(stdout, line, _IOLBF, sizeof line); /* else stdio would take a buffer from the heap */
     if (judge(&original, left, &index) != FOREITUKA_ACCEPTED) return 1;
     for (size_t i = 0; i < COUNT(rewritten); i++) wrong |= check(&rewritten[i]) != expected[i];
+    wrong |= check_text("printed", printed) != FOREITUKA_SAME;
+    wrong |= check_text("unknown", unknown) != FOREITUKA_NAME;
+    wrong |= write_text(&original) != FOREITUKA_ACCEPTED;
     return wrong;
 }
