@@ -10,7 +10,7 @@ use lib.ListN.{length, set, length-append}
 use borrow.Author.Tests.{leb-true, eqb-true}
 use Rattle.algebra.specs.Lists.{All, concatMap}
 use Rattle.algebra.proofs.Tests.{and-split}
-use Rattle.gate.specs.Gate.{gate, formed}
+use Rattle.gate.specs.Gate.{gate, measure, reset, formed}
 use Rattle.verdict.specs.declared.Verdict.the-variants.{BadText}
 use Rattle.text.specs.Ascii.{ascii}
 use Rattle.text.specs.Decimal.{isDigit, value, maxNumber, decimal}
@@ -209,9 +209,9 @@ module _ (n m : ℕ) where
                               (
                                 (λ a b c k h f ws rest at R q. gate-three 26 a b c k h f ws rest _ R q),
                                 (
-                                  (λ a b c k h f ws rest at R q. gate-measured 12 a b c k h f ws rest _ R q),
+                                  (λ a b c k h f ws rest at R q. gate-measured measure a b c k h f ws rest _ R q),
                                   (
-                                    (λ a b c k h f ws rest at R q. gate-one 13 a b c k h f ws rest _ R q),
+                                    (λ a b c k h f ws rest at R q. gate-one reset a b c k h f ws rest _ R q),
                                     tt,
                                   ),
                                 ),

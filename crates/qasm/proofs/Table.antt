@@ -13,13 +13,14 @@ use borrow.Author.Tests.{leb-true}
 use Rattle.algebra.specs.Lists.{All}
 use Rattle.algebra.proofs.Lists.{all-getD}
 use Rattle.algebra.proofs.Tests.{exhaust, equal1, holds-true}
+use Rattle.gate.specs.Gate.{measure, reset}
 use Rattle.qasm.specs.Tokens.{same}
 use Rattle.qasm.specs.Inner.Places.{entryCount, entryAt, namesBytes, nameLengths, indexOf, dueAt, gatePlace, placeCount, Placed}
 use Rattle.qasm.proofs.Same.{same-true}
 
 -- ---- what the code has
 abbrev kinds : List ℕ
-kinds = 1 ∷ 15 ∷ 2 ∷ 0 ∷ 3 ∷ 4 ∷ 5 ∷ 6 ∷ 8 ∷ 9 ∷ 20 ∷ 25 ∷ 19 ∷ 10 ∷ 26 ∷ 12 ∷ 13 ∷ []
+kinds = 1 ∷ 15 ∷ 2 ∷ 0 ∷ 3 ∷ 4 ∷ 5 ∷ 6 ∷ 8 ∷ 9 ∷ 20 ∷ 25 ∷ 19 ∷ 10 ∷ 26 ∷ measure ∷ reset ∷ []
 
 abbrev places : List ℕ
 places = 54 ∷ 54 ∷ 54 ∷ 54 ∷ 54 ∷ 54 ∷ 54 ∷ 54 ∷ 32 ∷ 32 ∷ 32 ∷ 32 ∷ 32 ∷ 16 ∷ 16 ∷ 43 ∷ 54 ∷ []

@@ -2,6 +2,7 @@
 use mathlib.Core.List.{List, [], _∷_}
 use Prim.Native.Nat.{ℕ}
 use Prim.Native.String.{String}
+use Rattle.gate.specs.Gate.{measure, reset}
 use Rattle.text.specs.Ascii.{ascii}
 use Rattle.qasm.specs.Tokens.{arrow, library}
 
@@ -56,4 +57,4 @@ table =
     entry "x" 1 one ∷ entry "y" 15 one ∷ entry "z" 2 one ∷ entry "h" 0 one
     ∷ entry "s" 3 one ∷ entry "sdg" 4 one ∷ entry "t" 5 one ∷ entry "tdg" 6 one
     ∷ entry "cx" 8 two ∷ entry "cz" 9 two ∷ entry "cy" 20 two ∷ entry "ch" 25 two ∷ entry "swap" 19 two
-    ∷ entry "ccx" 10 three ∷ entry "cswap" 26 three ∷ entry "measure" 12 measured ∷ entry "reset" 13 one ∷ []
+    ∷ entry "ccx" 10 three ∷ entry "cswap" 26 three ∷ entry "measure" measure measured ∷ entry "reset" reset one ∷ []

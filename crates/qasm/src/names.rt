@@ -4,6 +4,10 @@ use super::pieces::MEASURED;
 use super::pieces::ONE;
 use super::pieces::THREE;
 use super::pieces::TWO;
+use gate::CSWAP;
+use gate::MEASURE;
+use gate::RESET;
+use gate::SWAP;
 ghost use mathlib.Core.Path.{_≡_};
 ghost use Prim.Native.Nat.{_<_};
 ghost use Rattle.qasm.specs.Forms.{Entry, table};
@@ -21,7 +25,25 @@ const NAMES: [u8; 136] =
 
 const LENGTHS: [u8; ENTRIES] = [1, 1, 1, 1, 1, 3, 1, 3, 2, 2, 2, 2, 4, 3, 5, 7, 5];
 
-const KINDS: [u32; ENTRIES] = [1, 15, 2, 0, 3, 4, 5, 6, 8, 9, 20, 25, 19, 10, 26, 12, 13];
+const KINDS: [u32; ENTRIES] = [
+    1,
+    15,
+    2,
+    0,
+    3,
+    4,
+    5,
+    6,
+    8,
+    9,
+    20,
+    25,
+    SWAP,
+    10,
+    CSWAP,
+    MEASURE,
+    RESET,
+];
 
 // Where the pieces that follow a name begin.
 const PLACES: [usize; ENTRIES] = [

@@ -10,7 +10,7 @@ use borrow.Author.Tests.{leb-true, eqb-true, ne-eqb, le-leb}
 use Rattle.algebra.specs.Lists.{All, filterBy, concatMap}
 use Rattle.algebra.proofs.Lists.{filter-all, filter-true, every-all}
 use Rattle.algebra.proofs.Tests.{and-split, holds-true, exhaust}
-use Rattle.gate.specs.Gate.{Gate, gate, lastKind, measure, arity}
+use Rattle.gate.specs.Gate.{Gate, gate, lastKind, measure, reset, arity}
 use Rattle.text.specs.Ascii.{ascii}
 use Rattle.qasm_writer.specs.declared.printer.Span.{Span}
 use Rattle.qasm.specs.Tokens.{same}
@@ -129,7 +129,7 @@ parts-all = (
                             three-parts (ascii "ccx") 10,
                             (
                               three-parts (ascii "cswap") 26,
-                              (measured-parts (ascii "measure") 12, (one-parts (ascii "reset") 13, tt)),
+                              (measured-parts (ascii "measure") measure, (one-parts (ascii "reset") reset, tt)),
                             ),
                           ),
                         ),
