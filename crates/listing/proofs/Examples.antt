@@ -2,7 +2,8 @@
 use mathlib.Core.Path.{refl}
 use Rattle.algebra.specs.Words.{blocks, joined}
 use Rattle.store.specs.Store.{before}
-use Rattle.listing.specs.Listing.{storeBits, entryLines}
+use Rattle.answers.specs.States.{storeBits}
+use Rattle.listing.specs.Listing.{entryLines}
 use Rattle.text.specs.Decimal.{value, isNumber, digits}
 use Rattle.circuit_text.specs.Text.{bodyLength, pieces}
 use Rattle.circuit_text.specs.Input.{isInput, isInputText}

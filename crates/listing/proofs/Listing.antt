@@ -1,7 +1,7 @@
 -- Laws of the listing's lines.
-use mathlib.Core.Path.{_≡_, refl, sym, ap, _∙_}
+use mathlib.Core.Path.{_≡_, refl, sym, ap}
 use mathlib.Core.Bool.{Bool, true, false, cond, _&&_}
-use mathlib.Core.List.{List, [], _∷_, _++_, map}
+use mathlib.Core.List.{List, [], _∷_, _++_}
 use Prim.Native.Nat.{ℕ, zero, suc, _+_, _*_, _-_, _/_, _%_, _^_, _<_, _≤_}
 use native.Mathlib.Numerals.{add-one}
 use native.Mathlib.Omega.{arith}
@@ -18,7 +18,7 @@ use Rattle.algebra.proofs.Signed.{reads}
 use Rattle.exact.specs.Exact.{Exact, isZero}
 use Rattle.cells.specs.Cells.{cellWords}
 use Rattle.algebra.proofs.Tests.{and-split}
-use Rattle.store.specs.Store.{maxWord, bits}
+use Rattle.store.specs.Store.{maxWord}
 use Rattle.channel.specs.Layout.{headerSize, recordSize, side, word, storeAt, chain, dimAt, bitsAt, readBack, blockAt}
 use Rattle.channel.specs.WellFormed.{storeOk, rises, entriesOk, isDim, headerOk, chained, wellFormed}
 use Rattle.channel.specs.Inner.Shapes.{Onward}
@@ -27,27 +27,8 @@ use Rattle.channel.proofs.Chain.{on-record}
 use Rattle.text.specs.Decimal.{decimal}
 use Rattle.text.specs.Page.{Page}
 use Rattle.text.specs.Inner.Written.{Written}
-use Rattle.listing.specs.Listing.{newline, spaced, storeBits, entryLine, entryLines, listing, listingOf}
+use Rattle.listing.specs.Listing.{newline, spaced, entryLine, entryLines, listing, listingOf}
 use Rattle.text.proofs.Put.{text}
-
--- ---- bits
-abbrev pub bitBytes : ℕ → ℕ → List ℕ
-bitBytes m s = map (λ (b : ℕ). 48 + b) (bits m s)
-
-pub bits-none : (m s : ℕ) → m ≡ 0 → 45 ∷ [] ≡ storeBits m s
-unfolding storeBits
-bits-none m s e = ap (λ (k : ℕ). storeBits k s) (sym e)
-
-pub bits-some : (m s : ℕ) → (m ≡ 0 → ⊥) → bitBytes m s ≡ storeBits m s
-unfolding storeBits
-bits-some zero s e = absurd (e refl)
-bits-some (suc m) s e = refl
-
-pub bits-more : (m s : ℕ) → 0 < m → bitBytes m s ≡ (48 + s % 2) ∷ bitBytes (m - 1) (s / 2)
-bits-more m s h = let e : m ≡ suc (m - 1) = omega arith in ap (λ (k : ℕ). bitBytes k s) e
-
-pub bits-end : (m s : ℕ) → m ≤ 0 → bitBytes m s ≡ []
-bits-end m s h = let e : m ≡ 0 = omega arith in ap (λ (k : ℕ). bitBytes k s) e
 
 -- ---- entries
 -- a word, as it is read

@@ -12,13 +12,14 @@ use Rattle.algebra.specs.Lists.{concatMap}
 use Rattle.exact.specs.Exact.{Exact, isZero}
 use Rattle.cells.specs.Cells.{cellWords}
 use Rattle.store.specs.Store.{bits}
+use Rattle.answers.specs.States.{storeBits}
 use Rattle.channel.specs.Layout.{Block, recordSize, side, word, dimAt, bitsAt, countAt, chain, blockAt}
 use Rattle.channel.specs.WellFormed.{wellFormed}
 use Rattle.channel.proofs.Judging.{formed}
 use Rattle.text.specs.Ascii.{ascii}
 use Rattle.text.specs.Decimal.{digits, decimal, signed}
 use Rattle.text.specs.Page.{page, write}
-use Rattle.listing.specs.Listing.{newline, spaced, firstLine, storeBits, entryLine, entryLines, blockLines, listing}
+use Rattle.listing.specs.Listing.{newline, spaced, firstLine, entryLine, entryLines, blockLines, listing}
 use Rattle.listing.specs.Claims.{Whole, Short, ShortRefusal, maxListing}
 use Rattle.text.proofs.Put.{write-from}
 use Rattle.text.proofs.RoundTrip.{digits-most}

@@ -1,13 +1,12 @@
 -- The listing of a channel, and the line of a refusal.
 use mathlib.Core.Bool.{cond}
-use mathlib.Core.List.{List, [], _∷_, _++_, map}
-use Prim.Native.Char.{code}
+use mathlib.Core.List.{List, [], _∷_, _++_}
 use Prim.Native.Nat.{ℕ, zero, suc, _+_, _*_, _/_, _%_}
 use lib.IntN.{ℤ, pos}
 use Rattle.algebra.specs.Lists.{concatMap}
 use Rattle.exact.specs.Exact.{Exact, isZero}
 use Rattle.cells.specs.Cells.{cellWords}
-use Rattle.store.specs.Store.{bits}
+use Rattle.answers.specs.States.{storeBits}
 use Rattle.channel.specs.Layout.{Block, side, dimAt, bitsAt, countAt, readBack}
 use Rattle.channel.specs.WellFormed.{wellFormed}
 use Rattle.text.specs.Ascii.{ascii}
@@ -22,11 +21,6 @@ spaced z = ascii " " ++ signed z
 
 abbrev pub firstLine : ℕ → ℕ → ℕ → List ℕ
 firstLine d m n = ascii "dim" ++ spaced (pos d) ++ ascii " cbits" ++ spaced (pos m) ++ ascii " blocks" ++ spaced (pos n) ++ newline
-
--- the bits of a store from bit 0 on, or "-" where there are none
-unfoldable pub storeBits : ℕ → ℕ → List ℕ
-storeBits zero s = ascii "-"
-storeBits (suc m) s = map (λ b. code "0" + b) (bits (suc m) s)
 
 abbrev pub storeLine : ℕ → ℕ → List ℕ
 storeLine m s = ascii "store " ++ storeBits m s ++ newline

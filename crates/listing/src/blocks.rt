@@ -1,6 +1,7 @@
 // The lines of a well-formed channel.
 use super::spaced::put_natural;
 use super::spaced::put_spaced;
+use answers::states::put_store;
 use cells::zero_at;
 use channel::layout::entry_place;
 use channel::layout::follow;
@@ -18,31 +19,13 @@ ghost use Rattle.channel.specs.Layout.{recordSize, side, entryAt, blockAt, dimA
 ghost use Rattle.channel.specs.WellFormed.{storeOk, entriesOk, wellFormed};
 ghost use Rattle.text.specs.Page.{page};
 ghost use Rattle.text.specs.Inner.Written.{Written};
-ghost use Rattle.listing.specs.Listing.{spaced, firstLine, storeBits, storeLine, entryLine, entryLines, blockLines, listing};
+ghost use Rattle.listing.specs.Listing.{spaced, firstLine, storeLine, entryLine, entryLines, blockLines, listing};
 
-// The bits of a store from bit 0 on, or "-" where there are none.
-fn put_bits(out: &mut [u8], at: usize, store: u64, m: u32) -> usize
-    ensures { λ r. ⌜ Written (page (now (out .entry)) at) (storeBits m store) (page (now (out .exit)) r) ⌝ }
-{
-    if m == 0 {
-        return put(out, at, b'-');
-    }
-    let mut p = at;
-    let mut rest = store;
-    let mut left = m;
-    while 0 < left {
-        p = put(out, p, b'0' + (rest % 2) as u8);
-        rest = rest / 2;
-        left -= 1;
-    }
-    p
-}
-
-fn put_store(out: &mut [u8], at: usize, store: u64, m: u32) -> usize
+fn put_store_line(out: &mut [u8], at: usize, store: u64, m: u32) -> usize
     ensures { λ r. ⌜ Written (page (now (out .entry)) at) (storeLine m store) (page (now (out .exit)) r) ⌝ }
 {
     let a = put_all(out, at, b"store ");
-    let b = put_bits(out, a, store, m);
+    let b = put_store(out, a, store, m);
     put(out, b, b'\n')
 }
 
@@ -92,7 +75,7 @@ fn put_block(out: &mut [u8], at: usize, s: &[i64], place: usize, w: usize, m: u3
     requires { ⌜ (w ≤ 256) × ((place + recordSize w ≤ length (now s)) × ((storeOk (now s) place m ≡ true) × (entriesOk (now s) place (w * w) ≡ true))) ⌝ }
     ensures { λ r. ⌜ Written (page (now (out .entry)) at) (blockLines m w (blockAt (now (s .entry)) place)) (page (now (out .exit)) r) ⌝ }
 {
-    let a = put_store(out, at, read_store(s, place), m);
+    let a = put_store_line(out, at, read_store(s, place), m);
     put_entries(out, a, s, place, w)
 }
 

@@ -40,7 +40,8 @@ pub fn put_decimal(out: &mut [u8], at: usize, n: u64) -> usize
     put(out, p, b'0' + (n % 10) as u8)
 }
 
-fn magnitude(z: i64) -> u64
+// How large a number is, whatever its sign.
+pub fn magnitude(z: i64) -> u64
     ensures { λ r. ⌜ r ≡ natAbs z ⌝ }
 {
     if z < 0 {

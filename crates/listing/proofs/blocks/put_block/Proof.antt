@@ -13,8 +13,8 @@ read-store-requires c κs =
     let s = c .before .before in
     (omega arith, store-words (s .args .s .now) (s .args .place) (s .args .m) (s .pre .1 .1 .0))
 
-put-store-requires : tie.Need-put-store-requires
-put-store-requires c κs = search needs
+put-store-line-requires : tie.Need-put-store-line-requires
+put-store-line-requires c κs = search needs
 
 put-entries-requires : tie.Need-put-entries-requires
 put-entries-requires c κs = search needs
@@ -27,9 +27,9 @@ returns c =
     let e = c .before .before in
     let s = e .before .before .before .before in
     let r = s .before in
-    then (text (ap (storeLine (r .before .before .before .args .m)) (r .read-store .ensures)) (s .put-store .ensures)) (e .put-entries .ensures)
+    then (text (ap (storeLine (r .before .before .before .args .m)) (r .read-store .ensures)) (s .put-store-line .ensures)) (e .put-entries .ensures)
 
 pub put-block-spec : {M : Type 1} → statement M
 put-block-spec =
     tie.close
-    (tie.spec read-store-requires put-store-requires put-entries-requires same-length returns)
+    (tie.spec read-store-requires put-store-line-requires put-entries-requires same-length returns)

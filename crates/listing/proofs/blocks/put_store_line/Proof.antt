@@ -1,8 +1,8 @@
--- `blocks::put_store` meets its contract.
+-- `blocks::put_store_line` meets its contract.
 use borrow.Author.Needs.{needs}
 use Rattle.text.proofs.Put.{then}
-use Rattle.listing.proofs.blocks.put_store.Statement.{statement}
-use Rattle.listing.proofs.blocks.put_store.Tie as tie
+use Rattle.listing.proofs.blocks.put_store_line.Statement.{statement}
+use Rattle.listing.proofs.blocks.put_store_line.Tie as tie
 
 slice-aggregate-put-all : tie.Need-slice-aggregate-put-all
 slice-aggregate-put-all c = search needs
@@ -10,8 +10,8 @@ slice-aggregate-put-all c = search needs
 put-all-requires : tie.Need-put-all-requires
 put-all-requires c κs = search needs
 
-put-bits-requires : tie.Need-put-bits-requires
-put-bits-requires c κs = search needs
+put-store-requires : tie.Need-put-store-requires
+put-store-requires c κs = search needs
 
 put-requires : tie.Need-put-requires
 put-requires c κs = search needs
@@ -24,15 +24,15 @@ returns c =
     let k = c .before .before in
     let b = k .before .before .before .before in
     let a = b .before .before .before .before in
-    then (a .put-all .ensures) (then (b .put-bits .ensures) (k .put .ensures))
+    then (a .put-all .ensures) (then (b .put-store .ensures) (k .put .ensures))
 
-pub put-store-spec : {M : Type 1} → statement M
-put-store-spec =
+pub put-store-line-spec : {M : Type 1} → statement M
+put-store-line-spec =
     tie.close
     (tie.spec
     slice-aggregate-put-all
     put-all-requires
-    put-bits-requires
+    put-store-requires
     put-requires
     same-length
     returns)

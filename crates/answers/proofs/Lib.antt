@@ -1,0 +1,5 @@
+pub mod Sums
+pub mod Bits
+pub mod Walk
+pub mod Sentences
+pub mod Claims

@@ -1,0 +1,58 @@
+-- The sentences end to end, and the part that each is.
+use mathlib.Core.Path.{_≡_, refl, sym, subst}
+use mathlib.Core.List.{List, [], _∷_, _++_}
+use Prim.Native.Nat.{ℕ, _+_, _-_, _<_, _≤_}
+use native.Mathlib.Omega.{arith}
+use lib.ListN.{getD, take, drop}
+use Rattle.verdict.specs.declared.Verdict.{Verdict}
+use Rattle.verdict.specs.declared.Verdict.the-variants.{Accepted, OverLimit, UnsupportedAt, OperandAt, BadStore, MalformedAt, OverCeiling, TooHeavy, ShortBuffer, TooLarge, Malformed, BadLayers, ClashAt, BadText, UnknownNameAt}
+use Rattle.verdict.specs.Verdict.{verdictNumber}
+use Rattle.answers.specs.Reasons.{reason}
+
+abbrev sentences : List ℕ
+sentences =
+    reason Accepted
+    ++ reason OverLimit
+    ++ reason (UnsupportedAt 0)
+    ++ reason (OperandAt 0)
+    ++ reason BadStore
+    ++ reason (MalformedAt 0)
+    ++ reason OverCeiling
+    ++ reason TooHeavy
+    ++ reason ShortBuffer
+    ++ reason TooLarge
+    ++ reason Malformed
+    ++ reason BadLayers
+    ++ reason (ClashAt 0)
+    ++ reason BadText
+    ++ reason (UnknownNameAt 0)
+
+abbrev starts : List ℕ
+starts = 0 ∷ 24 ∷ 165 ∷ 259 ∷ 366 ∷ 456 ∷ 607 ∷ 661 ∷ 723 ∷ 795 ∷ 878 ∷ 959 ∷ 1053 ∷ 1147 ∷ 1225 ∷ 1330 ∷ []
+
+-- number k has the sentence of v
+pub record Part (v : Verdict) (k : ℕ) : Type 0 where
+  pub few : k + 1 < 16
+  pub rises : getD starts k 0 ≤ getD starts (k + 1) 0
+  pub inside : getD starts (k + 1) 0 ≤ 1330
+  pub is : take (getD starts (k + 1) 0 - getD starts k 0) (drop (getD starts k 0) sentences) ≡ reason v
+
+part : (v : Verdict) → Part v (verdictNumber v)
+part Accepted = record { few = omega arith; rises = omega arith; inside = omega arith; is = refl }
+part OverLimit = record { few = omega arith; rises = omega arith; inside = omega arith; is = refl }
+part (UnsupportedAt i) = record { few = omega arith; rises = omega arith; inside = omega arith; is = refl }
+part (OperandAt i) = record { few = omega arith; rises = omega arith; inside = omega arith; is = refl }
+part BadStore = record { few = omega arith; rises = omega arith; inside = omega arith; is = refl }
+part (MalformedAt i) = record { few = omega arith; rises = omega arith; inside = omega arith; is = refl }
+part OverCeiling = record { few = omega arith; rises = omega arith; inside = omega arith; is = refl }
+part TooHeavy = record { few = omega arith; rises = omega arith; inside = omega arith; is = refl }
+part ShortBuffer = record { few = omega arith; rises = omega arith; inside = omega arith; is = refl }
+part TooLarge = record { few = omega arith; rises = omega arith; inside = omega arith; is = refl }
+part Malformed = record { few = omega arith; rises = omega arith; inside = omega arith; is = refl }
+part BadLayers = record { few = omega arith; rises = omega arith; inside = omega arith; is = refl }
+part (ClashAt i) = record { few = omega arith; rises = omega arith; inside = omega arith; is = refl }
+part BadText = record { few = omega arith; rises = omega arith; inside = omega arith; is = refl }
+part (UnknownNameAt i) = record { few = omega arith; rises = omega arith; inside = omega arith; is = refl }
+
+pub part-of : (v : Verdict) {k : ℕ} → k ≡ verdictNumber v → Part v k
+part-of v e = subst (Part v) (sym e) (part v)

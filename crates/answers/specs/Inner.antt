@@ -1,0 +1,3 @@
+-- What contracts of inner functions need.
+pub mod Sums
+pub mod Lines

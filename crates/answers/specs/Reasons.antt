@@ -1,0 +1,27 @@
+-- Refusals in words: what is wrong, and what to do.
+use mathlib.Core.List.{List}
+use Prim.Native.Nat.{ℕ}
+use Prim.Native.String.{String}
+use Rattle.verdict.specs.declared.Verdict.{Verdict}
+use Rattle.verdict.specs.declared.Verdict.the-variants.{Accepted, OverLimit, UnsupportedAt, OperandAt, BadStore, MalformedAt, OverCeiling, TooHeavy, ShortBuffer, TooLarge, Malformed, BadLayers, ClashAt, BadText, UnknownNameAt}
+use Rattle.answers.specs.Utf8.{utf8}
+
+abbrev pub sentence : Verdict → String
+sentence Accepted = "The circuit is accepted."
+sentence OverLimit = "The circuit is over a limit on qubits, classical bits, gates, branches or size: make it smaller, or raise that limit, at most to its ceiling."
+sentence (UnsupportedAt i) = "This gate is not supported: write it with gates that are, where rz turns by multiples of pi/4."
+sentence (OperandAt i) = "This gate names a qubit or a bit that is not there, or a qubit twice: name different ones, numbered from 0."
+sentence BadStore = "The initial store does not fit the circuit: give one value for each classical bit, 0 or 1."
+sentence (MalformedAt i) = "This gate's words are malformed, or the list's length is no multiple of 5: give five words a gate, a known kind first, and 0 where a kind uses no word."
+sentence OverCeiling = "A limit is above its ceiling: lower it to the ceiling."
+sentence TooHeavy = "The gates h, ch and sx number more than 48: use fewer of them."
+sentence ShortBuffer = "A buffer is too short for the result or for the work: lend a longer one."
+sentence TooLarge = "A number is too large: use numbers that stay in range, and factors that are narrow."
+sentence Malformed = "A scalar, matrix or channel is malformed: hand in words as the judge leaves them."
+sentence BadLayers = "The ends of the layers do not rise from at least 1 to the number of gates: correct their list."
+sentence (ClashAt i) = "This gate shares a qubit or a bit with an earlier gate of its layer: move it to another layer."
+sentence BadText = "The text is not OpenQASM 2 in the form that is read: correct it at this place."
+sentence (UnknownNameAt i) = "This gate or register is not known here: use a gate that can be read and written, or a declared register."
+
+abbrev pub reason : Verdict → List ℕ
+reason v = utf8 (sentence v)
