@@ -16,7 +16,7 @@ const SENTENCES: [u8; 1330] = *b"The circuit is accepted.\
     The initial store does not fit the circuit: give one value for each classical bit, 0 or 1.\
     This gate's words are malformed, or the list's length is no multiple of 5: give five words a gate, a known kind first, and 0 where a kind uses no word.\
     A limit is above its ceiling: lower it to the ceiling.\
-    The gates h, ch and sx number more than 48: use fewer of them.\
+    The gates h, ch and sx number more than 56: use fewer of them.\
     A buffer is too short for the result or for the work: lend a longer one.\
     A number is too large: use numbers that stay in range, and factors that are narrow.\
     A scalar, matrix or channel is malformed: hand in words as the judge leaves them.\

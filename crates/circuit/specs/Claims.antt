@@ -35,8 +35,8 @@ rows =
     ∷ row 4 1 (gates 1 12 0 0 ++ gates 1 12 1 0) 0  -- into one bit
     ∷ row 4 1 (gates 6 12 0 0 ++ gates 5 1 0 0) 0  -- six measures into one bit and five x
     ∷ row 4 1 (gates 6 12 0 0 ++ gates 6 1 0 0) 1  -- and six x
-    ∷ row 1 0 (gates 48 0 0 0) 0  -- 48 h
-    ∷ row 1 0 (gates 49 0 0 0) 7  -- 49 h
+    ∷ row 1 0 (gates 56 0 0 0) 0  -- 56 h
+    ∷ row 1 0 (gates 57 0 0 0) 7  -- 57 h
     ∷ row 2 0 (gates 1 8 0 0) 3  -- cnot 0, 0
     ∷ row 1 0 (gates 7 13 0 0) 1  -- seven resets
     ∷ []

@@ -25,7 +25,7 @@ ghost use Rattle.circuit.specs.Layers.{layeredVerdict};
 ghost use Rattle.circuit.specs.Questions.{wordQuestions, numberQuestions, channelVerdict, matrixQuestions, unitaryVerdict};
 ghost use Rattle.circuit.specs.Inner.Small.{maxRows};
 
-const MAX_WEIGHT: u64 = 48;
+const MAX_WEIGHT: u64 = 56;
 
 // Questions 1 to 6.
 fn judge_words(n: u32, bits: u32, l: Limits, words: &[u32]) -> Verdict

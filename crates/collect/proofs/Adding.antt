@@ -16,7 +16,7 @@ use Rattle.algebra.specs.Words.{fillWords}
 use Rattle.algebra.proofs.Parts.{abs-neg}
 use Rattle.algebra.proofs.Blocks.{Writing, begin, wrote, long, kept, rest, Same, block-in, blocks-same, blocks-more}
 use Rattle.exact.specs.Exact.{narrowExponent, Exact, exact, conj, isLowest, maxExponent, isZero}
-use Rattle.exact.specs.Inner.Sizes.{Within, Room}
+use Rattle.exact.specs.Inner.Sizes.{Within, Room, roomNumerator}
 use Rattle.exact.proofs.Exact.{exacts, conj-plus, conj-by, conj-conj}
 use Rattle.cells.specs.Cells.{cellSize, cellAt, cellWords, exponentAt, fill}
 use Rattle.cells.specs.Inner.Zero.{zeroAt}
@@ -24,7 +24,7 @@ use Rattle.cells.proofs.Cell.{cell-same, exponent-same, cell-filled, exponent-f
 use Rattle.matrix.specs.Inner.Factors.{Factor}
 use Rattle.matrix.proofs.Terms.{zero-by, zero-left, zero-right}
 use Rattle.matrix.proofs.Rows.{zero-cells}
-use Rattle.collect.specs.Inner.Overlap.{sumNumerator, overlap, overlapped, blockOverlap, blockOverlapped, Readable, Sum, Row, Column, Mirrored, NewRow, AddedRow, MirroredRow, NewBlock, Block}
+use Rattle.collect.specs.Inner.Overlap.{overlap, overlapped, blockOverlap, blockOverlapped, Readable, Sum, Row, Column, Mirrored, NewRow, AddedRow, MirroredRow, NewBlock, Block}
 use Rattle.collect.proofs.Words.{cell-there, fill-there}
 use Rattle.collect.proofs.Sizes.{conj-coords, factor-fits, Fits, product-fits, sum-fits}
 
@@ -78,7 +78,7 @@ readable-same h s =
     record {
       room = omega (arith, h .long, s .room);
       exponent = exponent-same h ∙ s .exponent;
-      size = subst (λ (x : Exact). Within sumNumerator (x .num)) (sym (cell-same h)) (s .size);
+      size = subst (λ (x : Exact). Within roomNumerator (x .num)) (sym (cell-same h)) (s .size);
     }
 
 -- ---- row r from column r: b is l with c numbers of it written
@@ -224,7 +224,7 @@ module _ {l : List ℤ} {out w : ℕ} {f : ℕ → Exact} (room : out + w * w * 
         cells = λ c hc. record {
           room = omega (arith, upto, long ws, column-above c hc);
           exponent = ap (λ (n : List ℤ). exponentAt n (out + (c * w + r) * cellSize)) (ws .is) ∙ exponent-filled f l out (r * w) (c * w + r) (column-above c hc) upto ∙ le-leb (f (c * w + r) .exp) maxExponent (fits c hc .exponent);
-          size = subst (λ (x : Exact). Within sumNumerator (x .num)) (sym (column-value c hc)) (fits c hc .size);
+          size = subst (λ (x : Exact). Within roomNumerator (x .num)) (sym (column-value c hc)) (fits c hc .size);
         };
       }
 

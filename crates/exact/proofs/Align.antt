@@ -15,7 +15,7 @@ use Rattle.algebra.proofs.Solver.{Expr, con, var, _⊠_, eqn, look, ⟦_⟧}
 use Rattle.algebra.proofs.Quadratic.{ℤ√2i}
 use Rattle.algebra.proofs.Bound as Bound
 use Rattle.algebra.proofs.Dyadic.{power-int, align, late-right, plus-comm, plus-up}
-use Rattle.exact.specs.Exact.{Number, number, numbers, Exact, exact, lowest, narrowNumerator, narrowExponent}
+use Rattle.exact.specs.Exact.{Number, number, numbers, Exact, exact, lowest, maxNumerator, narrowNumerator, narrowExponent}
 use Rattle.exact.specs.Inner.Sizes.{Within, scaled, Coords, roomNumerator, roomExponent}
 use Rattle.exact.proofs.Exact.{exactHalving, exacts}
 use Rattle.exact.proofs.Coordinates.{formulas, x, xy, eight, bounds, bounded}
@@ -87,6 +87,10 @@ product-within x y h k = widen (6 * (1 * 2 ^ x .exp * (1 * 2 ^ y .exp))) (8 * 2 
 pub factor-within : (x : Exact) → Coords 1 narrowExponent x → Within narrowNumerator (x .num)
 factor-within x b = widen (1 * 2 ^ narrowExponent) narrowNumerator (x .num) (lit≤ tt) (power-within 1 (x .exp) narrowExponent (x .num) (b .exponent) (b .size))
 
+-- what is in range has room as a first term
+pub roomy : (z : Number) → Within maxNumerator z → Within roomNumerator z
+roomy z = widen maxNumerator roomNumerator z (lit≤ tt)
+
 -- coordinates from −8 to 8 over at most the power of a product
-pub small : (e : ℕ) (z : Number) → e ≤ roomExponent → Within (8 * 2 ^ e) z → Within roomNumerator z
-small e z h w = widen (8 * 2 ^ roomExponent) roomNumerator z (lit≤ tt) (power-within 8 e roomExponent z h w)
+pub small : (e : ℕ) (z : Number) → e ≤ roomExponent → Within (8 * 2 ^ e) z → Within maxNumerator z
+small e z h w = widen (8 * 2 ^ roomExponent) maxNumerator z (lit≤ tt) (power-within 8 e roomExponent z h w)

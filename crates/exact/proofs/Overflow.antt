@@ -78,7 +78,7 @@ half-size (pos n) = omega arith
 half-size (negsuc n) = omega arith
 
 -- reduced numerators are no larger, nor is their exponent
-lowest-size : (m : ℕ) (z : Number) (e : ℕ) → Within m z → Within m (lowest z e .num) × (lowest z e .exp ≤ e)
+pub lowest-size : (m : ℕ) (z : Number) (e : ℕ) → Within m z → Within m (lowest z e .num) × (lowest z e .exp ≤ e)
 lowest-size m z zero w = (w, omega arith)
 lowest-size m z (suc e) w = go (numberHalves .even z) (lowest-size m (numberHalves .half z) e shrunk)
   where

@@ -1,14 +1,15 @@
 -- Two factors' numerators, and what a machine computes of them: an expression fits a word where its computed bound does, and is what the ring says that it is.
-use mathlib.Core.Path.{_≡_, _∙_}
-use mathlib.Core.List.{List, [], _∷_}
-use Prim.Native.Nat.{ℕ}
-use lib.Dec.{T}
-use lib.IntN.{ℤ, pos}
+use mathlib.Core.Path.{_≡_, sym, _∙_, subst}
+use mathlib.Core.List.{List}
+use Prim.Native.Nat.{ℕ, _^_}
+use lib.Dec.{T, ltb}
+use lib.IntN.{ℤ, pos, _+ℤ_}
 use mir.Syntax.{w64}
-use mir.Val.{SFits}
-use Rattle.algebra.specs.Quadratic.{Pair}
+use mir.Val.{SFits, hbits}
+use mir.Facts.{toZ-ofZ}
 use Rattle.algebra.proofs.Ring.{ℤR}
-use Rattle.algebra.proofs.Solver.{Expr, var, look, holds, solve, ⟦_⟧}
+use Rattle.algebra.proofs.Solver.{Expr, var, _⊞_, look, holds, solve, ⟦_⟧}
+use Rattle.algebra.proofs.Bound.{bnd, bounded-fits}
 use Rattle.algebra.proofs.Machine.{raw, machine, fitsTop, fitsAll, op-fits, machine-is}
 use Rattle.exact.specs.Exact.{Number}
 use Rattle.exact.specs.Inner.Sizes.{Within}
@@ -48,22 +49,19 @@ module _ {m : ℕ} {x y : Number} (h : Within m x × Within m y) where
   fits = op-fits w64 xs (bounds m m) (bounded (h .0) (h .1))
 
   -- one coordinate, as the code has it and as the product has it
-  is : (l r : Expr) → T (fitsAll w64 (look 0 (bounds m m)) l) → T (holds l r) → machine w64 (look (pos 0) xs) l ≡ ⟦_⟧ ℤR (look (pos 0) xs) r
+  pub is : (l r : Expr) → T (fitsAll w64 (look 0 (bounds m m)) l) → T (holds l r) → machine w64 (look (pos 0) xs) l ≡ ⟦_⟧ ℤR (look (pos 0) xs) r
   is l r s t = machine-is w64 xs (bounds m m) (bounded (h .0) (h .1)) l s ∙ solve ℤR (look (pos 0) xs) l r t
 
-  -- the two agree
-  abbrev Agree : Expr → Expr → Type 0
-  Agree l r = T (fitsAll w64 (look 0 (bounds m m)) l) × T (holds l r)
+  -- a sum whose computed bound does not fit, but that of what it equals does
+  module _ (l r e : Expr) (hl : T (fitsAll w64 (look 0 (bounds m m)) l)) (hr : T (fitsAll w64 (look 0 (bounds m m)) r)) (same : T (holds (l ⊞ r) e))
+      (small : T (ltb (bnd (look 0 (bounds m m)) e) (2 ^ hbits w64))) where
+    sum-is : raw w64 (look (pos 0) xs) (l ⊞ r) ≡ ⟦_⟧ ℤR (look (pos 0) xs) e
+    sum-is =
+        (λ i. machine-is w64 xs (bounds m m) (bounded (h .0) (h .1)) l hl i +ℤ machine-is w64 xs (bounds m m) (bounded (h .0) (h .1)) r hr i)
+        ∙ solve ℤR (look (pos 0) xs) (l ⊞ r) e same
 
-  abbrev four : (Expr → ℤ) → Pair (Pair Expr) → List ℤ
-  four f z = f (z .re .re) ∷ f (z .re .im) ∷ f (z .im .re) ∷ f (z .im .im) ∷ []
+    pub equal-fits : SFits w64 (raw w64 (look (pos 0) xs) (l ⊞ r))
+    equal-fits = subst (SFits w64) (sym sum-is) (bounded-fits w64 xs (bounds m m) e (bounded (h .0) (h .1)) small)
 
-  -- all four
-  pub are : (l r : Pair (Pair Expr)) → Agree (l .re .re) (r .re .re) → Agree (l .re .im) (r .re .im) → Agree (l .im .re) (r .im .re) → Agree (l .im .im) (r .im .im)
-      → four (machine w64 (look (pos 0) xs)) l ≡ four (⟦_⟧ ℤR (look (pos 0) xs)) r
-  are l r a b c d =
-      λ i. is (l .re .re) (r .re .re) (a .0) (a .1) i
-      ∷ is (l .re .im) (r .re .im) (b .0) (b .1) i
-      ∷ is (l .im .re) (r .im .re) (c .0) (c .1) i
-      ∷ is (l .im .im) (r .im .im) (d .0) (d .1) i
-      ∷ []
+    pub equal-is : machine w64 (look (pos 0) xs) (l ⊞ r) ≡ ⟦_⟧ ℤR (look (pos 0) xs) e
+    equal-is = toZ-ofZ equal-fits ∙ sum-is

@@ -3,7 +3,7 @@ use mathlib.Core.Path.{_≡_, sym, ap, _∙_, subst}
 use mathlib.Core.Bool.{Bool, true, false, _&&_}
 use mathlib.Core.List.{List}
 use Prim.Native.Nat.{ℕ, _%_, _≤_, _<_, _^_}
-use lib.Dec.{eqb, leb, lit≤}
+use lib.Dec.{eqb, leb}
 use lib.ListN.{getD}
 use lib.IntN.{ℤ, pos, negℤ, natAbs, _-ℤ_}
 use lib.Signed.{mag, ltZ}
@@ -17,7 +17,7 @@ use Rattle.algebra.proofs.Tests.{and-split}
 use Rattle.algebra.proofs.Signed.{reads, neg-fits, neg-back, under-by, over, within as within-by, and-one, or-even, bit-parity}
 use Rattle.exact.specs.Exact.{Exact, Number, number, within, numberHalves, inRange, isLowest, wellFormed, narrow, maxNumerator, maxExponent, narrowNumerator, narrowExponent, numberOf}
 use Rattle.exact.specs.Inner.Sizes.{Within, roomNumerator}
-use Rattle.exact.proofs.Align.{widen}
+use Rattle.exact.proofs.Align.{roomy}
 
 -- ---- x from −m to m, as code tests it
 module _ (x m : ℤ) (fx : SFits w64 x) (fm : SFits w64 m) (p : m ≡ pos (natAbs m)) where
@@ -92,7 +92,7 @@ module _ (x : Exact) (h : wellFormed x ≡ true) where
   well-bound = within-of maxNumerator (x .num) (and-split (within maxNumerator (x .num)) (leb (x .exp) maxExponent) in-range .0)
 
   pub well-within : Within roomNumerator (x .num)
-  well-within = widen maxNumerator roomNumerator (x .num) (lit≤ tt) well-bound
+  well-within = roomy (x .num) well-bound
 
   pub well-exponent : x .exp ≤ maxExponent
   well-exponent = leb-true _ _ (and-split (within maxNumerator (x .num)) (leb (x .exp) maxExponent) in-range .1)

@@ -73,13 +73,13 @@ omega k = powerOf turn (k % 8)
 
 -- ---- the ranges
 abbrev pub maxNumerator : ℕ
-maxNumerator = 2 ^ 60
+maxNumerator = 2 ^ 61
 
 abbrev pub maxExponent : ℕ
 maxExponent = 60
 
 abbrev pub narrowExponent : ℕ
-narrowExponent = 28
+narrowExponent = 29
 
 abbrev pub narrowNumerator : ℕ
 narrowNumerator = 2 ^ narrowExponent

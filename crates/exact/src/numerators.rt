@@ -6,7 +6,7 @@ ghost use lib.Count.{trailingZeros};
 ghost use mir.Syntax.{w64};
 ghost use mir.Val.{ofZ};
 ghost use Rattle.algebra.specs.Quadratic.{conjugate};
-ghost use Rattle.exact.specs.Exact.{root2, numbers, maxExponent, narrowNumerator, numberOf, listOf};
+ghost use Rattle.exact.specs.Exact.{root2, numbers, maxNumerator, maxExponent, narrowNumerator, numberOf, listOf};
 ghost use Rattle.exact.specs.Inner.Sizes.{Within, scaled, roomNumerator};
 
 // How many low bits are zero in all four: 64 where no bit below the top one is set.
@@ -80,7 +80,7 @@ pub fn conj_product(x: [i64; 4], y: [i64; 4]) -> [i64; 4]
 
 // The sums of the numerators.
 pub fn sum4(x: [i64; 4], y: [i64; 4]) -> [i64; 4]
-    requires { ⌜ Within roomNumerator (numberOf x) × Within roomNumerator (numberOf y) ⌝ }
+    requires { ⌜ Within roomNumerator (numberOf x) × Within maxNumerator (numberOf y) ⌝ }
     ensures { λ r. ⌜ r ≡ listOf (numbers ._⊕_ (numberOf x) (numberOf y)) ⌝ }
 {
     [x[0] + y[0], x[1] + y[1], x[2] + y[2], x[3] + y[3]]

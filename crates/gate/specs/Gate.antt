@@ -100,7 +100,7 @@ weight g = cond (elem (g .kind) (0 ∷ 16 ∷ 25 ∷ [])) 1 0
 
 -- the most that the gates of a circuit may weigh
 abbrev pub maxWeight : ℕ
-maxWeight = 48
+maxWeight = 56
 
 -- a measure and a reset split each branch in two
 abbrev pub splits : Gate → ℕ

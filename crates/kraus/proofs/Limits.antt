@@ -18,7 +18,7 @@ use Rattle.algebra.proofs.Adjoint.{dot}
 use Rattle.algebra.proofs.Quadratic.{ℤ√2i}
 use Rattle.algebra.proofs.Dyadic.{fits-low, fits-grow}
 use Rattle.exact.specs.Exact.{Exact, exact, narrow, wellFormed, maxNumerator, maxExponent, narrowNumerator, narrowExponent}
-use Rattle.exact.specs.Inner.Sizes.{Within, scaled, Coords, Room, roomNumerator, roomExponent}
+use Rattle.exact.specs.Inner.Sizes.{Within, scaled, Coords, Room, roomExponent}
 use Rattle.exact.proofs.Exact.{exactHalving, exacts}
 use Rattle.exact.proofs.Sizes.{of-within}
 use Rattle.exact.proofs.Align.{widen, power-within, scaled-none}
@@ -112,7 +112,7 @@ module _ (E : ℕ) (suits : Suits E) where
 fitting : (e s : ℕ) (x : Exact) → e ≤ roomExponent → s ≤ maxNumerator → Sum e s x → Fitting e x
 fitting e s x l m h = record {
   well-formed = λ i. (of-within maxNumerator (x .num) (widen s maxNumerator (x .num) m plain) i && le-leb (x .exp) maxExponent (omega (arith, h .exponent)) i) && h .lowest i;
-  room = λ t k. record { exponent = omega (arith, h .exponent); size = widen s roomNumerator (scaled (x .num) (t - x .exp)) (omega arith) (h .sizes t k) };
+  room = λ t k. record { exponent = omega (arith, h .exponent); size = widen s maxNumerator (scaled (x .num) (t - x .exp)) m (h .sizes t k) };
 }
   where
     plain : Within s (x .num)

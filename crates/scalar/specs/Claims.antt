@@ -40,12 +40,12 @@ rows =
     accepts (omegaAnswer 1) (frac (number (pos 0) (pos 1) (pos 0) (pos 1)) 1)
     ∷ accepts (mulAnswer (omega 1) (omega 1)) imaginary
     ∷ accepts (mulAnswer invSqrtTwo invSqrtTwo) (ratio 1 1)
-    ∷ accepts (mulAnswer (ratio (2 ^ 28) 0) (ratio 1 0)) (ratio (2 ^ 28) 0)
-    ∷ refuses (mulAnswer (ratio (2 ^ 28 + 1) 0) (ratio 1 0)) 9
+    ∷ accepts (mulAnswer (ratio (2 ^ 29) 0) (ratio 1 0)) (ratio (2 ^ 29) 0)
+    ∷ refuses (mulAnswer (ratio (2 ^ 29 + 1) 0) (ratio 1 0)) 9
     -- narrowness is asked, not the product; and first, lowest form and range of both
-    ∷ refuses (mulAnswer (exact .𝟘) (ratio (2 ^ 28 + 1) 0)) 9
-    ∷ refuses (mulAnswer (ratio (2 ^ 28 + 1) 0) (ratio 2 1)) 10
-    ∷ refuses (addAnswer (ratio 1 0) (minus (2 ^ 60 + 1) 0)) 10
+    ∷ refuses (mulAnswer (exact .𝟘) (ratio (2 ^ 29 + 1) 0)) 9
+    ∷ refuses (mulAnswer (ratio (2 ^ 29 + 1) 0) (ratio 2 1)) 10
+    ∷ refuses (addAnswer (ratio 1 0) (minus (2 ^ 61 + 1) 0)) 10
     ∷ refuses (negAnswer (ratio 1 61)) 10
     ∷ refuses (negAnswer (ratio 2 1)) 10
     ∷ refuses (conjAnswer (ratio 2 1)) 10
@@ -54,14 +54,15 @@ rows =
     -- sums at equal and at unequal exponents
     ∷ accepts (addAnswer (ratio 1 1) (ratio 1 1)) (ratio 1 0)
     ∷ accepts (addAnswer (ratio 1 1) (ratio 1 2)) (ratio 3 2)
-    ∷ accepts (addAnswer (ratio 1 0) (minus 1 60)) (ratio (2 ^ 60 - 1) 60)
-    ∷ accepts (addAnswer (ratio 2 0) (frac (number (negℤ (pos (2 ^ 60))) (pos 1) (pos 0) (pos 0)) 60)) (frac (number (pos (2 ^ 60)) (pos 1) (pos 0) (pos 0)) 60)
-    ∷ refuses (addAnswer (ratio 1 0) (ratio 1 60)) 9
-    ∷ refuses (addAnswer (ratio (2 ^ 60) 0) (ratio 1 60)) 9
-    ∷ refuses (addAnswer (ratio (2 ^ 60) 0) (ratio 1 0)) 9
+    ∷ accepts (addAnswer (ratio 1 0) (ratio 1 60)) (ratio (2 ^ 60 + 1) 60)
+    ∷ accepts (addAnswer (ratio 2 0) (minus 1 60)) (ratio (2 ^ 61 - 1) 60)
+    ∷ accepts (addAnswer (ratio 4 0) (frac (number (negℤ (pos (2 ^ 61))) (pos 1) (pos 0) (pos 0)) 60)) (frac (number (pos (2 ^ 61)) (pos 1) (pos 0) (pos 0)) 60)
+    ∷ refuses (addAnswer (ratio 2 0) (ratio 1 60)) 9
+    ∷ refuses (addAnswer (ratio (2 ^ 61) 0) (ratio 1 60)) 9
+    ∷ refuses (addAnswer (ratio (2 ^ 61) 0) (ratio 1 0)) 9
     -- the other calls
-    ∷ accepts (integerAnswer (pos (2 ^ 60))) (ratio (2 ^ 60) 0)
-    ∷ refuses (integerAnswer (pos (2 ^ 60 + 1))) 9
+    ∷ accepts (integerAnswer (pos (2 ^ 61))) (ratio (2 ^ 61) 0)
+    ∷ refuses (integerAnswer (pos (2 ^ 61 + 1))) 9
     ∷ accepts (conjAnswer imaginary) (exact .neg imaginary)
     ∷ accepts (halfAnswer (ratio 6 0)) (ratio 3 0)
     ∷ refuses (halfAnswer (ratio 1 60)) 9

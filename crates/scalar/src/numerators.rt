@@ -7,7 +7,7 @@ use exact::numerators::sum4;
 ghost use mathlib.Core.Path.{_≡_};
 ghost use Prim.Native.Nat.{_-_, _≤_};
 ghost use Rattle.algebra.specs.Dyadic.{frac};
-ghost use Rattle.exact.specs.Exact.{exact, lowest, maxExponent, numberOf};
+ghost use Rattle.exact.specs.Exact.{exact, lowest, maxNumerator, maxExponent, numberOf};
 ghost use Rattle.exact.specs.Inner.Sizes.{Within, scaled, roomNumerator};
 ghost use Rattle.scalar.specs.Calls.{scalarOf};
 
@@ -30,7 +30,7 @@ pub fn reduce(x: [i64; 4], e: u32) -> Scalar
 
 // The sum of numerators over 2^e and numerators over 2^f.
 pub fn aligned_sum(x: [i64; 4], e: u32, y: [i64; 4], f: u32) -> Scalar
-    requires { ⌜ (e ≤ f) × ((f ≤ maxExponent) × (Within roomNumerator (scaled (numberOf x) (f - e)) × Within roomNumerator (numberOf y))) ⌝ }
+    requires { ⌜ (e ≤ f) × ((f ≤ maxExponent) × (Within roomNumerator (scaled (numberOf x) (f - e)) × Within maxNumerator (numberOf y))) ⌝ }
     ensures { λ r. ⌜ r ≡ scalarOf (exact ._⊕_ (frac (numberOf x) e) (frac (numberOf y) f)) ⌝ }
 {
     let p = scaled4(x, f - e);

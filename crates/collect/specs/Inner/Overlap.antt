@@ -35,15 +35,11 @@ blockOverlap m k w i = overlap (cellAt m (k + i / w * cellSize)) m (k + i % w * 
 abbrev pub blockOverlapped : List ℤ → ℕ → List ℤ → ℕ → ℕ → ℕ → Exact
 blockOverlapped l out m k w i = overlapped l (out + i * cellSize) (cellAt m (k + i / w * cellSize)) m (k + i % w * cellSize)
 
--- no numerator of a sum of two terms is larger
-abbrev pub sumNumerator : ℕ
-sumNumerator = 2 * roomNumerator
-
 -- a number whose conjugate can be taken
 pub record Readable (l : List ℤ) (at : ℕ) : Type 0 where
   pub room : at + cellSize ≤ length l
   pub exponent : exponentAt l at ≡ true
-  pub size : Within sumNumerator (cellAt l at .num)
+  pub size : Within roomNumerator (cellAt l at .num)
 
 -- a sum in lowest form, to which a term over 2^e can be added
 pub record Sum (l : List ℤ) (at e : ℕ) : Type 0 where

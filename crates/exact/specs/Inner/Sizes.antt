@@ -10,7 +10,7 @@ pub record Within (m : ℕ) (z : Number) : Type 0 where
   pub w2 : natAbs (z .im .re) ≤ m
   pub w3 : natAbs (z .im .im) ≤ m
 
--- a term of a sum: two of at most this size have their sum in a word, and with a larger one no sum is in range
+-- a first term of a sum whose second is in range: one of at most this size has its sum in a word, and a larger one has none in range; no sum of two in range is larger
 abbrev pub roomNumerator : ℕ
 roomNumerator = 2 * maxNumerator
 
@@ -30,4 +30,4 @@ pub record Coords (m k : ℕ) (x : Exact) : Type 0 where
 -- a sum to which a term over 2^k can be added: over the larger power of the two its numerators leave room
 pub record Room (k : ℕ) (x : Exact) : Type 0 where
   pub exponent : x .exp ≤ roomExponent
-  pub size : Within roomNumerator (scaled (x .num) (k - x .exp))
+  pub size : Within maxNumerator (scaled (x .num) (k - x .exp))

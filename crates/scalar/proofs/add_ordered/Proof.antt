@@ -5,7 +5,7 @@ use native.Mathlib.Omega.{arith}
 use borrow.Author.Needs.{needs}
 use Rattle.exact.specs.Exact.{exact}
 use Rattle.exact.specs.Inner.Sizes.{scaled, roomNumerator}
-use Rattle.exact.proofs.Sizes.{within-of, well-within, well-exponent}
+use Rattle.exact.proofs.Sizes.{within-of, well-bound, well-exponent}
 use Rattle.exact.proofs.Overflow.{overflow}
 use Rattle.scalar.specs.Calls.{value}
 use Rattle.scalar.specs.Inner.Fitting.{fittingScalar}
@@ -24,7 +24,7 @@ aligned-sum-requires c κs =
     let s = c .before .before .before .before in
     let x = value (s .args .low) in
     let y = value (s .args .high) in
-    (s .pre .1 .1, (well-exponent y (s .pre .1 .0), (within-of roomNumerator (scaled (x .num) (y .exp - x .exp)) (sym (c .before .can-scale .ensures) ∙ c .if1 .taken), well-within y (s .pre .1 .0))))
+    (s .pre .1 .1, (well-exponent y (s .pre .1 .0), (within-of roomNumerator (scaled (x .num) (y .exp - x .exp)) (sym (c .before .can-scale .ensures) ∙ c .if1 .taken), well-bound y (s .pre .1 .0))))
 
 checked-requires : tie.Need-checked-requires
 checked-requires c κs = search needs

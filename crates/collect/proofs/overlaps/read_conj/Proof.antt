@@ -7,17 +7,16 @@ use lib.ListN.{getD}
 use lib.IntN.{pos}
 use Rattle.algebra.proofs.Signed.{reads, neg-fits, neg-back}
 use Rattle.exact.specs.Exact.{conj}
-use Rattle.exact.specs.Inner.Sizes.{Within}
+use Rattle.exact.specs.Inner.Sizes.{Within, roomNumerator}
 use Rattle.scalar.specs.declared.Scalar.{Scalar}
 use Rattle.scalar.specs.Calls.{value, scalarOf}
-use Rattle.collect.specs.Inner.Overlap.{sumNumerator}
 use borrow.Author.Needs.{needs}
 use Rattle.collect.proofs.overlaps.read_conj.Statement.{statement}
 use Rattle.collect.proofs.overlaps.read_conj.Tie as tie
 
 -- the numerators that were read
-size : (r : tie.After-read-cell) → Within sumNumerator (value (r .read-cell .result) .num)
-size r = subst (λ (v : Scalar). Within sumNumerator (value v .num)) (sym (r .read-cell .ensures)) (r .before .pre .size)
+size : (r : tie.After-read-cell) → Within roomNumerator (value (r .read-cell .result) .num)
+size r = subst (λ (v : Scalar). Within roomNumerator (value v .num)) (sym (r .read-cell .ensures)) (r .before .pre .size)
 
 read-cell-requires : tie.Need-read-cell-requires
 read-cell-requires c κs = search needs

@@ -1,14 +1,15 @@
 -- `conj_product` meets its contract: each operation's size is bounded by computation, and the solver compares the coordinates.
+use mathlib.Core.List.{[], _∷_}
 use lib.IntN.{pos}
 use Rattle.algebra.specs.Quadratic.{Pair, pair}
 use Rattle.algebra.proofs.Solver.{Expr, con, _⊞_, _⊠_, ⊟}
 use Rattle.exact.proofs.Coordinates.{formulas, x}
-use Rattle.exact.proofs.Products.{x0, x1, x2, x3, y0, y1, y2, y3, fits, are}
+use Rattle.exact.proofs.Products.{x0, x1, x2, x3, y0, y1, y2, y3, fits, is, equal-fits, equal-is}
 use borrow.Author.Needs.{needs}
 use Rattle.exact.proofs.numerators.conj_product.Statement.{statement}
 use Rattle.exact.proofs.numerators.conj_product.Tie as tie
 
--- the coordinates, as the code has them
+-- the coordinates, as the code has them; the last, (w − c) + r, fits as the coordinate of the product that it equals
 abbrev a : Expr
 a = x0 ⊠ y0
 
@@ -63,9 +64,6 @@ m1 = c ⊞ r
 abbrev m2 : Expr
 m2 = ((s ⊞ (con (pos 2) ⊠ t)) ⊞ ⊟ d) ⊞ e
 
-abbrev m3 : Expr
-m3 = (w ⊞ ⊟ c) ⊞ r
-
 -- the four numerators as the product has them
 abbrev xy : Pair (Pair Expr)
 xy = formulas ._⊗_ x (pair (pair y0 y1) (pair (⊟ y2) (⊟ y3)))
@@ -74,7 +72,9 @@ abbrev start : tie.After-y3 → tie.Start
 start c = c .before .before .before .before .before .before .before .before
 
 returns : tie.Need-returns
-returns k = are (start k .pre) (pair (pair m0 m1) (pair m2 m3)) xy (tt, tt) (tt, tt) (tt, tt) (tt, tt)
+returns k =
+    let h = start k .pre in
+    λ i. is h m0 (xy .re .re) tt tt i ∷ is h m1 (xy .re .im) tt tt i ∷ is h m2 (xy .im .re) tt tt i ∷ equal-is h (w ⊞ ⊟ c) r (xy .im .im) tt tt tt tt i ∷ []
 
 pub conj-product-spec : {M : Type 1} → statement M
 conj-product-spec =
@@ -92,4 +92,4 @@ conj-product-spec =
     (λ k. fits (start k .pre) (a ⊞ (con (pos 2) ⊠ b)) tt) (λ k. fits (start k .pre) (con (pos 2) ⊠ q) tt) (λ k. fits (start k .pre) (p ⊞ (con (pos 2) ⊠ q)) tt)
     (λ k. fits (start k .pre) (d ⊞ e) tt) (λ k. fits (start k .pre) (c ⊞ r) tt) (λ k. fits (start k .pre) (con (pos 2) ⊠ t) tt)
     (λ k. fits (start k .pre) (s ⊞ (con (pos 2) ⊠ t)) tt) (λ k. fits (start k .pre) ((s ⊞ (con (pos 2) ⊠ t)) ⊞ ⊟ d) tt)
-    (λ k. fits (start k .pre) (((s ⊞ (con (pos 2) ⊠ t)) ⊞ ⊟ d) ⊞ e) tt) (λ k. fits (start k .pre) (w ⊞ ⊟ c) tt) (λ k. fits (start k .pre) ((w ⊞ ⊟ c) ⊞ r) tt) returns)
+    (λ k. fits (start k .pre) (((s ⊞ (con (pos 2) ⊠ t)) ⊞ ⊟ d) ⊞ e) tt) (λ k. fits (start k .pre) (w ⊞ ⊟ c) tt) (λ k. equal-fits (start k .pre) (w ⊞ ⊟ c) r (xy .im .im) tt tt tt tt) returns)

@@ -1,9 +1,9 @@
 -- `product` meets its contract: each operation's size is bounded by computation, and the solver compares the coordinates.
+use mathlib.Core.List.{[], _∷_}
 use lib.IntN.{pos}
-use Rattle.algebra.specs.Quadratic.{Pair, pair}
 use Rattle.algebra.proofs.Solver.{Expr, con, _⊞_, _⊠_, ⊟}
 use Rattle.exact.proofs.Coordinates.{xy}
-use Rattle.exact.proofs.Products.{x0, x1, x2, x3, y0, y1, y2, y3, fits, are}
+use Rattle.exact.proofs.Products.{x0, x1, x2, x3, y0, y1, y2, y3, fits, is}
 use borrow.Author.Needs.{needs}
 use Rattle.exact.proofs.numerators.product.Statement.{statement}
 use Rattle.exact.proofs.numerators.product.Tie as tie
@@ -25,7 +25,9 @@ abbrev start : tie.After-y3 → tie.Start
 start c = c .before .before .before .before .before .before .before .before
 
 returns : tie.Need-returns
-returns c = are (start c .pre) (pair (pair m0 m1) (pair m2 m3)) xy (tt, tt) (tt, tt) (tt, tt) (tt, tt)
+returns c =
+    let h = start c .pre in
+    λ i. is h m0 (xy .re .re) tt tt i ∷ is h m1 (xy .re .im) tt tt i ∷ is h m2 (xy .im .re) tt tt i ∷ is h m3 (xy .im .im) tt tt i ∷ []
 
 pub product-spec : {M : Type 1} → statement M
 product-spec =

@@ -7,19 +7,19 @@ use mir.Syntax.{w64}
 use mir.Val.{SFits, toZ, ofZ}
 use Rattle.algebra.proofs.Solver.{var, _⊞_}
 use Rattle.algebra.proofs.Machine.{op-fits, machine-is}
-use Rattle.exact.specs.Exact.{numberOf}
+use Rattle.exact.specs.Exact.{maxNumerator, numberOf}
 use Rattle.exact.specs.Inner.Sizes.{roomNumerator}
 use borrow.Author.Needs.{needs}
 use Rattle.exact.proofs.numerators.sum4.Statement.{statement}
 use Rattle.exact.proofs.numerators.sum4.Tie as tie
 
 -- one sum
-module _ (x y : ℤ) (h : natAbs x ≤ roomNumerator) (k : natAbs y ≤ roomNumerator) where
+module _ (x y : ℤ) (h : natAbs x ≤ roomNumerator) (k : natAbs y ≤ maxNumerator) where
   fits : SFits w64 (toZ w64 (ofZ w64 x) +ℤ toZ w64 (ofZ w64 y))
-  fits = op-fits w64 (x ∷ y ∷ []) (roomNumerator ∷ roomNumerator ∷ []) (h, (k, tt)) (var 0 ⊞ var 1) tt
+  fits = op-fits w64 (x ∷ y ∷ []) (roomNumerator ∷ maxNumerator ∷ []) (h, (k, tt)) (var 0 ⊞ var 1) tt
 
   is : toZ w64 (ofZ w64 (toZ w64 (ofZ w64 x) +ℤ toZ w64 (ofZ w64 y))) ≡ x +ℤ y
-  is = machine-is w64 (x ∷ y ∷ []) (roomNumerator ∷ roomNumerator ∷ []) (h, (k, tt)) (var 0 ⊞ var 1) tt
+  is = machine-is w64 (x ∷ y ∷ []) (roomNumerator ∷ maxNumerator ∷ []) (h, (k, tt)) (var 0 ⊞ var 1) tt
 
 -- where all eight are read
 abbrev start : tie.After-t31 → tie.Start

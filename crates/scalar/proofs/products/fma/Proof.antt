@@ -5,10 +5,10 @@ use Prim.Native.Nat.{_+_, _*_, _-_, _^_}
 use native.Mathlib.Omega.{arith}
 use lib.IntN.{ℤ}
 use Rattle.algebra.specs.Dyadic.{frac, by}
-use Rattle.exact.specs.Exact.{numbers, exact, numberOf}
-use Rattle.exact.specs.Inner.Sizes.{Within, roomNumerator}
+use Rattle.exact.specs.Exact.{numbers, exact, maxNumerator, numberOf}
+use Rattle.exact.specs.Inner.Sizes.{Within}
 use Rattle.exact.proofs.Exact.{exacts}
-use Rattle.exact.proofs.Align.{raised, scaled-none, product-within, factor-within, small, fused}
+use Rattle.exact.proofs.Align.{raised, scaled-none, product-within, factor-within, small, roomy, fused}
 use Rattle.scalar.specs.Calls.{value, scalarOf}
 use borrow.Author.Needs.{needs}
 use Rattle.scalar.proofs.products.fma.Statement.{statement}
@@ -34,7 +34,7 @@ aligned-sum-requires c κs =
       omega arith,
       (
         omega (arith, s .pre .1 .0 .exponent, s .pre .1 .1 .exponent),
-        (s .pre .0 .size, small (s .args .x .e + s .args .y .e) _ (omega (arith, s .pre .1 .0 .exponent, s .pre .1 .1 .exponent)) (term m)),
+        (roomy _ (s .pre .0 .size), small (s .args .x .e + s .args .y .e) _ (omega (arith, s .pre .1 .0 .exponent, s .pre .1 .1 .exponent)) (term m)),
       ),
     )
 
@@ -49,8 +49,8 @@ aligned-sum-requires-2 c κs =
       (
         omega (arith, s .pre .0 .exponent),
         (
-          small e _ (s .pre .0 .exponent) (raised 8 f e _ (omega arith) (term m)),
-          subst (Within roomNumerator) (scaled-none (value (s .args .acc) .num) (f - e) none) (s .pre .0 .size),
+          roomy _ (small e _ (s .pre .0 .exponent) (raised 8 f e _ (omega arith) (term m))),
+          subst (Within maxNumerator) (scaled-none (value (s .args .acc) .num) (f - e) none) (s .pre .0 .size),
         ),
       ),
     )

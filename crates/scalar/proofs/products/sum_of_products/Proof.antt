@@ -6,7 +6,7 @@ use Rattle.algebra.specs.Dyadic.{frac, by}
 use Rattle.exact.specs.Exact.{numbers, exact, numberOf}
 use Rattle.exact.specs.Inner.Sizes.{Within, roomExponent}
 use Rattle.exact.proofs.Exact.{exacts}
-use Rattle.exact.proofs.Align.{raised, product-within, factor-within, small, fused-both}
+use Rattle.exact.proofs.Align.{raised, product-within, factor-within, small, roomy, fused-both}
 use Rattle.scalar.specs.Calls.{value, scalarOf}
 use borrow.Author.Needs.{needs}
 use Rattle.scalar.proofs.products.sum_of_products.Statement.{statement}
@@ -50,7 +50,7 @@ aligned-sum-requires c κs =
     let a = s m .args in
     let e = a .x .e + a .p .e in
     let f = a .y .e + a .q .e in
-    (omega arith, (omega (arith, right-low m), (small f _ (right-low m) (raised 8 e f _ (omega arith) (left m)), small f _ (right-low m) (right m))))
+    (omega arith, (omega (arith, right-low m), (roomy _ (small f _ (right-low m) (raised 8 e f _ (omega arith) (left m))), small f _ (right-low m) (right m))))
 
 aligned-sum-requires-2 : tie.Need-aligned-sum-requires-2
 aligned-sum-requires-2 c κs =
@@ -58,7 +58,7 @@ aligned-sum-requires-2 c κs =
     let a = s m .args in
     let e = a .x .e + a .p .e in
     let f = a .y .e + a .q .e in
-    (omega arith, (omega (arith, left-low m), (small e _ (left-low m) (raised 8 f e _ (omega arith) (right m)), small e _ (left-low m) (left m))))
+    (omega arith, (omega (arith, left-low m), (roomy _ (small e _ (left-low m) (raised 8 f e _ (omega arith) (right m))), small e _ (left-low m) (left m))))
 
 returns : tie.Need-returns
 returns c =
