@@ -35,16 +35,16 @@ fn layered(row: Row, gates: usize) -> Row {
     Row { ends: Some((0..count).step_by(gates).map(|start| (start + gates).min(count) as u32).collect()), ..row }
 }
 
-/// 48 h with a t behind each and a cnot behind every third; a measure into bit 0 after the 24th and after the last if asked for.
-fn deep(n: u32, measures: bool) -> Vec<[u32; 3]> {
+/// So many h with a t behind each and a cnot behind every third; a measure into bit 0 after half of them and after the last if asked for.
+fn deep(n: u32, weight: u32, measures: bool) -> Vec<[u32; 3]> {
     let mut gates = Vec::new();
-    for i in 0..48 {
+    for i in 0..weight {
         let q = i % n;
         gates.extend([[H, q, 0], [T, q, 0]]);
         if n > 1 && i % 3 == 2 {
             gates.push([CNOT, q, (q + 1) % n]);
         }
-        if measures && (i == 23 || i == 47) {
+        if measures && (i + 1 == weight / 2 || i + 1 == weight) {
             gates.push([MEASURE, q, 0]);
         }
     }
@@ -67,10 +67,13 @@ fn rows() -> Vec<Row> {
         rows.push(row("h and t on all", false, n, 0, &gates));
     }
     for n in up_to(4) {
-        rows.push(row("deep, weight 48", true, n, 0, &deep(n, false)));
+        rows.push(row("deep, weight 48", true, n, 0, &deep(n, 48, false)));
     }
     for n in up_to(4) {
-        rows.push(row("deep, two measures into one bit", true, n, 1, &deep(n, true)));
+        rows.push(row("deep, weight 56", true, n, 0, &deep(n, 56, false)));
+    }
+    for n in up_to(4) {
+        rows.push(row("deep, two measures into one bit", true, n, 1, &deep(n, 48, true)));
     }
     // twelve gates in 64 branches are over the term limit at 4 qubits; six bits are over the cell limit at 3
     for n in up_to(3) {
@@ -382,7 +385,7 @@ fn main() {
         if only.as_ref().is_some_and(|o| !name.contains(o.as_str())) {
             continue;
         }
-        let w = row("compare", false, 4, measures as u32, &deep(4, measures)).words;
+        let w = row("compare", false, 4, measures as u32, &deep(4, 48, measures)).words;
         let (left, _) = agreed(&w, None);
         let right = left.clone();
         for calls in [&ARCHIVE, &PLAIN] {

@@ -78,7 +78,7 @@ static void gate(uint32_t kind, uint32_t a, uint32_t b, uint32_t c) {
     gate_words += 5;
 }
 
-/* every kind that fits n qubits, on every qubit, `splits` measures and resets, a weight of at most 48 */
+/* every kind that fits n qubits, on every qubit, `splits` measures and resets, a weight of at most 56 */
 static void all_kinds(uint32_t n, int splits) {
     gate_words = 0;
     qubits = n;

@@ -1,7 +1,7 @@
 //! The cases: each set is a number of cases and a rule from a case's number and a seed to the case.
 use crate::calls::CEILINGS;
 use crate::calls::kind::{CH, CNOT, H, MEASURE, RESET, RZ, SX, T, X};
-use crate::checks::{Case, Operation, weight};
+use crate::checks::{Case, MAX_WEIGHT, NARROW, NARROW_EXPONENT, Operation, WIDEST, weight};
 use crate::lent::Rng;
 use crate::rust::Words;
 use std::sync::LazyLock;
@@ -114,7 +114,7 @@ fn gate(rng: &mut Rng, n: u32, bits: u32, kinds: &[u32]) -> Option<[u32; 5]> {
     Some(g)
 }
 
-/// A sound circuit: at most so many gates, a weight of at most 48, at most `splits` measures and resets.
+/// A sound circuit: at most so many gates, a weight of at most MAX_WEIGHT, at most `splits` measures and resets.
 fn circuit(rng: &mut Rng, n: u32, bits: u32, length: u64, splits: u32) -> Words {
     let mut kinds = PLAIN.to_vec();
     // measures and resets often enough to matter
@@ -123,7 +123,7 @@ fn circuit(rng: &mut Rng, n: u32, bits: u32, length: u64, splits: u32) -> Words 
     for _ in 0..rng.below(length + 1) {
         let Some(g) = gate(rng, n, bits, &kinds) else { break };
         let split = (g[0] == MEASURE || g[0] == RESET) as u32;
-        if split > left || weight(&gates) + weight(&g) > 48 {
+        if split > left || weight(&gates) + weight(&g) > MAX_WEIGHT {
             continue;
         }
         left -= split;
@@ -170,7 +170,7 @@ fn many_branches(_: u64, rng: &mut Rng) -> Case {
         words.gates.extend(gate(rng, n, bits, &[H, T, SX]).unwrap());
         splits += 1;
     }
-    if weight(&words.gates) > 48 {
+    if weight(&words.gates) > MAX_WEIGHT {
         words.gates.truncate(100);
     }
     Case::Channel { words, limits: CEILINGS, extra: (0, 0) }
@@ -205,7 +205,7 @@ fn syllables(rng: &mut Rng, n: u32, target: usize) -> Vec<u32> {
 }
 
 fn hard_of(rng: &mut Rng, n: u32, measures: u64) -> Case {
-    let target = 40 + rng.below(9) as usize;
+    let target = MAX_WEIGHT - rng.below(9) as usize;
     let mut gates = syllables(rng, n, target);
     for _ in 0..measures {
         let at = rng.below(gates.len() as u64 / 5 + 1) as usize * 5;
@@ -234,11 +234,11 @@ fn hard_four(_: u64, rng: &mut Rng) -> Case {
     hard_of(rng, 4, 0)
 }
 
-/// Weights about 48: the Rust is asked up to 48 on short strings of h, document 01 above.
+/// Weights about MAX_WEIGHT: the Rust is asked up to it on short strings of h, document 01 above.
 fn weight_edges(i: u64, rng: &mut Rng) -> Case {
     let n = 1 + (i % 2) as u32;
     let mut gates = Vec::new();
-    for _ in 0..46 + i % 6 {
+    for _ in 0..MAX_WEIGHT as u64 - 2 + i % 6 {
         let kinds: &[u32] = if n > 1 { &[H, SX, CH] } else { &[H, SX] };
         gates.extend(gate(rng, n, 0, kinds).unwrap());
     }
@@ -357,7 +357,7 @@ fn comparison(_: u64, rng: &mut Rng) -> Case {
         // one gate more, one changed, another store
         2 => {
             if let Some(g) = gate(rng, n, bits, &PLAIN) {
-                if weight(&right.gates) + weight(&g) <= 48 {
+                if weight(&right.gates) + weight(&g) <= MAX_WEIGHT {
                     right.gates.extend(g);
                 }
             }
@@ -383,8 +383,8 @@ fn comparison(_: u64, rng: &mut Rng) -> Case {
 
 /// A word that may do harm where it is put.
 fn harmful(rng: &mut Rng) -> i64 {
-    let words = [0, 1, 2, 3, 4, 5, 8, 16, 32, 60, 61, 64, 65, 83, 87, 166, -1, -2, 1 << 28, 1 << 31, (1 << 32) - 1, 1 << 32, 1 << 59,
-        (1 << 60) - 1, 1 << 60, (1 << 60) + 1, -(1 << 60), -(1 << 60) - 1, i64::MAX, i64::MIN];
+    let words = [0, 1, 2, 3, 4, 5, 8, 16, 32, 60, 61, 64, 65, 83, 87, 166, -1, -2, NARROW, 1 << 31, (1 << 32) - 1, 1 << 32, WIDEST / 2,
+        WIDEST - 1, WIDEST, WIDEST + 1, -WIDEST, -WIDEST - 1, i64::MAX, i64::MIN];
     *rng.pick(&words)
 }
 
@@ -411,7 +411,7 @@ fn damaged(i: u64, rng: &mut Rng) -> Case {
         let (r, c, part) = (rng.below(d), rng.below(d), rng.below(4));
         sets.clear();
         for o in 0..d {
-            let (mut value, e) = (*rng.pick(&[1i64 << 60, (1 << 60) - 1, 1 << 59, -(1 << 60), -(1 << 59), 1, -1, 0]), *rng.pick(&[0, 0, 0, 0, 1, 60]));
+            let (mut value, e) = (*rng.pick(&[WIDEST, WIDEST - 1, WIDEST / 2, -WIDEST, -WIDEST / 2, 1, -1, 0]), *rng.pick(&[0, 0, 0, 0, 1, 60]));
             if e > 0 && value % 2 == 0 {
                 value -= value.signum() - (value == 0) as i64;
             }
@@ -529,7 +529,7 @@ fn layers(i: u64, rng: &mut Rng) -> Case {
     let bits = *rng.pick(&[0, 1, 1, 2, 2, 5, 33]);
     let mut words = circuit(rng, n, bits, if n == 3 { 7 } else if n > 3 { 30 } else { 10 }, 3);
     if rng.one_in(40) {
-        words.gates.extend((0..49).flat_map(|_| [H, 0, 0, 0, 0]));
+        words.gates.extend((0..=MAX_WEIGHT).flat_map(|_| [H, 0, 0, 0, 0]));
     }
     let mut ends = layering(rng, &words.gates);
     // a layer of measures, on different qubits and maybe into one bit
@@ -589,11 +589,11 @@ fn phases(_: u64, rng: &mut Rng) -> Case {
         4 => [1, 0, 0, 2, 0],
         5 => [0, 0, 0, 0, 0],
         6 => [-1, 2, 2, 1, 2],
-        _ => cell(rng, &[0, 1, 2, 5, 1 << 20, (1 << 27) + 1], &[0, 1, 3]),
+        _ => cell(rng, &[0, 1, 2, 5, 1 << 20, NARROW / 2 + 1], &[0, 1, 3]),
     };
     let mut sets = Vec::new();
     for _ in 0..if rng.one_in(3) { 1 + rng.below(2) } else { 0 } {
-        let value = *rng.pick(&[0, 1, -1, 2, (1 << 28) - 1, 1 << 28, (1 << 28) + 1, -(1 << 28), 1 << 60, (1 << 60) + 1, 28, 29, 60, 61, i64::MIN]);
+        let value = *rng.pick(&[0, 1, -1, 2, NARROW - 1, NARROW, NARROW + 1, -NARROW, WIDEST, WIDEST + 1, NARROW_EXPONENT, NARROW_EXPONENT + 1, 60, 61, i64::MIN]);
         sets.push((rng.one_in(2), rng.next() >> 1, value));
     }
     let d = 1usize << n;
@@ -607,11 +607,11 @@ fn phases(_: u64, rng: &mut Rng) -> Case {
 
 fn scalars(_: u64, rng: &mut Rng) -> Case {
     use Operation::*;
-    let bounds = [0, 1, 2, 3, 1 << 27, 1 << 28, 1 << 29, 1 << 31, 1 << 32, 1 << 59, 1 << 60, 1 << 61, i64::MAX];
-    let narrow = [0, 1, 2, 3, 5, 1 << 14, 1 << 27, (1 << 28) - 3, 1 << 28];
-    let exponents = [0, 0, 0, 1, 2, 27, 28, 29, 30, 58, 59, 60, 60, 61, 62, -1, 1 << 32, i64::MAX, i64::MIN];
-    let sound = [0, 0, 1, 2, 3, 27, 28];
-    let wide = [0, 1, 3, 1 << 20, (1 << 59) - 2, (1 << 60) - 3, 1 << 60];
+    let bounds = [0, 1, 2, 3, NARROW / 2, NARROW, NARROW * 2, 1 << 31, 1 << 32, WIDEST / 2, WIDEST, WIDEST * 2, i64::MAX];
+    let narrow = [0, 1, 2, 3, 5, 1 << 14, NARROW / 2, NARROW - 3, NARROW];
+    let exponents = [0, 0, 0, 1, 2, 27, 28, NARROW_EXPONENT, NARROW_EXPONENT + 1, 58, 59, 60, 60, 61, 62, -1, 1 << 32, i64::MAX, i64::MIN];
+    let sound = [0, 0, 1, 2, 3, 27, 28, NARROW_EXPONENT];
+    let wide = [0, 1, 3, 1 << 20, WIDEST / 2 - 2, WIDEST - 3, WIDEST];
     let any = |rng: &mut Rng| cell(rng, &bounds, &exponents);
     let operation = match rng.below(14) {
         0 => Integer((*rng.pick(&bounds)).saturating_add(*rng.pick(&[0, 1, -1])).wrapping_mul(*rng.pick(&[1, -1]))),
@@ -649,10 +649,10 @@ pub fn sets() -> Vec<Set> {
         Set { name: "random-4", about: "random circuits of 4 qubits", count: 300, quick: 2, case: random_four },
         Set { name: "branches", about: "64 branches", count: 1000, quick: 20, case: many_branches },
         Set { name: "unitaries", about: "random unitaries of 0 to 5 qubits", count: 6000, quick: 200, case: random_unitary },
-        Set { name: "hard", about: "weights 40 to 48, 1 and 2 qubits", count: 3000, quick: 30, case: hard_small },
-        Set { name: "hard-3", about: "weights 40 to 48, 3 qubits", count: 200, quick: 1, case: hard_three },
-        Set { name: "hard-4", about: "weights 40 to 48, 4 qubits", count: 12, quick: 0, case: hard_four },
-        Set { name: "weights", about: "weights 46 to 51", count: 180, quick: 36, case: weight_edges },
+        Set { name: "hard", about: "weights 48 to 56, 1 and 2 qubits", count: 3000, quick: 30, case: hard_small },
+        Set { name: "hard-3", about: "weights 48 to 56, 3 qubits", count: 200, quick: 1, case: hard_three },
+        Set { name: "hard-4", about: "weights 48 to 56, 4 qubits", count: 12, quick: 0, case: hard_four },
+        Set { name: "weights", about: "weights 54 to 59", count: 180, quick: 36, case: weight_edges },
         Set { name: "limits", about: "limits at their edges", count: 8000, quick: 400, case: limit_edges },
         Set { name: "faulty", about: "faulty circuits", count: 20000, quick: 800, case: faulty },
         Set { name: "short", about: "short buffers", count: 3000, quick: 200, case: short_buffers },

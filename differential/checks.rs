@@ -8,9 +8,10 @@ use crate::semantics::test_support::Scalar;
 use std::collections::{BTreeMap, HashSet};
 
 /// Calls compared, by name: with the Rust, with document 01 alone (the plain C version and the rules in this file), and how often with each reply. A
-/// reply that the Rust does not have (8, 9, 10) is document 01's, also where the Rust was asked.
+/// reply that the Rust does not have (8, 9, 10) is document 01's, also where the Rust was asked. Beside them, by call, the largest numerator, without its
+/// sign, and the largest exponent of the words that were equal to the Rust's.
 #[derive(Default, Clone)]
-pub struct Counts(pub BTreeMap<&'static str, (u64, u64, BTreeMap<String, u64>)>);
+pub struct Counts(pub BTreeMap<&'static str, (u64, u64, BTreeMap<String, u64>)>, pub BTreeMap<&'static str, (i64, i64)>);
 
 impl Counts {
     fn add(&mut self, call: &'static str, rust: bool, reply: impl ToString) {
@@ -22,6 +23,15 @@ impl Counts {
         }
         *n.2.entry(format!("{:>3}", reply.to_string())).or_default() += 1;
     }
+    fn larger(&mut self, call: &'static str, (n, e): (i64, i64)) {
+        let largest = self.1.entry(call).or_default();
+        *largest = (largest.0.max(n), largest.1.max(e));
+    }
+    fn met(&mut self, call: &'static str, entries: &[i64]) {
+        let cells = || entries.chunks_exact(5);
+        let n = cells().flat_map(|x| &x[..4]).map(|n| n.abs()).max();
+        self.larger(call, (n.unwrap_or(0), cells().map(|x| x[4]).max().unwrap_or(0)));
+    }
     pub fn join(&mut self, other: &Counts) {
         for (call, n) in &other.0 {
             let sum = self.0.entry(call).or_default();
@@ -30,6 +40,9 @@ impl Counts {
             for (reply, m) in &n.2 {
                 *sum.2.entry(reply.clone()).or_default() += m;
             }
+        }
+        for (call, largest) in &other.1 {
+            self.larger(call, *largest);
         }
     }
     pub fn total(&self) -> u64 {
@@ -87,14 +100,16 @@ fn same_words(what: &str, got: &[i64], want: &[i64], source: &str) -> Fault {
 
 // ---- document 01's rules, as far as they say whether the Rust can be asked
 
-const WIDEST: i64 = 1 << 60;
-const NARROW: i64 = 1 << 28;
+pub const WIDEST: i64 = 1 << 61;
+pub const NARROW: i64 = 1 << 29;
+pub const NARROW_EXPONENT: i64 = 29;
+pub const MAX_WEIGHT: usize = 56;
 
 fn well_formed(x: &[i64]) -> bool {
     x[..4].iter().all(|n| (-WIDEST..=WIDEST).contains(n)) && (0..=60).contains(&x[4]) && (x[4] == 0 || x[..4].iter().any(|n| n & 1 == 1))
 }
 fn narrow(x: &[i64]) -> bool {
-    x[..4].iter().all(|n| (-NARROW..=NARROW).contains(n)) && x[4] <= 28
+    x[..4].iter().all(|n| (-NARROW..=NARROW).contains(n)) && x[4] <= NARROW_EXPONENT
 }
 /// The words of an exact number, where it is in range.
 fn fitting(s: &Scalar) -> Option<[i64; 5]> {
@@ -221,7 +236,7 @@ fn both(ask: Ask, w: &Words, limits: &[u64; 6], extra: (i64, i64)) -> Result<Rep
 /// The verdict due where the Rust accepts: the questions that it does not ask.
 fn added(w: &Words, limits_need: (usize, usize), extra: (i64, i64)) -> u32 {
     let lent = lengths(limits_need, extra);
-    if weight(&w.gates) > 48 {
+    if weight(&w.gates) > MAX_WEIGHT {
         7
     } else if lent.0 < limits_need.0 || lent.1 < limits_need.1 {
         8
@@ -231,7 +246,7 @@ fn added(w: &Words, limits_need: (usize, usize), extra: (i64, i64)) -> u32 {
 }
 
 fn askable(w: &Words, limits: &[u64]) -> bool {
-    gates_well_formed(&w.gates) && limits.iter().zip(&CEILINGS).all(|(l, c)| l <= c) && weight(&w.gates) <= 48
+    gates_well_formed(&w.gates) && limits.iter().zip(&CEILINGS).all(|(l, c)| l <= c) && weight(&w.gates) <= MAX_WEIGHT
 }
 
 /// Whether the Rust can be asked for a channel.
@@ -259,6 +274,7 @@ fn channel_reply(w: &Words, limits: &[u64; 6], extra: (i64, i64), counts: &mut C
             let want = rust::layout(c.quantum_dim, c.num_cbits, &order, c.blocks.iter())
                 .ok_or_else(|| format!("stores: the archive {order:?}, the Rust {:?}", c.blocks.keys().collect::<Vec<_>>()))?;
             same_words("channel", &got.result, &want, "the Rust")?;
+            got.result[4..].chunks_exact(size).for_each(|record| counts.met("circuit_channel", &record[3..]));
             Ok((got, Some(c)))
         }
     }
@@ -284,7 +300,12 @@ fn unitary(w: &Words, limits: &[u64; 6], extra: (i64, i64), counts: &mut Counts)
         Err(e) => same("verdict and index", (got.verdict, got.index), rust::refusal(e), "the Rust"),
         Ok(m) => {
             same("verdict and index", (got.verdict, got.index), (added(w, need(w, true), extra), 0), "document 01")?;
-            if got.verdict != 0 { Ok(()) } else { same_words("unitary", &got.result, &rust::cells(&m).unwrap(), "the Rust") }
+            if got.verdict != 0 {
+                return Ok(());
+            }
+            same_words("unitary", &got.result, &rust::cells(&m).unwrap(), "the Rust")?;
+            counts.met("circuit_unitary", &got.result);
+            Ok(())
         }
     }
 }

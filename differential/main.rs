@@ -132,5 +132,8 @@ fn main() {
     }
     let rust: u64 = counts.0.values().map(|n| n.0).sum();
     println!("| all | {rust} | {} | |", counts.total() - rust);
+    for (call, (n, e)) in &counts.1 {
+        println!("{}{call}: the largest numerator is {n}, the largest exponent {e}", if call == counts.1.keys().next().unwrap() { "\n" } else { "" });
+    }
     println!("\n{} comparisons of {cases} cases in {:.0} s, 0 disagreements, seed {}", counts.total(), start.elapsed().as_secs_f64(), o.seed);
 }

@@ -17,7 +17,7 @@
  * is only read (const) may be the same in all of them.
  *
  * Words are int64_t. A scalar is five of them, n0 n1 n2 n3 e: the number (n0 + n1·√2 + n2·i + n3·i·√2) / 2^e in lowest form (e is 0 or some
- * numerator is odd), numerators from −2^60 to 2^60, e from 0 to 60. It is narrow if they lie within 2^28 either way and e is at most 28.
+ * numerator is odd), numerators from −2^61 to 2^61, e from 0 to 60. It is narrow if they lie within 2^29 either way and e is at most 29.
  * In the sizes below n is the number of qubits and d = 2^n.
  */
 #ifndef FOREITUKA_HEADER
@@ -45,7 +45,7 @@ enum {
     FOREITUKA_STORE = 4,            /* the initial store has another length than the bit count, or a byte above 1 */
     FOREITUKA_GATES = 5,            /* a malformed gate; its index is given. Or a length that is no multiple of 5; index 0 */
     FOREITUKA_CEILING = 6,          /* a limit is above its ceiling */
-    FOREITUKA_WEIGHT = 7,           /* h, ch and sx number more than 48 */
+    FOREITUKA_WEIGHT = 7,           /* h, ch and sx number more than 56 */
     FOREITUKA_SHORT = 8,            /* too few words for the result or the work; too few words for gates or bytes for a text */
     FOREITUKA_LARGE = 9,            /* a number too large: a result out of range, an operand that is not narrow */
     FOREITUKA_MALFORMED = 10,       /* a scalar, matrix or channel that is none */
@@ -100,7 +100,7 @@ enum {
     FOREITUKA_MAX_OPERATIONS = 1024,
     FOREITUKA_MAX_BRANCHES = 64,
     FOREITUKA_MAX_CLASSICAL_BITS = 64,
-    FOREITUKA_MAX_WEIGHT = 48
+    FOREITUKA_MAX_WEIGHT = 56
 };
 #define FOREITUKA_DEFAULT_LIMITS                                                                                              \
     { FOREITUKA_MAX_QUBITS, FOREITUKA_MAX_MATRIX_CELLS, FOREITUKA_MAX_MULTIPLY_TERMS, FOREITUKA_MAX_OPERATIONS,               \

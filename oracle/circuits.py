@@ -1,5 +1,5 @@
 """Random circuits as gate words."""
-from rules import (CH, CNOT, CSWAP, CCX, CCZ, CZ, CY, H, MEASURE, RESET, RZ, S, SDG, SWAP, SX, T, TDG, THREE, TWO, WEIGHT, X, Y, Z, arity)
+from rules import (CH, CNOT, CSWAP, CCX, CCZ, CZ, CY, H, MAX_WEIGHT, MEASURE, RESET, RZ, S, SDG, SWAP, SX, T, TDG, THREE, TWO, WEIGHT, X, Y, Z, arity)
 
 PLAIN = [H, X, Z, S, SDG, T, TDG, RZ, CNOT, CZ, CCX, CCZ, Y, SX, SWAP, CY, CH, CSWAP]
 HARD = [H, T, CH, CNOT, CCX, SX]
@@ -18,7 +18,7 @@ def gate(rng, n, kinds, bits=0):
     return (kind, *words, rng.randrange(8) if kind == RZ else 0)
 
 
-def circuit(rng, n, length, kinds, bits=0, weight=48, splits=6):
+def circuit(rng, n, length, kinds, bits=0, weight=MAX_WEIGHT, splits=6):
     """Up to `length` gates within a weight and a number of measures and resets."""
     out = []
     for _ in range(length):

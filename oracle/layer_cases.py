@@ -12,7 +12,7 @@ import sys
 from ask import ask, blocks
 from circuit_cases import BAD_GATES, BIG, over, shown
 from circuits import PLAIN, circuit, flat, text
-from rules import CCX, CEILINGS, CNOT, H, MEASURE, RESET, SWAP, X, channel_sizes, channel_verdict, channel_words, checksum, gates, layer_faults, qubits, store_order
+from rules import CCX, CEILINGS, CNOT, H, MAX_WEIGHT, MEASURE, RESET, SWAP, X, channel_sizes, channel_verdict, channel_words, checksum, gates, layer_faults, qubits, store_order
 
 KIND = 7
 FULL = list(CEILINGS)
@@ -69,9 +69,9 @@ def inputs(rng):
     for g in BAD_GATES[:12]:  # 4 to 6 before 11 and 12
         yield FULL, 2, 1, [0], flat([x, x, g]), [9], ROOM
         yield FULL, 2, 1, [0], flat([g, x, x]), [3], ROOM
-    heavy = flat([(H, 0, 0, 0, 0)] * 49)
-    yield FULL, 1, 0, [], heavy, list(range(1, 50)), ROOM  # 7
-    yield FULL, 1, 0, [], heavy, [49], ROOM  # 12 before 7
+    heavy = flat([(H, 0, 0, 0, 0)] * (MAX_WEIGHT + 1))
+    yield FULL, 1, 0, [], heavy, list(range(1, MAX_WEIGHT + 2)), ROOM  # 7
+    yield FULL, 1, 0, [], heavy, [MAX_WEIGHT + 1], ROOM  # 12 before 7
     yield FULL, 1, 1, [], flat([x, x]), [2], ROOM  # 12 before 4
     yield FULL, 1, 1, [], flat([x, x]), [1, 2], ROOM  # 4
     yield FULL, 1, 0, [], [1, 2, 3], [7], ROOM  # 5 before 11

@@ -9,7 +9,7 @@ import sys
 
 from ask import ask, refusal
 from circuits import PLAIN, circuit, flat, syllables, text
-from rules import CEILINGS, CH, CNOT, H, MEASURE, RESET, RX, RZ, X, channel_verdict, gates
+from rules import CEILINGS, CH, CNOT, H, MAX_WEIGHT, MEASURE, RESET, RX, RZ, X, channel_verdict, gates
 
 SEED = 1936
 RESULT, WORK = 5200, 2000
@@ -67,7 +67,7 @@ def rule_texts():
     yield from (given(2, [], [(CNOT, 0, 0, 0, 0)]), given(1, [0], [h, (MEASURE, 0, 1, 0, 0)]), given(0, [], [x]))  # 3
     yield from (given(1, [2], [h]), given(1, [0, 255], []), given(9, [2], []))  # 4
     yield from (given(1, [], [h, h, (27, 0, 0, 0, 0)]), given(1, [2], [(H, 0, 0, 0, 1)]), given(1, [], [(RZ, 0, 0, 0, 9)]))  # 5
-    yield from (given(1, [], [h] * 48), given(1, [], [h] * 49), given(2, [], [(CH, 0, 1, 0, 0)] * 49))  # 7
+    yield from (given(1, [], [h] * MAX_WEIGHT), given(1, [], [h] * (MAX_WEIGHT + 1)), given(2, [], [(CH, 0, 1, 0, 0)] * (MAX_WEIGHT + 1)))  # 7
     yield from (given(3, [], []), given(4, [0], [measure] * 2), given(2, [0] * 3, [(MEASURE, j % 2, j, 0, 0) for j in range(3)]), given(2, [0], [measure] * 5))  # 8
     yield from (given(2, [0, 0], [(MEASURE, 0, 0, 0, 0), (MEASURE, 1, 1, 0, 0)]), given(2, [1], [measure] * 3), given(1, [0] * 6, [(MEASURE, 0, j, 0, 0) for j in range(6)]))
 

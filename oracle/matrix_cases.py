@@ -8,7 +8,7 @@ import sys
 
 from ask import ask, matrix
 from circuits import HARD, PLAIN, circuit, flat, text
-from rules import OMEGA, ONE, ZERO, add, lowest, mul, narrow, neg, well_formed
+from rules import MAX_NUMERATOR, NARROW_EXPONENT, NARROW_NUMERATOR, OMEGA, ONE, ZERO, add, lowest, mul, narrow, neg, well_formed
 
 SEED = 63829
 DIMS = (1, 2, 4, 8, 16, 32)
@@ -83,8 +83,9 @@ def pairs(rng):
         out.append(((dim, words(dim, u)), (dim, words(dim, scaled(u, OMEGA[3])))))
         out.append(((dim, words(dim, u)), (dim, words(dim, spoilt))))
     # narrow edges, and past them
-    edge = [(2**28, 0, 0, 0, 0), (-2**28, 2**28, -2**28, 2**28, 0), (1, 0, 0, 0, 28), (2**28, 1, 0, 0, 28), (2**28 + 1, 0, 0, 0, 0),
-            (-2**28 - 1, 0, 0, 0, 0), (1, 0, 0, 0, 29), (2**60, 0, 0, 0, 0), (0, 0, 0, 2**28 + 1, 1), (0, -2**60, 1, 0, 60)]
+    w, e, top = NARROW_NUMERATOR, NARROW_EXPONENT, MAX_NUMERATOR
+    edge = [(w, 0, 0, 0, 0), (-w, w, -w, w, 0), (1, 0, 0, 0, e), (w, 1, 0, 0, e), (w + 1, 0, 0, 0, 0),
+            (-w - 1, 0, 0, 0, 0), (1, 0, 0, 0, e + 1), (top, 0, 0, 0, 0), (0, 0, 0, w + 1, 1), (0, -top, 1, 0, 60)]
     for s in edge:
         for dim in (1, 2):
             u = {(dim - 1, dim - 1): s}
@@ -93,12 +94,12 @@ def pairs(rng):
             out.append(((dim, words(dim, {})), (dim, words(dim, u))))
             out.append(((dim, words(dim, u)), (2 * dim, words(2 * dim, {(0, 0): ONE}))))
     # malformed words, on either side
-    bad = [(2**60 + 1, 0, 0, 0, 0), (0, 0, -2**60 - 1, 0, 0), (2, 0, 0, 0, 1), (0, 0, 0, 0, 1), (1, 0, 0, 0, 61), (1, 0, 0, 0, -1), (4, 2, 0, 6, 3), (1, 0, 0, 0, 2**40)]
+    bad = [(top + 1, 0, 0, 0, 0), (0, 0, -top - 1, 0, 0), (2, 0, 0, 0, 1), (0, 0, 0, 0, 1), (1, 0, 0, 0, 61), (1, 0, 0, 0, -1), (4, 2, 0, 6, 3), (1, 0, 0, 0, 2**40)]
     for s in bad:
         dim = rng.choice([1, 2, 4])
         good = (dim, words(dim, {(0, 0): ONE}))
         spoilt = (dim, words(dim, {(0, 0): ONE, (dim - 1, dim - 1): s}))
-        out += [(good, spoilt), (spoilt, good), (spoilt, (2, words(2, {(0, 0): (2**28 + 1, 0, 0, 0, 0)})))]
+        out += [(good, spoilt), (spoilt, good), (spoilt, (2, words(2, {(0, 0): (w + 1, 0, 0, 0, 0)})))]
     for dim, length in ((0, 0), (3, 45), (5, 125), (6, 180), (33, 0), (64, 0), (2, 19), (2, 21), (1, 0), (1, 4), (1, 6), (4, 20), (4, 75), (8, 5)):
         short = (dim, [0] * length)
         good = (2, words(2, {(0, 0): ONE}))

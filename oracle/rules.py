@@ -3,13 +3,18 @@
 Used where the Rust cannot be asked (refusals 5 to 10, buffers, record order). Entries of matrices and blocks come from the Rust.
 """
 
+# ---- the largest sizes, either way, and the largest exponents and weight
+MAX_NUMERATOR, MAX_EXPONENT = 2**61, 60
+NARROW_NUMERATOR, NARROW_EXPONENT = 2**29, 29
+MAX_WEIGHT = 56
+
 # ---- scalars: (n0, n1, n2, n3, e)
 ZERO = (0, 0, 0, 0, 0)
 ONE = (1, 0, 0, 0, 0)
 
 
 def in_range(s):
-    return all(abs(n) <= 2**60 for n in s[:4]) and 0 <= s[4] <= 60
+    return all(abs(n) <= MAX_NUMERATOR for n in s[:4]) and 0 <= s[4] <= MAX_EXPONENT
 
 
 def is_lowest(s):
@@ -21,7 +26,7 @@ def well_formed(s):
 
 
 def narrow(s):
-    return all(abs(n) <= 2**28 for n in s[:4]) and 0 <= s[4] <= 28
+    return all(abs(n) <= NARROW_NUMERATOR for n in s[:4]) and 0 <= s[4] <= NARROW_EXPONENT
 
 
 def lowest(s):
@@ -166,7 +171,7 @@ def channel_verdict(limits, n, bits, store, words, result, work, ends=None):
     b, v, d = 2**s, 2**min(s, t), 2**n
     if v * d**4 + (3 * b + 8) * d * d > limits[1] or 2 * len(gs) * b * d**3 + b * d**4 > limits[2]:
         return (1, 0)
-    if weight(gs) > 48:
+    if weight(gs) > MAX_WEIGHT:
         return (7, 0)
     want = channel_sizes(n, gs)
     if result < want[0] or work < want[1]:
@@ -188,7 +193,7 @@ def unitary_verdict(limits, n, words, result, work):
         return (1, 0)
     if fault := gate_faults(gs, n, None, True):
         return fault
-    if weight(gs) > 48:
+    if weight(gs) > MAX_WEIGHT:
         return (7, 0)
     want = unitary_sizes(n)
     if result < want[0] or work < want[1]:

@@ -8,15 +8,15 @@ import random
 import sys
 
 from ask import ask
-from rules import ZERO, narrow, in_range, is_lowest, lowest, well_formed
+from rules import MAX_NUMERATOR, NARROW_EXPONENT, NARROW_NUMERATOR, ZERO, narrow, in_range, is_lowest, lowest, well_formed
 
 SEED = 20261110
 NAMES = ["integer", "zero", "i", "inv_sqrt_two", "omega", "add", "neg", "half", "conj", "mul"]
 ONE_OPERAND, TWO_OPERANDS = (6, 7, 8), (5, 9)
-TOP = 2**60
-NUMERATORS = [0, 1, 2, 3, 2**28 - 1, 2**28, 2**28 + 1, 2**31, 2**53, TOP - 1, TOP, TOP + 1, 2**61, 2**63 - 1]
+TOP = MAX_NUMERATOR
+NUMERATORS = [0, 1, 2, 3, NARROW_NUMERATOR - 1, NARROW_NUMERATOR, NARROW_NUMERATOR + 1, 2**31, 2**53, TOP - 1, TOP, TOP + 1, 2 * TOP, 2**63 - 1]
 NUMERATORS += [-n for n in NUMERATORS[1:]] + [-2**63]
-EXPONENTS = [0, 1, 2, 27, 28, 29, 59, 60, 61, 64, 2**32 - 1]
+EXPONENTS = [0, 1, 2, NARROW_EXPONENT - 1, NARROW_EXPONENT, NARROW_EXPONENT + 1, 59, 60, 61, 64, 2**32 - 1]
 
 
 def scalar(rng, size, most):
@@ -65,12 +65,13 @@ def cases(rng):
         out += [(call, scalar(rng, 9, 3), any_scalar(rng)) for _ in range(5)]
         out += [(call, any_scalar(rng), scalar(rng, 9, 3)) for _ in range(5)]
         out += [(call, scalar(rng, 9, 3), scalar(rng, 9, 3)) for _ in range(20)]
-        out += [(call, scalar(rng, 2**28, 28), scalar(rng, 2**28, 28)) for _ in range(40)]
-    wide = [(n, 0, 0, 0, 0) for n in (2**28, 2**28 + 1, -2**28, -2**28 - 1)] + [(1, 0, 0, 0, 28), (1, 0, 0, 0, 29)]
+        out += [(call, scalar(rng, NARROW_NUMERATOR, NARROW_EXPONENT), scalar(rng, NARROW_NUMERATOR, NARROW_EXPONENT)) for _ in range(40)]
+    m = NARROW_NUMERATOR
+    wide = [(n, 0, 0, 0, 0) for n in (m, m + 1, -m, -m - 1)] + [(1, 0, 0, 0, NARROW_EXPONENT), (1, 0, 0, 0, NARROW_EXPONENT + 1)]
     for x in wide:
         out += [(9, x, (1, 0, 0, 0, 0)), (9, (1, 0, 0, 0, 0), x), (9, ZERO, x), (9, x, ZERO)]
-    extreme = (2**28, 2**28, -2**28, 2**28, 0)
-    out += [(9, extreme, (a, b, c, d, 0)) for a in (2**28, -2**28) for b in (2**28, -2**28) for c in (2**28, -2**28) for d in (2**28, -2**28)]
+    extreme = (m, m, -m, m, 0)
+    out += [(9, extreme, (a, b, c, d, 0)) for a in (m, -m) for b in (m, -m) for c in (m, -m) for d in (m, -m)]
     out += [(5, scalar(rng, TOP, 60), scalar(rng, TOP, 60)) for _ in range(30)]
     out += [(5, *edge_sum(rng)) for _ in range(60)]
     for e in (0, 1, 30, 59, 60):  # equal exponents, where the sum is reduced
@@ -78,11 +79,11 @@ def cases(rng):
             x = (*(rng.choice([rng.randint(-TOP, TOP), TOP, -TOP, 1]) | (1 if e else 0) for _ in range(4)), e)
             y = (*(rng.choice([rng.randint(-TOP, TOP), TOP - 1, -TOP, -1, -x[i]]) for i in range(4)), e)
             out.append((5, x, y))
-    one, tiny = (1, 0, 0, 0, 0), (1, 0, 0, 0, 60)
-    out += [(5, one, tiny), (5, one, (-1, 0, 0, 0, 60)), (5, (TOP, 0, 0, 0, 0), tiny), (5, tiny, (TOP, 0, 0, 0, 0)), (5, (TOP, 0, 0, 0, 0), one)]
-    for at in range(4):  # 2 + (−2^60 + √2)/2^60, and the same at other numerators: only the aligned operand is out of range
+    one, two, tiny = (1, 0, 0, 0, 0), (2, 0, 0, 0, 0), (1, 0, 0, 0, 60)
+    out += [(5, one, tiny), (5, one, (-1, 0, 0, 0, 60)), (5, two, tiny), (5, two, (-1, 0, 0, 0, 60)), (5, (TOP, 0, 0, 0, 0), tiny), (5, tiny, (TOP, 0, 0, 0, 0)), (5, (TOP, 0, 0, 0, 0), one)]
+    for at in range(4):  # 4 + (−2^61 + √2)/2^60, and the same at other numerators: only the aligned operand is out of range
         x, y = [0] * 5, [0] * 5
-        x[at], y[at], y[at ^ 1], y[4] = 2, -TOP, 1, 60
+        x[at], y[at], y[at ^ 1], y[4] = 4, -TOP, 1, 60
         out += [(5, tuple(x), tuple(y)), (5, tuple(y), tuple(x))]
     for at in range(5):  # not in lowest form, at exponent 1
         x = tuple(1 if j == 4 else 2 if j == at else 0 for j in range(5))

@@ -10,11 +10,11 @@ import sys
 
 from ask import ask, blocks
 from circuits import text
-from rules import ONE, ZERO, block_at, channel_words, checksum, effects_fit, lowest, read_channel
+from rules import MAX_NUMERATOR, ONE, ZERO, block_at, channel_words, checksum, effects_fit, lowest, read_channel
 
 SEED = 4096
 CASES = 320
-TOP = 2**60
+TOP = MAX_NUMERATOR
 
 
 def pattern(length):
