@@ -54,6 +54,7 @@ enum {
     FOREITUKA_TEXT = 13,            /* a text of another form than read_qasm's, or a number above 4,294,967,295; its position is given */
     FOREITUKA_NAME = 14,            /* another word where a gate's name or a register is due; its position is given. Or, from write_qasm, a gate
                                        whose kind has no name; its index is given */
+    FOREITUKA_SCHEDULE = 15,        /* a list and its table are no schedule of another list; the first position at fault is given, 0 where lengths differ */
     FOREITUKA_SAME = 100,           /* compare: no entry differs */
     FOREITUKA_DIMENSIONS = 101,     /* compare: dimensions or bit counts differ */
     FOREITUKA_ENTRY = 102,          /* compare: an entry differs; place and scalars say which */

@@ -5,7 +5,7 @@ use Prim.Native.Nat.{ℕ, _+_, _-_, _<_, _≤_}
 use native.Mathlib.Omega.{arith}
 use lib.ListN.{getD, take, drop}
 use Rattle.verdict.specs.declared.Verdict.{Verdict}
-use Rattle.verdict.specs.declared.Verdict.the-variants.{Accepted, OverLimit, UnsupportedAt, OperandAt, BadStore, MalformedAt, OverCeiling, TooHeavy, ShortBuffer, TooLarge, Malformed, BadLayers, ClashAt, BadText, UnknownNameAt}
+use Rattle.verdict.specs.declared.Verdict.the-variants.{Accepted, OverLimit, UnsupportedAt, OperandAt, BadStore, MalformedAt, OverCeiling, TooHeavy, ShortBuffer, TooLarge, Malformed, BadLayers, ClashAt, BadText, UnknownNameAt, NotScheduleAt}
 use Rattle.verdict.specs.Verdict.{verdictNumber}
 use Rattle.answers.specs.Reasons.{reason}
 
@@ -26,15 +26,16 @@ sentences =
     ++ reason (ClashAt 0)
     ++ reason BadText
     ++ reason (UnknownNameAt 0)
+    ++ reason (NotScheduleAt 0)
 
 abbrev starts : List ℕ
-starts = 0 ∷ 24 ∷ 165 ∷ 259 ∷ 366 ∷ 456 ∷ 607 ∷ 661 ∷ 723 ∷ 795 ∷ 878 ∷ 959 ∷ 1053 ∷ 1147 ∷ 1225 ∷ 1330 ∷ []
+starts = 0 ∷ 24 ∷ 165 ∷ 259 ∷ 366 ∷ 456 ∷ 607 ∷ 661 ∷ 723 ∷ 795 ∷ 878 ∷ 959 ∷ 1053 ∷ 1147 ∷ 1225 ∷ 1330 ∷ 1489 ∷ []
 
 -- number k has the sentence of v
 pub record Part (v : Verdict) (k : ℕ) : Type 0 where
-  pub few : k + 1 < 16
+  pub few : k + 1 < 17
   pub rises : getD starts k 0 ≤ getD starts (k + 1) 0
-  pub inside : getD starts (k + 1) 0 ≤ 1330
+  pub inside : getD starts (k + 1) 0 ≤ 1489
   pub is : take (getD starts (k + 1) 0 - getD starts k 0) (drop (getD starts k 0) sentences) ≡ reason v
 
 part : (v : Verdict) → Part v (verdictNumber v)
@@ -53,6 +54,7 @@ part BadLayers = record { few = omega arith; rises = omega arith; inside = omega
 part (ClashAt i) = record { few = omega arith; rises = omega arith; inside = omega arith; is = refl }
 part BadText = record { few = omega arith; rises = omega arith; inside = omega arith; is = refl }
 part (UnknownNameAt i) = record { few = omega arith; rises = omega arith; inside = omega arith; is = refl }
+part (NotScheduleAt i) = record { few = omega arith; rises = omega arith; inside = omega arith; is = refl }
 
 pub part-of : (v : Verdict) {k : ℕ} → k ≡ verdictNumber v → Part v k
 part-of v e = subst (Part v) (sym e) (part v)

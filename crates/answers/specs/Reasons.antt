@@ -3,7 +3,7 @@ use mathlib.Core.List.{List}
 use Prim.Native.Nat.{ℕ}
 use Prim.Native.String.{String}
 use Rattle.verdict.specs.declared.Verdict.{Verdict}
-use Rattle.verdict.specs.declared.Verdict.the-variants.{Accepted, OverLimit, UnsupportedAt, OperandAt, BadStore, MalformedAt, OverCeiling, TooHeavy, ShortBuffer, TooLarge, Malformed, BadLayers, ClashAt, BadText, UnknownNameAt}
+use Rattle.verdict.specs.declared.Verdict.the-variants.{Accepted, OverLimit, UnsupportedAt, OperandAt, BadStore, MalformedAt, OverCeiling, TooHeavy, ShortBuffer, TooLarge, Malformed, BadLayers, ClashAt, BadText, UnknownNameAt, NotScheduleAt}
 use Rattle.answers.specs.Utf8.{utf8}
 
 abbrev pub sentence : Verdict → String
@@ -22,6 +22,7 @@ sentence BadLayers = "The ends of the layers do not rise from at least 1 to the 
 sentence (ClashAt i) = "This gate shares a qubit or a bit with an earlier gate of its layer: move it to another layer."
 sentence BadText = "The text is not OpenQASM 2 in the form that is read: correct it at this place."
 sentence (UnknownNameAt i) = "This gate or register is not known here: use a gate that can be read and written, or a declared register."
+sentence (NotScheduleAt i) = "The new list is no schedule of the old one at this gate: list each old gate once, by its old position, and keep the order of gates that share a qubit or a bit."
 
 abbrev pub reason : Verdict → List ℕ
 reason v = utf8 (sentence v)

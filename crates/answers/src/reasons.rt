@@ -6,10 +6,10 @@ ghost use Rattle.text.specs.Inner.Written.{Written};
 ghost use Rattle.answers.specs.Reasons.{reason};
 
 // How many verdicts there are.
-const VERDICTS: usize = 15;
+const VERDICTS: usize = 16;
 
 // The sentences in the order of the verdicts' numbers, end to end.
-const SENTENCES: [u8; 1330] = *b"The circuit is accepted.\
+const SENTENCES: [u8; 1489] = *b"The circuit is accepted.\
     The circuit is over a limit on qubits, classical bits, gates, branches or size: make it smaller, or raise that limit, at most to its ceiling.\
     This gate is not supported: write it with gates that are, where rz turns by multiples of pi/4.\
     This gate names a qubit or a bit that is not there, or a qubit twice: name different ones, numbered from 0.\
@@ -23,7 +23,8 @@ const SENTENCES: [u8; 1330] = *b"The circuit is accepted.\
     The ends of the layers do not rise from at least 1 to the number of gates: correct their list.\
     This gate shares a qubit or a bit with an earlier gate of its layer: move it to another layer.\
     The text is not OpenQASM 2 in the form that is read: correct it at this place.\
-    This gate or register is not known here: use a gate that can be read and written, or a declared register.";
+    This gate or register is not known here: use a gate that can be read and written, or a declared register.\
+    The new list is no schedule of the old one at this gate: list each old gate once, by its old position, and keep the order of gates that share a qubit or a bit.";
 
 // Where each begins, and the end of the last.
 const STARTS: [usize; VERDICTS + 1] = [
@@ -43,6 +44,7 @@ const STARTS: [usize; VERDICTS + 1] = [
     1147,
     1225,
     1330,
+    1489,
 ];
 
 // Puts the sentence of a verdict.

@@ -3,7 +3,7 @@ use mathlib.Core.Bool.{Bool}
 use Prim.Native.Nat.{ℕ}
 use lib.Dec.{eqb}
 use Rattle.verdict.specs.declared.Verdict.{Verdict}
-use Rattle.verdict.specs.declared.Verdict.the-variants.{Accepted, OverLimit, UnsupportedAt, OperandAt, BadStore, MalformedAt, OverCeiling, TooHeavy, ShortBuffer, TooLarge, Malformed, BadLayers, ClashAt, BadText, UnknownNameAt}
+use Rattle.verdict.specs.declared.Verdict.the-variants.{Accepted, OverLimit, UnsupportedAt, OperandAt, BadStore, MalformedAt, OverCeiling, TooHeavy, ShortBuffer, TooLarge, Malformed, BadLayers, ClashAt, BadText, UnknownNameAt, NotScheduleAt}
 
 abbrev pub verdictNumber : Verdict → ℕ
 verdictNumber Accepted = 0
@@ -21,6 +21,7 @@ verdictNumber BadLayers = 11
 verdictNumber (ClashAt i) = 12
 verdictNumber BadText = 13
 verdictNumber (UnknownNameAt i) = 14
+verdictNumber (NotScheduleAt i) = 15
 
 -- 0 where the verdict names no index
 abbrev pub verdictIndex : Verdict → ℕ
@@ -39,6 +40,7 @@ verdictIndex BadLayers = 0
 verdictIndex (ClashAt i) = i
 verdictIndex BadText = 0
 verdictIndex (UnknownNameAt i) = i
+verdictIndex (NotScheduleAt i) = i
 
 abbrev pub accepted : Verdict → Bool
 accepted v = eqb (verdictNumber v) 0

@@ -2,7 +2,7 @@
 ghost use mathlib.Core.Path.{_≡_};
 ghost use Rattle.verdict.specs.Verdict.{verdictNumber, verdictIndex, accepted};
 
-// In the order of document 01's numbers, from 0 to 14.
+// In the order of document 01's numbers, from 0 to 15.
 pub enum Verdict {
     Accepted,
     OverLimit,
@@ -19,6 +19,7 @@ pub enum Verdict {
     ClashAt(usize),
     BadText,
     UnknownNameAt(usize),
+    NotScheduleAt(usize),
 }
 
 impl Verdict {
@@ -41,6 +42,7 @@ impl Verdict {
             Verdict::ClashAt(_) => 12,
             Verdict::BadText => 13,
             Verdict::UnknownNameAt(_) => 14,
+            Verdict::NotScheduleAt(_) => 15,
         }
     }
 
@@ -64,6 +66,7 @@ impl Verdict {
             Verdict::ClashAt(i) => i,
             Verdict::BadText => 0,
             Verdict::UnknownNameAt(i) => i,
+            Verdict::NotScheduleAt(i) => i,
         }
     }
 
