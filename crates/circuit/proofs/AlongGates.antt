@@ -13,7 +13,7 @@ use Rattle.verdict.specs.Verdict.{accepted}
 use Rattle.verdict.specs.Questions.{Question, firstNo}
 use Rattle.verdict.proofs.Questions.{Refuses, after-yes, after-no}
 use Rattle.gate.specs.declared.judge.Asking.{Asking}
-use Rattle.gate.specs.declared.judge.Asking.the-variants.{Channel, Unitary}
+use Rattle.gate.specs.declared.judge.Asking.the-variants.{Channel, Unitary, Placing}
 use Rattle.gate.specs.Gate.{Gate, gateSize, gateAt, gatesFrom}
 use Rattle.gate.specs.Questions.{gateQuestions}
 use Rattle.gate.proofs.Listed.{gates-more, gates-none}
@@ -22,6 +22,7 @@ use Rattle.circuit.specs.Questions.{gatesQuestions}
 pub gate-refuses : (a : Asking) (n i : ℕ) (g : Gate) → All Refuses (gateQuestions a n i g)
 gate-refuses (Channel m) n i g = (refl, (refl, (refl, tt)))
 gate-refuses Unitary n i g = (refl, (refl, (refl, tt)))
+gate-refuses (Placing m) n i g = (refl, (refl, tt))
 
 pub gates-refuse : (a : Asking) (n i : ℕ) (gs : List Gate) → All Refuses (gatesQuestions a n i gs)
 gates-refuse a n i [] = tt

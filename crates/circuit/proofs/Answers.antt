@@ -13,7 +13,7 @@ use Rattle.verdict.specs.Verdict.{accepted}
 use Rattle.verdict.specs.Questions.{Question, firstNo}
 use Rattle.verdict.proofs.Questions.{yes, Refuses, all-yes}
 use Rattle.gate.specs.declared.judge.Asking.{Asking}
-use Rattle.gate.specs.declared.judge.Asking.the-variants.{Channel, Unitary}
+use Rattle.gate.specs.declared.judge.Asking.the-variants.{Channel, Unitary, Placing}
 use Rattle.gate.specs.Gate.{Gate, gateSize, gatesOf, formed, placed, supported}
 use Rattle.gate.specs.Questions.{gateQuestions}
 use Rattle.gate.specs.Inner.Entries.{valid}
@@ -43,6 +43,7 @@ module _ (p : ℕ → Bool) (four : p 4 ≡ true) (five : p 5 ≡ true) (six : p
   gate-numbers : (a : Asking) (n i : ℕ) (g : Gate) → All Passes (gateQuestions a n i g)
   gate-numbers (Channel m) n i g = (four, (five, (six, tt)))
   gate-numbers Unitary n i g = (four, (five, (six, tt)))
+  gate-numbers (Placing m) n i g = (four, (five, tt))
 
   pub gates-numbers : (a : Asking) (n i : ℕ) (gs : List Gate) → All (λ (q : Question). p (q .number) ≡ true) (gatesQuestions a n i gs)
   gates-numbers a n i [] = tt

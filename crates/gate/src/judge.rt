@@ -24,10 +24,11 @@ pub struct GateWords {
     pub k: u32,
 }
 
-// Which call asks: circuit_channel, with its bit count, or circuit_unitary.
+// Which call asks: circuit_channel, with its bit count; circuit_unitary; or judge_schedule, with its bit count, which leaves question 6 to the other two.
 pub enum Asking {
     Channel(u32),
     Unitary,
+    Placing(u32),
 }
 
 // The gate in the five words from `at` on.
@@ -184,6 +185,10 @@ impl GateWords {
                 let placed = self.is_on_qubits(n);
                 let splits = self.splits();
                 first_fault(i, formed, placed, supported & (splits == 0))
+            }
+            Asking::Placing(bits) => {
+                let placed = self.is_placed(n, bits);
+                first_fault(i, formed, placed, true)
             }
         }
     }

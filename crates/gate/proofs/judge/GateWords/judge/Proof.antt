@@ -1,6 +1,6 @@
--- Three questions and the first that fails, by the call that asks.
+-- The first question that fails, by the call that asks.
 use mathlib.Core.Path.{_∙_, sym, ap}
-use mathlib.Core.Bool.{_&&_}
+use mathlib.Core.Bool.{true, _&&_}
 use lib.Dec.{eqb}
 use borrow.Author.Needs.{needs}
 use Rattle.verdict.specs.Questions.{firstNo}
@@ -37,6 +37,15 @@ splits-requires c κs = search needs
 first-fault-requires-2 : tie.Need-first-fault-requires-2
 first-fault-requires-2 c κs = search needs
 
+enum-known-asking-2 : tie.Need-enum-known-asking-2
+enum-known-asking-2 c = search needs
+
+is-placed-requires-2 : tie.Need-is-placed-requires-2
+is-placed-requires-2 c κs = search needs
+
+first-fault-requires-3 : tie.Need-first-fault-requires-3
+first-fault-requires-3 c κs = search needs
+
 returns : tie.Need-returns
 returns c =
     let p = c .before in
@@ -57,6 +66,16 @@ returns-2 c =
     ∙ (λ j. firstNo (threeAnswers (a .i) (u .before .is-formed .ensures j) (s .before .is-on-qubits .ensures j) (u .is-supported .ensures j && eqb (s .splits .ensures j) 0)))
     ∙ sym (ap (λ (b : Asking). firstNo (gateQuestions b (a .n) (a .i) (gateOf (a .self)))) (k .enum-told .given .1))
 
+returns-3 : tie.Need-returns-3
+returns-3 c =
+    let p = c .before in
+    let k = p .before .before in
+    let u = k .before .before in
+    let a = u .before .before .args in
+    c .first-fault3 .ensures
+    ∙ (λ j. firstNo (threeAnswers (a .i) (u .before .is-formed .ensures j) (p .is-placed2 .ensures j) true))
+    ∙ sym (ap (λ (b : Asking). firstNo (gateQuestions b (a .n) (a .i) (gateOf (a .self)))) (k .asking2 .given .1))
+
 pub judge-spec : {M : Type 1} → statement M
 judge-spec =
     tie.close
@@ -70,5 +89,9 @@ judge-spec =
     is-on-qubits-requires
     splits-requires
     first-fault-requires-2
+    enum-known-asking-2
+    is-placed-requires-2
+    first-fault-requires-3
     returns
-    returns-2)
+    returns-2
+    returns-3)

@@ -1,0 +1,4 @@
+pub mod Along
+pub mod Faults
+pub mod Asked
+pub mod Claims
