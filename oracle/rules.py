@@ -145,11 +145,38 @@ def layer_faults(gs, ends):
     for start, end in zip([0, *ends], ends):
         used = set()
         for i in range(start, end):
-            mine = {("qubit", q) for q in qubits(gs[i])} | ({("bit", gs[i][2])} if gs[i][0] == MEASURE else set())
+            mine = wires(gs[i])
             if used & mine:
                 return (12, i)
             used |= mine
     return None
+
+
+def wires(g):
+    """The qubits and bits that a gate uses."""
+    return {("qubit", q) for q in qubits(g)} | ({("bit", g[2])} if g[0] == MEASURE else set())
+
+
+def schedule_verdict(n, bits, old, new, table):
+    """judge_schedule's questions: (number, index)."""
+    for words in (old, new):
+        if len(words) % 5:
+            return (5, 0)
+        for i, g in enumerate(gates(words)):
+            if malformed(g):
+                return (5, i)
+            if bad_operand(g, n, bits):
+                return (3, i)
+    old, new = gates(old), gates(new)
+    if not len(old) == len(new) == len(table):
+        return (15, 0)
+    used, latest = set(), {}
+    for i, (g, k) in enumerate(zip(new, table)):
+        if k >= len(old) or k in used or old[k] != g or any(latest.get(w, -1) > k for w in wires(g)):
+            return (15, i)
+        used.add(k)
+        latest.update({w: k for w in wires(g)})
+    return (0, 0)
 
 
 def channel_verdict(limits, n, bits, store, words, result, work, ends=None):

@@ -5,3 +5,4 @@ pub mod Stores
 pub mod Channels
 pub mod Demands
 pub mod Layers
+pub mod Schedules

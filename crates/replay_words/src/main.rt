@@ -1,12 +1,15 @@
-// Replays the recorded answers of calls that are given words: the scalar calls, the phase test, and compare, classical_blocks and the lookup of channels.
+// Replays the recorded answers of calls that are given words: the scalar calls, the phase test, compare, classical_blocks and the lookup of channels, and
+// judge_schedule.
 // The text: how many cases there are, then the cases; a case is its kind, its source (0 the Rust, 1 document 01), what the calls are given, and what they
 // answered.
 mod channels;
 mod numbers;
+mod schedules;
 
 use crate::channels::words_case;
 use crate::numbers::phase_case;
 use crate::numbers::scalar_case;
+use crate::schedules::schedule_case;
 use libc::STDIN_FILENO;
 use replay::numeral::read;
 use replay::progress::Progress;
@@ -14,13 +17,14 @@ use replay::progress::read_heading;
 use replay::record::Record;
 
 // Room for the text.
-const TEXT: usize = 220000;
+const TEXT: usize = 250000;
 
 // A case of this kind, behind its heading.
 fn case(kind: u64, text: &[u8], at: usize) -> Record {
     match kind {
         0 => scalar_case(text, at),
         1 => phase_case(text, at),
+        10 => schedule_case(text, at),
         _ => words_case(text, at),
     }
 }
