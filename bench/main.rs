@@ -327,10 +327,11 @@ fn main() {
     let (samples, budget) = if quick { (9, Duration::from_millis(300)) } else { (101, Duration::from_millis(2000)) };
     let (most, rust_budget) = if quick { (3, Duration::from_millis(500)) } else { (11, Duration::from_millis(8000)) };
     let names = ["compare, two equal channels", "compare, two equal channels of two blocks"];
+    let schedules = ["schedule of 1,024 x, in order", "schedule of 1,024 x, reversed"];
     // 1,024 gates on different qubits: kind, qubits of a gate
     let full = [("1,024 x in one layer, refused", X, 1), ("1,024 ccx in one layer, refused", CCX, 3)];
     if let Some(o) = &only {
-        if !rows().iter().map(|r| r.family).chain(names).chain(TEXTS).chain(full.map(|f| f.0)).any(|n| n.contains(o.as_str())) {
+        if !rows().iter().map(|r| r.family).chain(names).chain(TEXTS).chain(full.map(|f| f.0)).chain(schedules).any(|n| n.contains(o.as_str())) {
             eprintln!("no circuit's name has the words {o:?}");
             std::process::exit(2);
         }
@@ -380,6 +381,29 @@ fn main() {
         line.print();
         lines.push(line);
     }
+    // 1,024 gates on different qubits as a schedule of themselves: in order no two are asked whether they share, reversed every two are
+    for (reversed, name) in [false, true].into_iter().zip(schedules).filter(|s| only.as_ref().is_none_or(|o| s.1.contains(o.as_str()))) {
+        let list = |order: &[u32]| order.iter().flat_map(|q| [X, *q, 0, 0, 0]).collect::<Vec<_>>();
+        let mut table: Vec<u32> = (0..1024).collect();
+        let old = list(&table);
+        if reversed {
+            table.reverse();
+        }
+        let new = list(&table);
+        let judge = |calls: &Calls| unsafe {
+            (calls.judge_schedule)(1024, 0, old.as_ptr(), old.len(), new.as_ptr(), new.len(), table.as_ptr(), table.len(), &mut 0)
+        };
+        let mut copy = old.clone();
+        let t = medians(samples, budget, &mut [
+            &mut || assert_eq!(judge(&ARCHIVE), 0),
+            &mut || assert_eq!(judge(&PLAIN), 0),
+            &mut || { black_box(black_box(&old).iter().chain(black_box(&new)).chain(black_box(&table)).fold(0, |a, w| a ^ w)); },
+            &mut || { black_box(&mut copy[..]).copy_from_slice(&new); black_box(&copy); },
+        ]);
+        let line = Line { name: format!("{name} | 1024"), deep: false, rust: f64::NAN, archive: t[0], plain: t[1], floor: t[2], copy: t[3], zeroing: 0.0 };
+        line.print();
+        lines.push(line);
+    }
     for measures in [false, true] {
         let name = names[measures as usize];
         if only.as_ref().is_some_and(|o| !name.contains(o.as_str())) {
@@ -406,8 +430,8 @@ fn main() {
         line.print();
         lines.push(line);
     }
-    println!("\nThe floor: writing the result's words once by memset; for compare, reading both channels' words once; for a refused layer, reading the gates' words once.");
-    println!("The Rust has no layers: beside them stands its channel of the gate list, and nothing beside a refusal that it does not have.");
+    println!("\nThe floor: writing the result's words once by memset; for compare, reading both channels' words once; for a refused layer, reading the gates' words once; for a schedule, those of both lists and the table.");
+    println!("The Rust has no layers: beside them stands its channel of the gate list, and nothing beside a refusal or a schedule, which it does not have.");
     println!("\nGrowth with n: the archive's time for each of the d^4·V entries of a channel, in ns. It is no worse than the work where it does not rise, or");
     println!("rises no faster than the floor's (a result that no longer fits a cache). A dash: no such row; six h and measure on 4 qubits are over the limits.\n");
     println!("| circuit | n = 1 | 2 | 3 | 4 |\n|---|---|---|---|---|");

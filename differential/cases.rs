@@ -555,6 +555,108 @@ fn layers(i: u64, rng: &mut Rng) -> Case {
     Case::Layers { words, ends, limits, extra, shuffle: rng.next() }
 }
 
+// ---- schedules
+
+/// A schedule at random: of the gates whose forerunners are all placed, one after another.
+fn scheduled(rng: &mut Rng, gates: &[u32]) -> (Vec<u32>, Vec<u32>) {
+    let gates: Vec<&[u32]> = gates.chunks_exact(5).collect();
+    let mut left: Vec<usize> = (0..gates.len()).collect();
+    let (mut new, mut table) = (Vec::new(), Vec::new());
+    // of a long list, only the first few that are left may come next
+    while !left.is_empty() {
+        let free: Vec<usize> = (0..left.len().min(40)).filter(|i| left[..*i].iter().all(|j| !share(gates[*j], gates[left[*i]]))).collect();
+        let k = left.remove(*rng.pick(&free));
+        new.extend(gates[k]);
+        table.push(k as u32);
+    }
+    (new, table)
+}
+
+/// One thing wrong, or maybe nothing: two gates exchanged with their entries or without, an entry that is another's or no position, the table read backwards, a word of a gate, a length.
+fn unschedule(rng: &mut Rng, new: &mut Vec<u32>, table: &mut Vec<u32>) {
+    let count = table.len() as u32;
+    let odd = [0, 1, count.saturating_sub(1), count, count + 1, (1 << 31) - 1, 1 << 31, u32::MAX - 1, u32::MAX];
+    let (i, j) = (rng.below(table.len().max(1) as u64) as usize, rng.below(table.len().max(1) as u64) as usize);
+    let (near, exchange) = (i + 1 < table.len(), |new: &mut [u32], i: usize, j: usize| (0..5).for_each(|w| new.swap(5 * i + w, 5 * j + w)));
+    match rng.below(12) {
+        0 | 1 if near => {
+            table.swap(i, i + 1);
+            exchange(new, i, i + 1);
+        }
+        2 | 3 if i < table.len() => {
+            table.swap(i, j);
+            exchange(new, i, j);
+        }
+        4 if i < table.len() => table.swap(i, j),
+        5 if i < table.len() => exchange(new, i, j),
+        6 if i < table.len() => table[i] = table[j],
+        7 if i < table.len() => table[i] = *rng.pick(&odd),
+        8 => {
+            let mut back = vec![0; table.len()];
+            (0..).zip(table.iter()).for_each(|(i, k)| back[*k as usize] = i);
+            *table = back;
+        }
+        9 if !new.is_empty() => {
+            let at = rng.below(new.len() as u64) as usize;
+            new[at] = *rng.pick(&[0, 1, 2, 3, 12, 14, u32::MAX]);
+        }
+        10 => match rng.below(4) {
+            0 => table.push(*rng.pick(&odd)),
+            1 => {
+                table.pop();
+            }
+            2 => new.truncate(new.len().saturating_sub(5)),
+            _ => new.extend([X, 0, 0, 0, 0]),
+        },
+        _ => {
+            new.push(0);
+        }
+    }
+}
+
+fn schedules(i: u64, rng: &mut Rng) -> Case {
+    // no gates, beside tables and lists of other lengths
+    let none: [(&[u32], &[u32]); 6] = [(&[], &[]), (&[], &[0]), (&[], &[u32::MAX]), (&[X, 0, 0, 0, 0], &[0]), (&[X, 0, 0, 0, 0], &[]), (&[X], &[])];
+    if let Some((new, table)) = none.get(i as usize) {
+        let words = Words { qubits: 1, bits: 0, store: vec![], gates: vec![] };
+        return Case::Schedule { words, new: new.to_vec(), table: table.to_vec() };
+    }
+    let long = i % 100 == 99;
+    let n = *rng.pick(if long { &[8, 64, 2000] } else { &[0, 1, 1, 2, 2, 2, 2, 3, 3, 6, 12] });
+    let bits = *rng.pick(&[0, 1, 1, 2, 2, 5, 33]);
+    let mut words = circuit(rng, n, bits, if long { 1500 } else if n == 3 { 7 } else if n > 3 { 20 } else { 10 }, 3);
+    // question 6 is not asked here
+    if rng.one_in(5) {
+        let kind = *rng.pick(&UNSUPPORTED);
+        if let Some(mut g) = gate(rng, n, bits, &[kind]) {
+            g[4] = if kind == RZ { 8 } else { 0 };
+            let at = 5 * rng.below(words.gates.len() as u64 / 5 + 1) as usize;
+            words.gates.splice(at..at, g);
+        }
+    }
+    let (mut new, mut table) = scheduled(rng, &words.gates);
+    if rng.one_in(2) {
+        unschedule(rng, &mut new, &mut table);
+    }
+    // faults in either list, or in both
+    if rng.one_in(8) {
+        let mut other = Words { gates: new.clone(), ..words.clone() };
+        match rng.below(3) {
+            0 => spoil(rng, &mut words),
+            1 => {
+                spoil(rng, &mut other);
+                new = other.gates;
+            }
+            _ => {
+                let at = rng.below(words.gates.len().max(1) as u64) as usize;
+                let odd = *rng.pick(&[2, 27, u32::MAX]);
+                [&mut words.gates, &mut new].into_iter().filter_map(|g| g.get_mut(at)).for_each(|w| *w = odd);
+            }
+        }
+    }
+    Case::Schedule { words, new, table }
+}
+
 // ---- phases and scalars
 
 fn cell(rng: &mut Rng, bounds: &[i64], exponents: &[i64]) -> [i64; 5] {
@@ -658,6 +760,7 @@ pub fn sets() -> Vec<Set> {
         Set { name: "short", about: "short buffers", count: 3000, quick: 200, case: short_buffers },
         Set { name: "compare", about: "pairs of circuits, both orders", count: 12000, quick: 300, case: comparison },
         Set { name: "layers", about: "layered circuits, in order and shuffled", count: 20000, quick: 500, case: layers },
+        Set { name: "schedules", about: "schedules, sound and spoilt", count: 20000, quick: 500, case: schedules },
         Set { name: "damaged", about: "channels with words damaged", count: 20000, quick: 600, case: damaged },
         Set { name: "phases", about: "phase tests, both orders", count: 8000, quick: 300, case: phases },
         Set { name: "scalars", about: "scalar calls at the ranges' ends", count: 100000, quick: 3000, case: scalars },

@@ -5,7 +5,7 @@ use crate::rust::{self, Words};
 use crate::semantics::Matrix;
 use crate::semantics::channel::Channel;
 use crate::semantics::test_support::Scalar;
-use std::collections::{BTreeMap, HashSet};
+use std::collections::{BTreeMap, HashMap, HashSet};
 
 /// Calls compared, by name: with the Rust, with document 01 alone (the plain C version and the rules in this file), and how often with each reply. A
 /// reply that the Rust does not have (8, 9, 10) is document 01's, also where the Rust was asked. Beside them, by call, the largest numerator, without its
@@ -72,6 +72,8 @@ pub enum Case {
     Unitary { words: Words, limits: [u64; 6], extra: (i64, i64) },
     /// layered_channel and its verdict alone, beside circuit_channel on the gate list; then the same with the gates of each layer shuffled, by a seed, and compare of the two.
     Layers { words: Words, ends: Vec<u32>, limits: [u64; 6], extra: (i64, i64), shuffle: u64 },
+    /// judge_schedule; of a schedule that it accepts, both channels and their comparison in both orders.
+    Schedule { words: Words, new: Vec<u32>, table: Vec<u32> },
     /// The channels of two circuits, compared in both orders.
     Compare { left: Words, right: Words },
     /// compare (both orders), classical_blocks and lookup on words of any kind: those of two circuits' channels with words set to values.
@@ -314,16 +316,6 @@ fn unitary(w: &Words, limits: &[u64; 6], extra: (i64, i64), counts: &mut Counts)
 
 /// Number and index of the first of questions 1 to 6 that is answered by no.
 fn words_due(w: &Words, limits: &[u64; 6]) -> Option<(u32, u64)> {
-    let gate = |g: &[u32]| {
-        let qubits = || g[1..1 + qubit_words(g[0])].iter();
-        if !gates_well_formed(g) {
-            Some(5)
-        } else if qubits().any(|q| *q >= w.qubits) || qubits().collect::<HashSet<_>>().len() < qubits().len() || (g[0] == 12 && g[2] >= w.bits) {
-            Some(3)
-        } else {
-            (matches!(g[0], 14 | 17 | 18 | 21..=24) || (g[0] == 7 && g[4] == 8)).then_some(2)
-        }
-    };
     if limits.iter().zip(&CEILINGS).any(|(l, c)| l > c) {
         Some((6, 0))
     } else if w.gates.len() % 5 != 0 {
@@ -331,8 +323,29 @@ fn words_due(w: &Words, limits: &[u64; 6]) -> Option<(u32, u64)> {
     } else if w.gates.len() as u64 / 5 > limits[3] {
         Some((1, 0))
     } else {
-        w.gates.chunks_exact(5).zip(0..).find_map(|(g, i)| gate(g).map(|v| (v, i)))
+        let able = |g: &[u32]| !matches!(g[0], 14 | 17 | 18 | 21..=24) && !(g[0] == 7 && g[4] == 8);
+        w.gates.chunks_exact(5).zip(0..).find_map(|(g, i)| placing_due(g, w).or((!able(g)).then_some(2)).map(|v| (v, i)))
     }
+}
+
+/// 5 or 3, by questions 4 and 5 of a gate.
+fn placing_due(g: &[u32], w: &Words) -> Option<u32> {
+    let qubits = || g[1..1 + qubit_words(g[0])].iter();
+    if !gates_well_formed(g) {
+        Some(5)
+    } else {
+        let apart = qubits().collect::<HashSet<_>>().len() == qubits().len();
+        (qubits().any(|q| *q >= w.qubits) || !apart || (g[0] == 12 && g[2] >= w.bits)).then_some(3)
+    }
+}
+
+/// The qubits and bits that a gate uses.
+fn wires(g: &[u32]) -> Vec<(&'static str, u32)> {
+    let mut own: Vec<(&str, u32)> = g[1..1 + qubit_words(g[0])].iter().map(|q| ("qubit", *q)).collect();
+    if g[0] == 12 {
+        own.push(("bit", g[2]));
+    }
+    own
 }
 
 /// 11 or 12 with its index. The qubits and bits that a layer uses are gathered; the first gate that finds one of its own among them clashes.
@@ -344,11 +357,7 @@ fn layers_due(gates: &[u32], ends: &[u32]) -> Option<(u32, u64)> {
     for layer in edges.windows(2) {
         let mut used = HashSet::new();
         for i in layer[0]..layer[1] {
-            let g = &gates[5 * i..5 * i + 5];
-            let mut own: Vec<(&str, u32)> = g[1..1 + qubit_words(g[0])].iter().map(|q| ("qubit", *q)).collect();
-            if g[0] == 12 {
-                own.push(("bit", g[2]));
-            }
+            let own = wires(&gates[5 * i..5 * i + 5]);
             if own.iter().any(|u| used.contains(u)) {
                 return Some((12, i as u64));
             }
@@ -402,11 +411,77 @@ fn layers(w: &Words, ends: &[u32], limits: &[u64; 6], extra: (i64, i64), shuffle
         return Ok(());
     }
     let (Some(a), Some(b)) = (a, b) else { return Err("accepted, where the Rust has no channel".into()) };
-    for (l, r, p) in [(&x, &y, (&a, &b)), (&y, &x, (&b, &a))] {
-        compare(&l.result, &r.result, Some(p), counts)?;
-        same("compare of shuffled layers", compare_call(&ARCHIVE, &l.result, &r.result)?.0, 100, "the schedule rule")?;
+    same_channel("compare of shuffled layers", (&x, &a), (&y, &b), counts)
+}
+
+/// Two channels are the same, whichever is on the left.
+fn same_channel(what: &str, x: (&Reply, &Channel), y: (&Reply, &Channel), counts: &mut Counts) -> Fault {
+    for (l, r) in [(x, y), (y, x)] {
+        compare(&l.0.result, &r.0.result, Some((l.1, r.1)), counts)?;
+        same(what, compare_call(&ARCHIVE, &l.0.result, &r.0.result)?.0, 100, "the schedule rule")?;
     }
     Ok(())
+}
+
+// ---- schedules
+
+/// The verdict that is due. Each qubit and bit keeps the latest old position of the new gates that have used it, and the next such gate must come behind that.
+fn schedule_due(w: &Words, new: &[u32], table: &[u32]) -> (u32, u64) {
+    let list = |gates: &[u32]| {
+        if gates.len() % 5 != 0 {
+            return Some((5, 0));
+        }
+        gates.chunks_exact(5).zip(0..).find_map(|(g, i)| placing_due(g, w).map(|v| (v, i)))
+    };
+    if let Some(due) = list(&w.gates).or_else(|| list(new)) {
+        return due;
+    }
+    let old: Vec<&[u32]> = w.gates.chunks_exact(5).collect();
+    if new.len() != w.gates.len() || table.len() != old.len() {
+        return (15, 0);
+    }
+    let (mut used, mut latest) = (HashSet::new(), HashMap::new());
+    for (i, (g, k)) in new.chunks_exact(5).zip(table).enumerate() {
+        let own = wires(g);
+        if old.get(*k as usize) != Some(&g) || !used.insert(k) || own.iter().any(|u| latest.get(u).is_some_and(|l| *l > k)) {
+            return (15, i as u64);
+        }
+        latest.extend(own.into_iter().map(|u| (u, k)));
+    }
+    (0, 0)
+}
+
+fn schedule_call(calls: &Calls, w: &Words, new: &[u32], table: &[u32]) -> Result<(u32, u64), String> {
+    let mut rng = Rng(table.len() as u64);
+    let (old, new, table) = (Lent::holding(&mut rng, &w.gates), Lent::holding(&mut rng, new), Lent::holding(&mut rng, table));
+    let mut index = Lent::<u64>::noise(&mut rng, 1);
+    let verdict = unsafe {
+        (calls.judge_schedule)(w.qubits, w.bits, old.ptr(), old.len(), new.ptr(), new.len(), table.ptr(), table.len(), index.mut_ptr())
+    };
+    if !(old.kept() && new.kept() && table.kept() && index.edges_kept()) {
+        return Err(format!("{}: judge_schedule changed other words than its reply's", calls.name));
+    }
+    Ok((verdict, index.words()[0]))
+}
+
+fn schedule(w: &Words, new: &[u32], table: &[u32], counts: &mut Counts) -> Fault {
+    let got = schedule_call(&ARCHIVE, w, new, table)?;
+    counts.add("judge_schedule", false, got.0);
+    same("judge_schedule", got, schedule_call(&PLAIN, w, new, table)?, "plain C")?;
+    same("judge_schedule", got, schedule_due(w, new, table), "the rules of schedules")?;
+    if got.0 != 0 {
+        return Ok(());
+    }
+    let other = Words { gates: new.to_vec(), ..w.clone() };
+    let ((x, a), (y, b)) = (channel_reply(w, &CEILINGS, (0, 0), counts)?, channel_reply(&other, &CEILINGS, (0, 0), counts)?);
+    // an unsupported gate may stand elsewhere; every other reply is the same
+    let shown = |r: &Reply| if r.verdict == 2 { (2, 0) } else { (r.verdict, r.index) };
+    same("circuit_channel of a schedule", shown(&y), shown(&x), "its original")?;
+    if x.verdict != 0 {
+        return Ok(());
+    }
+    let (Some(a), Some(b)) = (a, b) else { return Err("accepted, where the Rust has no channel".into()) };
+    same_channel("compare of a schedule", (&x, &a), (&y, &b), counts)
 }
 
 fn compare_call(calls: &Calls, left: &[i64], right: &[i64]) -> Result<(u32, [u64; 3], [i64; 10]), String> {
@@ -673,6 +748,7 @@ pub fn check(case: &Case, counts: &mut Counts) -> Fault {
         }
         Case::Unitary { words, limits, extra } => unitary(words, limits, *extra, counts),
         Case::Layers { words, ends, limits, extra, shuffle } => layers(words, ends, limits, *extra, *shuffle, counts),
+        Case::Schedule { words, new, table } => schedule(words, new, table, counts),
         Case::Compare { left, right } => {
             let (x, y) = (channel(left, &CEILINGS, (0, 0), counts)?, channel(right, &CEILINGS, (0, 0), counts)?);
             let (Some((x, a)), Some((y, b))) = (x, y) else { return Ok(()) };
@@ -810,6 +886,23 @@ fn smaller(case: &Case) -> Vec<Case> {
             }
             if *extra != (0, 0) {
                 out.push(Case::Layers { words: words.clone(), ends: ends.clone(), limits: *limits, extra: (0, 0), shuffle: *shuffle });
+            }
+            out
+        }
+        Case::Schedule { words, new, table } => {
+            let with = |words: Words, new: Vec<u32>, table: Vec<u32>| Case::Schedule { words, new, table };
+            let mut out: Vec<Case> = smaller_words(words).into_iter().map(|w| with(w, new.clone(), table.clone())).collect();
+            // a new gate and its old one less, and every entry behind that one less
+            for i in 0..table.len().min(new.len() / 5) {
+                let k = table[i];
+                let (mut old, mut rest, mut entries) = (words.gates.clone(), new.clone(), table.clone());
+                if (k as usize) < old.len() / 5 {
+                    old.drain(5 * k as usize..5 * k as usize + 5);
+                }
+                rest.drain(5 * i..5 * i + 5);
+                entries.remove(i);
+                entries.iter_mut().filter(|e| **e > k).for_each(|e| *e -= 1);
+                out.push(with(Words { gates: old, ..words.clone() }, rest, entries));
             }
             out
         }

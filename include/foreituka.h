@@ -141,6 +141,13 @@ uint32_t foreituka_layered_verdict(uint32_t qubits, uint32_t bits, const uint8_t
                                    size_t gate_words, const uint32_t *ends, size_t end_count, const uint64_t limits[6], size_t result_words,
                                    size_t work_words, uint64_t *index);
 
+/* Whether a reordered gate list is a schedule of another: table has for each new gate its old position. Accepted exactly when both lists are well
+ * formed and placed on the qubits and bits (5, 3, the old list first; unsupported gates pass), the table is a permutation, the gates match, and
+ * every two gates that share a qubit or a bit keep their order; then the new list has the channel of the old one wherever that is accepted. There
+ * is no limit on gates. index: the gate's in its list, or the first new position at fault. Replies: 0, 3, 5, 15. */
+uint32_t foreituka_judge_schedule(uint32_t qubits, uint32_t bits, const uint32_t *old_gates, size_t old_words, const uint32_t *new_gates,
+                                  size_t new_words, const uint32_t *table, size_t entries, uint64_t *index);
+
 /* The unitary matrix of a circuit without measures and resets: d² scalars, row by row, no header. result: FOREITUKA_UNITARY_WORDS words or
  * more. work: FOREITUKA_UNITARY_WORK_WORDS or more, treated as above. Replies: 0, 1, 2, 3, 5, 6, 7, 8; limits are asked before gates here. */
 uint32_t foreituka_circuit_unitary(uint32_t qubits, const uint32_t *gates, size_t gate_words, const uint64_t limits[6], int64_t *result,

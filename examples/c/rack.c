@@ -1,7 +1,8 @@
 /*
  * A judge in a control rack: static buffers, no heap. A compiler pass has rewritten the circuit that a lab sent; before the rack runs the
  * new one, it asks whether both do the same, and prints the first difference if not. The rack fires gates in layers: a circuit may come with
- * the ends of its layers, none of which uses a qubit or a classical bit twice. Or it comes as a text in OpenQASM 2.
+ * the ends of its layers, none of which uses a qubit or a classical bit twice; a scheduler hands in the old position of each gate. Or the circuit
+ * comes as a text in OpenQASM 2.
  */
 #include "foreituka.h"
 
@@ -43,6 +44,9 @@ static const uint32_t scheduled[] = {
     FOREITUKA_GATE_MEASURE, 1, 1, 0, 0,
     FOREITUKA_GATE_MEASURE, 0, 0, 0, 0,
 };
+/* the old positions of these gates, by which a scheduler says what it did; and a table that names the first h twice */
+static const uint32_t positions[] = {3, 0, 1, 2, 4, 6, 5};
+static const uint32_t repeated[] = {3, 0, 1, 0, 4, 6, 5};
 /* t turned round */
 static const uint32_t mistaken[] = {
     FOREITUKA_GATE_H,       0, 0, 0, 0,
@@ -137,6 +141,17 @@ static uint32_t check(const circuit *c) {
     return verdict;
 }
 
+/* a schedule by its table: nothing is run, and it has the channel of what was sent */
+static uint32_t check_table(const char *name, const uint32_t *table, size_t entries) {
+    uint64_t index;
+    uint32_t verdict = foreituka_judge_schedule(QUBITS, BITS, sent, COUNT(sent), scheduled, COUNT(scheduled), table, entries, &index);
+    if (verdict == FOREITUKA_ACCEPTED)
+        printf("%s: a schedule\n", name);
+    else
+        printf("%s: refused %" PRIu32 ", index %" PRIu64 "\n", name, verdict, index);
+    return verdict;
+}
+
 /* a circuit that comes as a text */
 static uint32_t check_text(const char *name, const char *text) {
     static uint32_t gates[5 * 16];
@@ -169,6 +184,8 @@ int main(void) {
     setvbuf(stdout, line, _IOLBF, sizeof line); /* else stdio would take a buffer from the heap */
     if (judge(&original, left, &index) != FOREITUKA_ACCEPTED) return 1;
     for (size_t i = 0; i < COUNT(rewritten); i++) wrong |= check(&rewritten[i]) != expected[i];
+    wrong |= check_table("positions", positions, COUNT(positions)) != FOREITUKA_ACCEPTED;
+    wrong |= check_table("repeated", repeated, COUNT(repeated)) != FOREITUKA_SCHEDULE;
     wrong |= check_text("printed", printed) != FOREITUKA_SAME;
     wrong |= check_text("unknown", unknown) != FOREITUKA_NAME;
     wrong |= write_text(&original) != FOREITUKA_ACCEPTED;

@@ -3,4 +3,5 @@ pub mod channels;
 pub mod circuits;
 pub mod matrices;
 pub mod scalars;
+pub mod schedules;
 pub mod texts;
