@@ -8,6 +8,7 @@ use super::judge::qubit_count;
 use scalar::ONE;
 use scalar::Scalar;
 use scalar::ZERO;
+use scalar::powers::power;
 ghost use mathlib.Core.Path.{_≡_};
 ghost use mathlib.Core.Bool.{true};
 ghost use Prim.Native.Nat.{_<_};
@@ -31,8 +32,7 @@ fn phase_table(k: u32) -> [[Scalar; 2]; 2]
 {
     let z = ZERO;
     let o = ONE;
-    let a = Scalar::omega(k);
-    let w = a.value;
+    let w = power(k);
     [[o, z], [z, w]]
 }
 

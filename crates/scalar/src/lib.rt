@@ -7,6 +7,7 @@ ghost use Rattle.scalar.specs.Calls.{value, acceptedAs, accepted, refuse
 ghost use Rattle.scalar.specs.Inner.Fitting.{fittingScalar};
 
 pub mod numerators;
+pub mod powers;
 pub mod products;
 pub mod ranges;
 
@@ -15,6 +16,7 @@ use exact::numerators::product;
 use exact::ranges::can_scale;
 use numerators::aligned_sum;
 use numerators::reduce;
+use powers::power;
 use ranges::are_narrow;
 use ranges::are_well_formed;
 use verdict::Verdict;
@@ -119,18 +121,10 @@ impl Scalar {
     pub fn omega(k: u32) -> Answer
         ensures { λ r. ⌜ r ≡ omegaAnswer k ⌝ }
     {
-        let j = k % 8;
-        let n = match j {
-            0 => [1, 0, 0, 0],
-            1 => [0, 1, 0, 1],
-            2 => [0, 0, 1, 0],
-            3 => [0, -1, 0, 1],
-            4 => [-1, 0, 0, 0],
-            5 => [0, -1, 0, -1],
-            6 => [0, 0, -1, 0],
-            _ => [0, 1, 0, -1],
-        };
-        accept(n, j % 2)
+        Answer {
+            value: power(k),
+            verdict: Verdict::Accepted,
+        }
     }
 
     pub fn add(self, other: Scalar) -> Answer

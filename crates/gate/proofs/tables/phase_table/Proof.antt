@@ -6,11 +6,8 @@ use borrow.Author.Needs.{needs}
 use Rattle.gate.proofs.tables.phase_table.Statement.{statement}
 use Rattle.gate.proofs.tables.phase_table.Tie as tie
 
-omega-requires : tie.Need-omega-requires
-omega-requires c κs = search needs
-
 returns : tie.Need-returns
-returns c = λ i. (scalarOf one ∷ scalarOf none ∷ []) ∷ (scalarOf none ∷ c .before .omega .ensures i .value ∷ []) ∷ []
+returns c = λ i. (scalarOf one ∷ scalarOf none ∷ []) ∷ (scalarOf none ∷ c .power .ensures i ∷ []) ∷ []
 
 pub phase-table-spec : {M : Type 1} → statement M
-phase-table-spec = tie.close (tie.spec omega-requires returns)
+phase-table-spec = tie.close (tie.spec (λ c κs. search needs) returns)
