@@ -10,9 +10,10 @@ mod rust;
 mod semantics;
 mod symbolic_angle;
 
-use calls::kind::{CCX, CH, CNOT, CSWAP, CY, CZ, H, MEASURE, RESET, S, SDG, SWAP, T, TDG, X, Y, Z};
+use calls::kind::{CCX, CH, CNOT, CSWAP, CY, CZ, H, MEASURE, RESET, RZ, S, SDG, SWAP, T, TDG, X, Y, Z};
 use calls::{ARCHIVE, CEILINGS, Calls, PLAIN};
 use rust::Words;
+use semantics::test_support::Scalar;
 use std::hint::black_box;
 use std::time::{Duration, Instant};
 
@@ -97,6 +98,12 @@ fn rows() -> Vec<Row> {
         let gates: Vec<_> = (0..1024).map(|i| [X, i % n, 0]).collect();
         rows.push(row("1,024 x", false, n, 0, &gates));
     }
+    // every power of omega in turn
+    for n in up_to(4) {
+        let mut rz = row("1,024 rz", false, n, 0, &[]);
+        rz.words.gates = (0..1024).flat_map(|i| [RZ, i % n, 0, 0, i % 8]).collect();
+        rows.push(rz);
+    }
     for n in up_to(4) {
         let gates: Vec<_> = (0..1024).map(|i| [X, i % n, 0]).collect();
         rows.push(layered(row("1,024 x in layers of n", false, n, 0, &gates), n as usize));
@@ -122,6 +129,14 @@ fn channel(calls: &Calls, w: &Words, ends: Option<&[u32]>, result: &mut [i64], w
 fn compare(calls: &Calls, left: &[i64], right: &[i64]) -> u32 {
     let (mut place, mut scalars) = ([0; 3], [0; 10]);
     unsafe { (calls.compare)(left.as_ptr(), left.len(), right.as_ptr(), right.len(), place.as_mut_ptr(), scalars.as_mut_ptr()) }
+}
+
+/// The power of omega for each k, five words each.
+fn omega(calls: &Calls, out: &mut [i64]) {
+    for (k, words) in (0..).zip(out.chunks_exact_mut(5)) {
+        unsafe { (calls.scalar_omega)(black_box(k), words.as_mut_ptr()) };
+    }
+    black_box(&out);
 }
 
 /// The median of some times, or the least of them where other work disturbs the machine (--minimum).
@@ -328,10 +343,11 @@ fn main() {
     let (most, rust_budget) = if quick { (3, Duration::from_millis(500)) } else { (11, Duration::from_millis(8000)) };
     let names = ["compare, two equal channels", "compare, two equal channels of two blocks"];
     let schedules = ["schedule of 1,024 x, in order", "schedule of 1,024 x, reversed"];
+    let omegas = "1,024 scalars by omega";
     // 1,024 gates on different qubits: kind, qubits of a gate
     let full = [("1,024 x in one layer, refused", X, 1), ("1,024 ccx in one layer, refused", CCX, 3)];
     if let Some(o) = &only {
-        if !rows().iter().map(|r| r.family).chain(names).chain(TEXTS).chain(full.map(|f| f.0)).chain(schedules).any(|n| n.contains(o.as_str())) {
+        if !rows().iter().map(|r| r.family).chain(names).chain([omegas]).chain(TEXTS).chain(full.map(|f| f.0)).chain(schedules).any(|n| n.contains(o.as_str())) {
             eprintln!("no circuit's name has the words {o:?}");
             std::process::exit(2);
         }
@@ -430,7 +446,28 @@ fn main() {
         line.print();
         lines.push(line);
     }
+    if only.as_ref().is_none_or(|o| omegas.contains(o.as_str())) {
+        let mut answers = Vec::new();
+        for calls in [&ARCHIVE, &PLAIN] {
+            let mut out = vec![-7; 5 * 1024];
+            omega(calls, &mut out);
+            answers.push(out);
+        }
+        assert!(answers[0] == answers[1], "the archive and plain C have other powers of omega");
+        let (mut a, mut b, mut floor, mut copy) = (answers[0].clone(), answers[0].clone(), answers[0].clone(), answers[0].clone());
+        let t = medians(samples, budget, &mut [
+            &mut || omega(&ARCHIVE, &mut a),
+            &mut || omega(&PLAIN, &mut b),
+            &mut || { black_box(&mut floor[..]).fill(0); black_box(&floor); },
+            &mut || { black_box(&mut copy[..]).copy_from_slice(&answers[0]); black_box(&copy); },
+        ]);
+        let power = |k: usize| Scalar::omega((black_box(k) % 256) as u8);
+        assert!(asked("--no-rust") || answers[0].chunks_exact(5).enumerate().all(|(k, w)| rust::cell(&power(k)).unwrap() == w), "the archive and the Rust differ");
+        let rust = rust_median(most, rust_budget, || (0..1024).for_each(|k| { black_box(power(k)); }));
+        Line { name: format!("{omegas} | –"), deep: false, rust, archive: t[0], plain: t[1], floor: t[2], copy: t[3], zeroing: 0.0 }.print();
+    }
     println!("\nThe floor: writing the result's words once by memset; for compare, reading both channels' words once; for a refused layer, reading the gates' words once; for a schedule, those of both lists and the table.");
+    println!("Scalars by omega have no bar.");
     println!("The Rust has no layers: beside them stands its channel of the gate list, and nothing beside a refusal or a schedule, which it does not have.");
     println!("\nGrowth with n: the archive's time for each of the d^4·V entries of a channel, in ns. It is no worse than the work where it does not rise, or");
     println!("rises no faster than the floor's (a result that no longer fits a cache). A dash: no such row; six h and measure on 4 qubits are over the limits.\n");
