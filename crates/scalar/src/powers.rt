@@ -7,31 +7,62 @@ ghost use Rattle.exact.specs.Exact.{numberOf, omega};
 ghost use Rattle.scalar.specs.Calls.{scalarOf};
 ghost use Rattle.scalar.specs.Inner.Powers.{arePowers};
 
-// The numerators of ω^0 to ω^7; the exponent is 1 at an odd power, else 0. Bytes, since there are no statics: where the table is read, it is stored first.
-const POWERS: [[i8; 4]; 8] = [
-    [1, 0, 0, 0],
-    [0, 1, 0, 1],
-    [0, 0, 1, 0],
-    [0, -1, 0, 1],
-    [-1, 0, 0, 0],
-    [0, -1, 0, -1],
-    [0, 0, -1, 0],
-    [0, 1, 0, -1],
+// A scalar in bytes, since there are no statics: where the table is read, the whole of it is stored first.
+struct Small {
+    pub n: [i8; 4],
+    pub e: u8,
+}
+
+// ω^0 to ω^7
+const POWERS: [Small; 8] = [
+    Small {
+        n: [1, 0, 0, 0],
+        e: 0,
+    },
+    Small {
+        n: [0, 1, 0, 1],
+        e: 1,
+    },
+    Small {
+        n: [0, 0, 1, 0],
+        e: 0,
+    },
+    Small {
+        n: [0, -1, 0, 1],
+        e: 1,
+    },
+    Small {
+        n: [-1, 0, 0, 0],
+        e: 0,
+    },
+    Small {
+        n: [0, -1, 0, -1],
+        e: 1,
+    },
+    Small {
+        n: [0, 0, -1, 0],
+        e: 0,
+    },
+    Small {
+        n: [0, 1, 0, -1],
+        e: 1,
+    },
 ];
 
 // The table, which is tested whole.
-fn table() -> [[i8; 4]; 8]
+fn table() -> [Small; 8]
     ensures { λ r. ⌜ arePowers r ≡ true ⌝ }
 {
     POWERS
 }
 
-fn widened(x: [i8; 4], e: u32) -> Scalar
-    ensures { λ r. ⌜ r ≡ scalarOf (frac (numberOf x) e) ⌝ }
+fn widened(s: Small) -> Scalar
+    ensures { λ r. ⌜ r ≡ scalarOf (frac (numberOf (s .n)) (s .e)) ⌝ }
 {
+    let x = s.n;
     Scalar {
         n: [x[0] as i64, x[1] as i64, x[2] as i64, x[3] as i64],
-        e,
+        e: s.e as u32,
     }
 }
 
@@ -42,5 +73,5 @@ pub fn power(k: u32) -> Scalar
     let j = k % 8;
     let t = table();
     let x = t[j as usize];
-    widened(x, j % 2)
+    widened(x)
 }

@@ -1,7 +1,7 @@
 -- `powers::widened` meets its contract: each number is kept.
 use mathlib.Core.Path.{_≡_, ap, _∙_}
 use mathlib.Core.List.{[], _∷_}
-use Prim.Native.Nat.{_<_, _^_}
+use Prim.Native.Nat.{ℕ, _<_, _^_}
 use lib.ListN.{getD}
 use lib.IntN.{ℤ, pos}
 use lib.Signed.{mag}
@@ -22,17 +22,21 @@ module _ (z : ℤ) (h : mag z < 2 ^ 7) where
   kept : toZ w64 (ofZ w64 (toZ w8 (ofZ w8 z))) ≡ z
   kept = ap (λ (x : ℤ). toZ w64 (ofZ w64 x)) (toZ-ofZ byte) ∙ toZ-ofZ (sfits-widen tt byte)
 
+module _ (c : tie.After-x) where
+  abbrev numerator : ℕ → ℤ
+  numerator i = getD (c .before .args .s .n) i (pos 0)
+
 returns : tie.Need-returns
 returns c =
-    let s = c .before .before .before .before .args in
-    let x = s .t1 in
+    let last = c .before in
+    let x = last .before .before .before .before in
     λ i. record {
-      n = kept (getD x 0 (pos 0)) (c .before .before .before .t6 .given) i
-          ∷ kept (getD x 1 (pos 0)) (c .before .before .t10 .given) i
-          ∷ kept (getD x 2 (pos 0)) (c .before .t14 .given) i
-          ∷ kept (getD x 3 (pos 0)) (c .t18 .given) i
+      n = kept (numerator x 0) (last .before .before .before .t5 .given) i
+          ∷ kept (numerator x 1) (last .before .before .t9 .given) i
+          ∷ kept (numerator x 2) (last .before .t13 .given) i
+          ∷ kept (numerator x 3) (last .t17 .given) i
           ∷ [];
-      e = s .e;
+      e = x .before .args .s .e;
     }
 
 pub widened-spec : {M : Type 1} → statement M
@@ -40,11 +44,12 @@ widened-spec =
     tie.close
     (tie.spec
     (λ c. search needs)
-    (λ c. fits (getD (c .before .args .t1) 0 (pos 0)) (c .t6 .given))
+    (λ c. fits (numerator (c .before) 0) (c .t5 .given))
     (λ c. search needs)
-    (λ c. fits (getD (c .before .before .args .t1) 1 (pos 0)) (c .t10 .given))
+    (λ c. fits (numerator (c .before .before) 1) (c .t9 .given))
     (λ c. search needs)
-    (λ c. fits (getD (c .before .before .before .args .t1) 2 (pos 0)) (c .t14 .given))
+    (λ c. fits (numerator (c .before .before .before) 2) (c .t13 .given))
     (λ c. search needs)
-    (λ c. fits (getD (c .before .before .before .before .args .t1) 3 (pos 0)) (c .t18 .given))
+    (λ c. fits (numerator (c .before .before .before .before) 3) (c .t17 .given))
+    (λ c. search needs)
     returns)
