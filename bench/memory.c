@@ -56,6 +56,16 @@ static void layered(void) {
     for (size_t i = 0; i < count; i++) ends[i] = (uint32_t)i + 1;
     reply = foreituka_layered_channel(qubits, bits, store, bits, gates, gate_words, ends, count, limits, left, WORDS(left), work, WORDS(work), &index_of);
 }
+/* gates that share nothing, the last one first */
+static void schedule(void) {
+    static uint32_t reversed[5 * 1024], table[1024];
+    uint32_t count = (uint32_t)(gate_words / 5);
+    for (uint32_t i = 0; i < count; i++) {
+        table[i] = count - 1 - i;
+        memcpy(reversed + 5 * i, gates + 5 * table[i], 5 * sizeof *gates);
+    }
+    reply = foreituka_judge_schedule(qubits, 0, gates, gate_words, reversed, gate_words, table, count, &index_of);
+}
 static void unitary(void) {
     reply = foreituka_circuit_unitary(qubits, gates, gate_words, limits, left, WORDS(left), work, WORDS(work), &index_of);
 }
@@ -181,7 +191,7 @@ static int exact(void) {
 }
 
 /* in the order of the table */
-enum { CHANNEL, LAYERED, UNITARY, COMPARE, BLOCKS, LOOKUP, PHASE, SCALARS, CALLS };
+enum { CHANNEL, LAYERED, SCHEDULE, UNITARY, COMPARE, BLOCKS, LOOKUP, PHASE, SCALARS, CALLS };
 
 int main(void) {
     if (exact()) return fprintf(stderr, "memory: a size of the header is not what the calls ask for; reply %u\n", reply), 1;
@@ -210,7 +220,12 @@ int main(void) {
         if (reply != FOREITUKA_EQUIVALENT) return fprintf(stderr, "memory: not equivalent: %u\n", reply), 1;
     }
     of[SCALARS] = used_by(scalar_calls);
-    static const char *names[CALLS] = {"circuit_channel", "layered_channel", "circuit_unitary", "compare", "classical_blocks", "lookup",
+    qubits = 3 * 1024;
+    gate_words = 0;
+    for (uint32_t i = 0; i < 1024; i++) gate(FOREITUKA_GATE_CCX, 3 * i, 3 * i + 1, 3 * i + 2);
+    of[SCHEDULE] = used_by(schedule);
+    if (reply != FOREITUKA_ACCEPTED) return fprintf(stderr, "memory: schedule refused %u\n", reply), 1;
+    static const char *names[CALLS] = {"circuit_channel", "layered_channel", "judge_schedule", "circuit_unitary", "compare", "classical_blocks", "lookup",
                                        "equivalent_up_to_global_phase", "scalar calls"};
     sizes();
     printf("\n| call | stack, bytes |\n|---|---|\n");

@@ -59,7 +59,7 @@ module _ (ws vs table : List ℕ) (i : ℕ) where
   free g = allBelow i (λ (j : ℕ). not (bars (gatesOf vs) table g entry j))
 
   pub past-end : length ws / gateSize ≤ getD table i 0 → false ≡ sound (gatesOf ws) (gatesOf vs) table i
-  past-end l = sym (ap (λ (b : Bool). b && (alike (getD (gatesOf vs) i idle) (getD (gatesOf ws) entry idle) && free (getD (gatesOf vs) i idle))) (ap (ltb entry) (count-of ws) ∙ le-ltb entry (length ws / gateSize) l))
+  past-end l = let e : ltb entry (length (gatesOf ws)) ≡ false = ap (ltb entry) (count-of ws) ∙ le-ltb entry (length ws / gateSize) l in rw e
 
   pub in-place : getD table i 0 < length ws / gateSize → {g h : Gate} → g ≡ getD (gatesOf vs) i idle → h ≡ getD (gatesOf ws) (getD table i 0) idle
       → (b c : Bool) → b ≡ alike g h → c ≡ allBelow i (λ (j : ℕ). not (bars (gatesOf vs) table g (getD table i 0) j)) → (b && c) ≡ sound (gatesOf ws) (gatesOf vs) table i
