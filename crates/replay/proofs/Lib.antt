@@ -1,3 +1,4 @@
 pub mod Signs
 pub mod Reading
 pub mod Filling
+pub mod Parts

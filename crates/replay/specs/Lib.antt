@@ -6,3 +6,4 @@ pub mod Answers
 pub mod Tally
 pub mod Progress
 pub mod Words
+pub mod Lines

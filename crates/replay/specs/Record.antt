@@ -1,5 +1,5 @@
 -- What a text records: numbers, scalars and bytes, each held against what a call answered.
-use mathlib.Core.Bool.{Bool, false, cond, _&&_}
+use mathlib.Core.Bool.{Bool, true, false, cond, _&&_}
 use mathlib.Core.List.{List, [], _∷_, foldl}
 use Prim.Native.Nat.{ℕ, _+_, _%_}
 use lib.Dec.{eqb, ltb}
@@ -26,6 +26,10 @@ scalarAt t at = record {
 -- whether all that was compared agrees, where the rest begins, and how many numbers were compared
 abbrev pub recordOf : Bool → ℕ → ℕ → Record
 recordOf agrees next compared = record { agrees = agrees; next = next; compared = compared }
+
+-- nothing compared yet
+abbrev pub begun : ℕ → Record
+begun at = recordOf true at 0
 
 -- the next number is n
 abbrev pub withNumber : List ℕ → Record → ℕ → Record

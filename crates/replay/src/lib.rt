@@ -2,6 +2,7 @@
 pub mod answers;
 pub mod calls;
 pub mod count;
+pub mod lines;
 pub mod numeral;
 pub mod progress;
 pub mod record;

@@ -5,8 +5,7 @@ use crate::scalars::read_scalar;
 use cells::CELL;
 use scalar::Scalar;
 ghost use mathlib.Core.Path.{_≡_};
-ghost use mathlib.Core.Bool.{true};
-ghost use Rattle.replay.specs.Record.{recordOf, withNumber, withNumbers, withScalar, withByte, withBytes};
+ghost use Rattle.replay.specs.Record.{begun, withNumber, withNumbers, withScalar, withByte, withBytes};
 
 // Whether all that was compared so far agrees, where the rest of the record begins, and how many numbers were compared. Only the comparisons below
 // change it.
@@ -18,7 +17,7 @@ pub struct Record {
 
 impl Record {
     pub fn begin(at: usize) -> Record
-        ensures { λ r. ⌜ r ≡ recordOf true at 0 ⌝ }
+        ensures { λ r. ⌜ r ≡ begun at ⌝ }
     {
         Record {
             agrees: true,
