@@ -29,13 +29,13 @@ sentences =
     ++ reason (NotScheduleAt 0)
 
 abbrev starts : List ℕ
-starts = 0 ∷ 24 ∷ 165 ∷ 259 ∷ 366 ∷ 456 ∷ 607 ∷ 661 ∷ 723 ∷ 795 ∷ 878 ∷ 959 ∷ 1053 ∷ 1147 ∷ 1225 ∷ 1330 ∷ 1489 ∷ []
+starts = 0 ∷ 24 ∷ 165 ∷ 259 ∷ 366 ∷ 477 ∷ 628 ∷ 682 ∷ 744 ∷ 816 ∷ 899 ∷ 980 ∷ 1074 ∷ 1168 ∷ 1246 ∷ 1351 ∷ 1510 ∷ []
 
 -- number k has the sentence of v
 pub record Part (v : Verdict) (k : ℕ) : Type 0 where
   pub few : k + 1 < 17
   pub rises : getD starts k 0 ≤ getD starts (k + 1) 0
-  pub inside : getD starts (k + 1) 0 ≤ 1489
+  pub inside : getD starts (k + 1) 0 ≤ 1510
   pub is : take (getD starts (k + 1) 0 - getD starts k 0) (drop (getD starts k 0) sentences) ≡ reason v
 
 part : (v : Verdict) → Part v (verdictNumber v)

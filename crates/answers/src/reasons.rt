@@ -9,11 +9,11 @@ ghost use Rattle.answers.specs.Reasons.{reason};
 const VERDICTS: usize = 16;
 
 // The sentences in the order of the verdicts' numbers, end to end.
-const SENTENCES: [u8; 1489] = *b"The circuit is accepted.\
+const SENTENCES: [u8; 1510] = *b"The circuit is accepted.\
     The circuit is over a limit on qubits, classical bits, gates, branches or size: make it smaller, or raise that limit, at most to its ceiling.\
     This gate is not supported: write it with gates that are, where rz turns by multiples of pi/4.\
     This gate names a qubit or a bit that is not there, or a qubit twice: name different ones, numbered from 0.\
-    The initial store does not fit the circuit: give one value for each classical bit, 0 or 1.\
+    The initial store does not fit the circuit: give one value, 0 or 1, for each classical bit, at most 64 of them.\
     This gate's words are malformed, or the list's length is no multiple of 5: give five words a gate, a known kind first, and 0 where a kind uses no word.\
     A limit is above its ceiling: lower it to the ceiling.\
     The gates h, ch and sx number more than 56: use fewer of them.\
@@ -33,18 +33,18 @@ const STARTS: [usize; VERDICTS + 1] = [
     165,
     259,
     366,
-    456,
-    607,
-    661,
-    723,
-    795,
-    878,
-    959,
-    1053,
-    1147,
-    1225,
-    1330,
-    1489,
+    477,
+    628,
+    682,
+    744,
+    816,
+    899,
+    980,
+    1074,
+    1168,
+    1246,
+    1351,
+    1510,
 ];
 
 // Puts the sentence of a verdict.
