@@ -204,9 +204,23 @@ fn syllables(rng: &mut Rng, n: u32, target: usize) -> Vec<u32> {
     gates
 }
 
+/// ch after ch, each controlled by the target before it, with a t now and then, on two qubits or more: exponents come to the largest that a weight allows.
+fn walk(rng: &mut Rng, n: u32, target: usize) -> Vec<u32> {
+    let (mut gates, mut control): (Vec<u32>, u32) = (Vec::new(), rng.below(n as u64) as u32);
+    for _ in 0..target {
+        if rng.one_in(3) {
+            gates.extend([T, rng.below(n as u64) as u32, 0, 0, 0]);
+        }
+        let to = (control + 1 + rng.below(n as u64 - 1) as u32) % n;
+        gates.extend([CH, control, to, 0, 0]);
+        control = to;
+    }
+    gates
+}
+
 fn hard_of(rng: &mut Rng, n: u32, measures: u64) -> Case {
     let target = MAX_WEIGHT - rng.below(9) as usize;
-    let mut gates = syllables(rng, n, target);
+    let mut gates = if n > 1 && rng.one_in(2) { walk(rng, n, target) } else { syllables(rng, n, target) };
     for _ in 0..measures {
         let at = rng.below(gates.len() as u64 / 5 + 1) as usize * 5;
         let g = gate(rng, n, 1, &[MEASURE, MEASURE, RESET]).unwrap();

@@ -11,7 +11,7 @@ import random
 import sys
 
 from ask import ask, blocks, matrix, refusal
-from circuits import HARD, PLAIN, circuit, flat, syllables, text
+from circuits import HARD, PLAIN, circuit, deep, flat, text, walk
 from rules import (CCX, CEILINGS, CH, CNOT, CP, CRZ, CSWAP, H, MAX_WEIGHT, MEASURE, P, RESET, RX, RZ, SWAP, SX, T, X, Z, arity, channel_sizes, channel_verdict,
                    channel_words, checksum, gates, read_channel, store_order, unitary_sizes, unitary_verdict)
 
@@ -88,12 +88,13 @@ def unitary_inputs(rng):
             out.append((full, n, flat(circuit(rng, n, rng.randint(0, 14), PLAIN)), rng.choice([0] * 8 + [1, 2])))
     for j in range(24):  # high weights
         n = rng.choice([1, 2, 2, 3, 3])
-        gs = syllables(rng, n, rng.randint(30, MAX_WEIGHT)) if j % 2 else circuit(rng, n, rng.randint(60, 100), HARD)
+        gs = deep(rng, n, rng.randint(30, MAX_WEIGHT)) if j % 2 else circuit(rng, n, rng.randint(60, 100), HARD)
         out.append((full, n, flat(gs), 0))
     for w in (MAX_WEIGHT - 1, MAX_WEIGHT, MAX_WEIGHT + 1, 60):
         for kind in (H, SX):
             out.append((full, 1, flat([(kind, 0, 0, 0, 0), (T, 0, 0, 0, 0)] * w), 0))
         out.append((full, 2, flat([(CH, 0, 1, 0, 0), (X, 0, 0, 0, 0)] * w), 0))
+        out += [(full, n, flat(walk(rng, n, w)), 0) for n in (2, 3)]
     for _ in range(80):
         n = rng.randint(1, 4)
         out.append((full, n, spoil(rng, circuit(rng, n, rng.randint(0, 5), PLAIN), n), rng.choice([0, 0, 1])))
@@ -166,13 +167,14 @@ def channel_inputs(rng):
         out.append((full, n, 41, store(41), flat(gs), 0))
     for j in range(32):  # high weights
         n = rng.choice([1, 2, 2, 2, 3])
-        gs = syllables(rng, n, rng.randint(30, MAX_WEIGHT)) if j % 2 else circuit(rng, n, rng.randint(40, 80), HARD)
+        gs = deep(rng, n, rng.randint(30, MAX_WEIGHT)) if j % 2 else circuit(rng, n, rng.randint(40, 80), HARD)
         for _ in range(rng.randint(0, 3 if n < 3 else 1)):
             gs.insert(rng.randint(0, len(gs)), rng.choice([(MEASURE, rng.randrange(n), rng.randrange(2), 0, 0), (RESET, rng.randrange(n), 0, 0, 0)]))
         out.append((full, n, 2, store(2), flat(gs), 0))
     for w in (MAX_WEIGHT, MAX_WEIGHT + 1):
         for kind in (H, SX):
             out.append((full, 1, 1, store(1), flat([(kind, 0, 0, 0, 0), (T, 0, 0, 0, 0)] * w + [(MEASURE, 0, 0, 0, 0)]), 0))
+        out.append((full, 2, 1, store(1), flat(walk(rng, 2, w) + [(MEASURE, 0, 0, 0, 0)]), 0))
     for _ in range(140):
         n, bits = rng.randint(0, 3), rng.choice([0, 1, 3])
         gs = circuit(rng, n, rng.randint(0, 5), every, bits, splits=3)

@@ -51,3 +51,20 @@ def syllables(rng, n, weight):
             weight -= g[0] == CH
             out.append(g)
     return out
+
+
+def walk(rng, n, weight):
+    """ch after ch, each controlled by the target before it, with a t now and then, on two qubits or more: the denominators grow with every one, as far as a weight allows."""
+    out, control = [], rng.randrange(n)
+    for _ in range(weight):
+        if rng.random() < 0.3:
+            out.append((T, rng.randrange(n), 0, 0, 0))
+        target = rng.choice([q for q in range(n) if q != control])
+        out.append((CH, control, target, 0, 0))
+        control = target
+    return out
+
+
+def deep(rng, n, weight):
+    """A circuit of this weight whose denominators grow."""
+    return walk(rng, n, weight) if n > 1 and rng.random() < 0.5 else syllables(rng, n, weight)
