@@ -1,13 +1,13 @@
 -- A replay under way: cases one after the other, counted by kind.
 use mathlib.Core.Bool.{Bool, cond}
 use mathlib.Core.List.{List}
-use Prim.Native.Nat.{ℕ}
+use Prim.Native.Nat.{ℕ, zero, suc}
 use lib.Dec.{eqb}
 use Rattle.replay.specs.declared.record.Record.{Record}
 use Rattle.replay.specs.declared.tally.Tally.{Tally}
 use Rattle.replay.specs.declared.progress.Heading.{Heading}
 use Rattle.replay.specs.declared.progress.Progress.{Progress}
-use Rattle.replay.specs.Numerals.{wordNo}
+use Rattle.replay.specs.Numerals.{wordAt, wordNo}
 use Rattle.replay.specs.Tally.{none, withCase}
 
 -- how a case begins: its kind, then 0 for a record of the Rust's
@@ -24,3 +24,17 @@ tallyFor p kind = cond (eqb kind (p .kind)) (p .tally) none
 
 abbrev pub withTurn : Progress → Heading → Record → Progress
 withTurn p h r = progressOf (h .kind) (withCase (tallyFor p (h .kind)) r (h .rust)) (r .next)
+
+-- ---- the whole text, whose cases are held against their records as `case` says of their kind
+module _ (case : ℕ → List ℕ → ℕ → Record) (t : List ℕ) where
+  -- one more case
+  abbrev pub withNext : Progress → Progress
+  withNext p = let h = headingAt t (p .next) in withTurn p h (case (h .kind) t (h .next))
+
+  unfoldable pub withNexts : ℕ → Progress → Progress
+  withNexts zero p = p
+  withNexts (suc n) p = withNexts n (withNext p)
+
+  -- how many cases there are, then the cases
+  abbrev pub replayOf : Progress
+  replayOf = withNexts (wordAt t 0 .size) (progressOf 0 none (wordAt t 0 .next))

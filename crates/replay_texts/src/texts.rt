@@ -18,14 +18,19 @@ const WORDS: usize = 1024;
 
 const BYTES: usize = 300;
 
+fn wide(w: u32) -> u64
+    ensures { λ r. ⌜ r ≡ w ⌝ }
+{
+    w as u64
+}
+
 fn check_words(seen: Record, text: &[u8], words: &[u32]) -> Record
     ensures { λ r. ⌜ r ≡ withNumbers (now (text .entry)) seen (now (words .entry)) ⌝ }
 {
     let mut checked = seen;
     let mut i = 0;
     while i < words.len() {
-        let w = words[i];
-        checked = checked.number(text, w as u64);
+        checked = checked.number(text, wide(words[i]));
         i += 1;
     }
     checked

@@ -1,1 +1,2 @@
 pub mod Schedules
+pub mod Cases

@@ -1,5 +1,4 @@
 -- Cases of schedules: what a case gives to judge_schedule, and the verdict held against what the case records.
-use mathlib.Core.Bool.{true}
 use mathlib.Core.List.{List, [], _∷_}
 use Prim.Native.Nat.{ℕ, _%_}
 use lib.ListN.{take, replicate}
@@ -8,7 +7,7 @@ use Rattle.verdict.specs.Verdict.{verdictNumber, verdictIndex}
 use Rattle.schedule.specs.Questions.{scheduleVerdict}
 use Rattle.replay.specs.declared.record.Record.{Record}
 use Rattle.replay.specs.Numerals.{wordNo}
-use Rattle.replay.specs.Record.{withNumbers}
+use Rattle.replay.specs.Record.{begun, withNumbers}
 use Rattle.replay.specs.Words.{numbersAt, numbersPart}
 
 -- number and index
@@ -33,5 +32,5 @@ scheduleCase t at =
     let m = wordNo t at 1 in
     let new = behind t (m .next) in
     let table = behind t new in
-    withVerdict t (record { agrees = true; next = behind t table; compared = 0 })
+    withVerdict t (begun (behind t table))
     (scheduleVerdict (n .size % 4294967296) (m .size % 4294967296) (listAt t (m .next)) (listAt t new) (listAt t table))

@@ -8,6 +8,9 @@ use replay::record::Record;
 use replay::words::fitting;
 use replay::words::read_bytes;
 use replay::words::read_words;
+ghost use mathlib.Core.Path.{_≡_};
+ghost use Rattle.replay.specs.Record.{begun};
+ghost use Rattle.replay_words.specs.Cases.{withThree, wordsCase};
 
 // Room for the words of a channel, for those of its effects, and for a store.
 const CHANNEL: usize = 1300;
@@ -24,14 +27,18 @@ fn called(
     right: &[i64],
     store: &[u8],
     effects: &mut [i64],
-) -> Record {
+) -> Record
+    ensures { λ r. ⌜ r ≡ withThree (now (text .entry)) (begun at) (now (left .entry)) (now (right .entry)) (now (store .entry)) (now (effects .entry)) ⌝ }
+{
     let compared = compare_call(Record::begin(at), text, left, right);
     let traced = effects_call(compared, text, left, effects);
     check_part(traced, text, lookup(left, store))
 }
 
 // Left and right words, the length of the effects' buffer, the store to look for; the answers of the three calls.
-pub fn words_case(text: &[u8], at: usize) -> Record {
+pub fn words_case(text: &[u8], at: usize) -> Record
+    ensures { λ r. ⌜ r ≡ wordsCase (now (text .entry)) at ⌝ }
+{
     let mut left = [0i64; CHANNEL];
     let mut right = [0i64; CHANNEL];
     let mut effects = [0i64; EFFECTS];

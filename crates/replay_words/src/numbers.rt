@@ -9,12 +9,16 @@ use replay::scalars::read_scalar;
 use replay::words::read_words;
 use scalar::Answer;
 use scalar::Scalar;
+ghost use mathlib.Core.Path.{_≡_};
+ghost use Rattle.replay_words.specs.Cases.{answerOf, scalarCase, phaseCase};
 
 // Room for the words of a matrix.
 const MATRIX: usize = 5120;
 
 // The call of this number; `first` is the size of x's first number.
-fn answer(call: u64, first: u64, x: Scalar, y: Scalar) -> Answer {
+fn answer(call: u64, first: u64, x: Scalar, y: Scalar) -> Answer
+    ensures { λ r. ⌜ r ≡ answerOf call first x y ⌝ }
+{
     match call {
         0 => Scalar::integer(x.n[0]),
         1 => Scalar::zero(),
@@ -30,7 +34,9 @@ fn answer(call: u64, first: u64, x: Scalar, y: Scalar) -> Answer {
 }
 
 // Call and two operands; verdict and value.
-pub fn scalar_case(text: &[u8], at: usize) -> Record {
+pub fn scalar_case(text: &[u8], at: usize) -> Record
+    ensures { λ r. ⌜ r ≡ scalarCase (now (text .entry)) at ⌝ }
+{
     let call = read(text, at);
     let first = read(text, call.next);
     let x = read_scalar(text, call.next);
@@ -40,7 +46,9 @@ pub fn scalar_case(text: &[u8], at: usize) -> Record {
 }
 
 // Two matrices, each its dim and its words; verdict, and 1 for equivalent.
-pub fn phase_case(text: &[u8], at: usize) -> Record {
+pub fn phase_case(text: &[u8], at: usize) -> Record
+    ensures { λ r. ⌜ r ≡ phaseCase (now (text .entry)) at ⌝ }
+{
     let mut left = [0i64; MATRIX];
     let mut right = [0i64; MATRIX];
     let d = read(text, at);

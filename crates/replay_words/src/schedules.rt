@@ -6,9 +6,8 @@ use replay::words::read_u32s;
 use schedule::judge_schedule;
 use verdict::Verdict;
 ghost use mathlib.Core.Path.{_≡_};
-ghost use mathlib.Core.Bool.{true};
 ghost use Rattle.schedule.specs.Questions.{scheduleVerdict};
-ghost use Rattle.replay.specs.Record.{recordOf};
+ghost use Rattle.replay.specs.Record.{begun};
 ghost use Rattle.replay_words.specs.Schedules.{withVerdict, scheduleCase};
 
 // Room for the words of a gate list, and for a table.
@@ -32,7 +31,7 @@ fn was_judged(
     new: &[u32],
     table: &[u32],
 ) -> Record
-    ensures { λ r. ⌜ r ≡ withVerdict (now (text .entry)) (recordOf true at 0) (scheduleVerdict qubits bits (now (old .entry)) (now (new .entry)) (now (table .entry))) ⌝ }
+    ensures { λ r. ⌜ r ≡ withVerdict (now (text .entry)) (begun at) (scheduleVerdict qubits bits (now (old .entry)) (now (new .entry)) (now (table .entry))) ⌝ }
 {
     let v = judge_schedule(qubits, bits, old, new, table);
     check_verdict(Record::begin(at), text, v)

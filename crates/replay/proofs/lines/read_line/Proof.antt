@@ -19,7 +19,7 @@ returns c =
     let b = fitted (r .read .result .next + r .read .result .size) 1 n e (c .fitting3 .ensures) in
     let u : f .fitting .result ≤ f .fitting .result + g .fitting2 .result = omega arith in (
       (λ i. record { start = f .fitting .ensures i; end = e i; next = b i })
-      ∙ (λ i. record { start = min (w i .next) n; end = min (w i .next + w i .size) n; next = min (w i .next + w i .size + 1) n }),
+          ∙ (λ i. record { start = min (w i .next) n; end = min (w i .next + w i .size) n; next = min (w i .next + w i .size + 1) n }),
       (u, fitted-less (r .read .result .next + r .read .result .size) n e),
     )
 

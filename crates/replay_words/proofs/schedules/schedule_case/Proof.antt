@@ -1,12 +1,11 @@
 -- `schedules::schedule_case` meets its contract.
 use mathlib.Core.Path.{sym, _∙_}
-use mathlib.Core.Bool.{true}
 use Prim.Native.Nat.{_%_}
 use borrow.Author.Needs.{needs}
 use lib.ListN.{take}
 use lib.Seq.{length-take-le}
 use Rattle.schedule.specs.Questions.{scheduleVerdict}
-use Rattle.replay.specs.Record.{recordOf}
+use Rattle.replay.specs.Record.{begun}
 use Rattle.replay.specs.Words.{numbersAt, numbersPart}
 use Rattle.replay.proofs.Reading.{following}
 use Rattle.replay_words.specs.Schedules.{withVerdict, noWords}
@@ -35,7 +34,7 @@ returns c =
     let qubits = l1 .low .ensures ∙ (λ i. n i .size % 4294967296) in
     let bits = l2 .low2 .ensures ∙ (λ i. m i .size % 4294967296) in
     c .was-judged .ensures
-    ∙ (λ i. withVerdict t (recordOf true (z i .next) 0) (scheduleVerdict (qubits i) (bits i) (take (p i .len) (old i)) (take (q i .len) (new i)) (take (z i .len) (table i))))
+    ∙ (λ i. withVerdict t (begun (z i .next)) (scheduleVerdict (qubits i) (bits i) (take (p i .len) (old i)) (take (q i .len) (new i)) (take (z i .len) (table i))))
 
 pub schedule-case-spec : {M : Type 1} → statement M
 schedule-case-spec =
