@@ -2,9 +2,9 @@
 use mathlib.Core.Path.{_≡_, refl, sym, ap, _∙_, subst}
 use mathlib.Core.Bool.{Bool, false, cond}
 use mathlib.Core.List.{List, [], _∷_, foldl}
-use Prim.Native.Nat.{ℕ, suc, _+_, _-_, _≤_, _<_}
+use Prim.Native.Nat.{ℕ, _+_, _≤_, _<_}
 use native.Mathlib.Omega.{arith}
-use lib.ListN.{length, getD, take, drop, length-drop}
+use lib.ListN.{length, getD, drop}
 use borrow.Author.Tests.{ne-eqb}
 use Rattle.verdict.specs.declared.Verdict.{Verdict}
 use Rattle.qasm.specs.declared.pieces.Progress.{Progress}
@@ -12,8 +12,8 @@ use Rattle.qasm.specs.Tokens.{isGap, more, Token, token}
 use Rattle.qasm.specs.Reading.{State, due, fault, step, start}
 use Rattle.qasm.specs.Inner.Scanning.{from, Passed}
 use Rattle.qasm.specs.Inner.Places.{dueAt}
-use Rattle.qasm.specs.Inner.Progress.{part, Inside, Ready, fromTop, seenOf, verdictOf, stateOf, Sees, Few, May, Stepped, Ran}
-use Rattle.qasm.proofs.Scanning.{from-end, from-token, more-most}
+use Rattle.qasm.specs.Inner.Progress.{part, Ready, fromTop, seenOf, verdictOf, stateOf, Sees, Few, May, Stepped, Ran}
+use Rattle.qasm.proofs.Scanning.{from-end, token-inside, next-token}
 use Rattle.qasm.proofs.Kept.{held-none, held-length}
 
 -- a fault decides: nothing that follows changes it
@@ -60,22 +60,14 @@ module _ (t : List ℕ) (at room : ℕ) (l : List ℕ) where
     going-end h = record { place = o .ready .place; sees = subst (Sees t l room s g) (sym (o .same ∙ ap (foldl step (o .state)) (from-end t begin h))) (o .sees) }
 
     module _ (h : begin < length t) {end : ℕ} (e : end ≡ begin + 1 + more (getD t begin 0) (drop (begin + 1) t)) where
-      pub token-inside : Inside (length t) begin end
-      token-inside = record { some = omega arith; within = omega (arith, more-most (getD t begin 0) (drop (begin + 1) t), length-drop (begin + 1) t) }
-
       pub token-may : room ≤ length l → May (length t) room (length g) s begin end
-      token-may w = record { ready = o .ready; inside = token-inside; few = o .few; wide = let n = going-length in omega arith; running = o .running }
+      token-may w = record { ready = o .ready; inside = token-inside t begin h e; few = o .few; wide = let n = going-length in omega arith; running = o .running }
 
       abbrev tok : Token
       tok = token begin (part t begin end)
 
-      next-token : from t begin ≡ tok ∷ from t end
-      next-token =
-          let n : suc (more (getD t begin 0) (drop (begin + 1) t)) ≡ end - begin = omega arith in
-          from-token t begin h (o .stops h) ∙ (λ i. token begin (take (n i) (drop begin t)) ∷ from t (sym e i))
-
       goes : foldl step start (from t at) ≡ foldl step (step (o .state) tok) (from t end)
-      goes = o .same ∙ ap (foldl step (o .state)) next-token
+      goes = o .same ∙ ap (foldl step (o .state)) (next-token t begin h e (o .stops h))
 
       module _ {r : Progress} {g′ : List ℕ} (q : Stepped t room s g begin end r g′) where
         after : Sees t l room r g′ (step (o .state) tok)

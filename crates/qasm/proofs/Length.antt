@@ -51,7 +51,7 @@ module _ (ws : List ℕ) (s : small ws ≡ true) where
 abbrev short : Entry → Bool
 short e = leb (length (e .name) + 2 + total most (e .form)) 49
 
-gate-most : (g : Gate) → small (words g) ≡ true → length (gateText g) ≤ 49
+pub gate-most : (g : Gate) → small (words g) ≡ true → length (gateText g) ≤ 49
 gate-most g s = by (ofKind (g .kind)) (filter-all (λ (e : Entry). short e ≡ true) (λ (e : Entry). eqb (e .kind) (g .kind)) table (every-all short (λ (e : Entry). short e ≡ true) (λ e h. h) table refl))
   where
     by : (es : List Entry) → All (λ (e : Entry). short e ≡ true) es → length (gateLine g es) ≤ 49

@@ -2,7 +2,7 @@
 use mathlib.Core.Path.{_≡_, refl, sym, ap, _∙_}
 use mathlib.Core.Bool.{Bool, true, false, cond, _||_}
 use mathlib.Core.List.{List, [], _∷_}
-use Prim.Native.Nat.{ℕ, suc, _+_, _<_, _≤_}
+use Prim.Native.Nat.{ℕ, suc, _+_, _-_, _<_, _≤_}
 use native.Mathlib.Numerals.{add-one}
 use native.Mathlib.Omega.{arith}
 use lib.ListN.{length, getD, take, drop, drop-of-length-le, length-drop}
@@ -11,6 +11,7 @@ use Rattle.algebra.proofs.Tests.{or-no}
 use Rattle.text.specs.Decimal.{isDigit}
 use Rattle.qasm.specs.Tokens.{isBlank, isComment, isGap, inLine, opensWord, inWord, run, arrow, library, begins, signMore, more, Token, token, tokens}
 use Rattle.qasm.specs.Inner.Scanning.{from, Passed}
+use Rattle.qasm.specs.Inner.Progress.{part, Inside}
 use Rattle.qasm.proofs.Same.{begins-long}
 use Rattle.qasm.proofs.Lexing.{tokens-inside}
 
@@ -106,8 +107,15 @@ module _ (t : List ℕ) (at : ℕ) where
     pub from-gap : isGap here later ≡ true → from t at ≡ from t next
     from-gap e = by-shape true e
 
-    pub from-token : isGap here later ≡ false → from t at ≡ token at (take (suc (more here later)) (drop at t)) ∷ from t next
+    from-token : isGap here later ≡ false → from t at ≡ token at (take (suc (more here later)) (drop at t)) ∷ from t next
     from-token e = by-shape false e ∙ ap (λ (bs : List ℕ). token at (take (suc (more here later)) bs) ∷ from t next) (sym cut)
+
+    module _ {end : ℕ} (e : end ≡ next) where
+      pub token-inside : Inside (length t) at end
+      token-inside = record { some = omega arith; within = omega (arith, more-most here later, length-drop (at + 1) t) }
+
+      pub next-token : isGap here later ≡ false → from t at ≡ token at (part t at end) ∷ from t end
+      next-token g = let n : suc (more here later) ≡ end - at = omega arith in from-token g ∙ (λ i. token at (take (n i) (drop at t)) ∷ from t (sym e i))
 
     -- ---- how long the token is
     abbrev length-by : Bool → Bool → Bool → Bool → ℕ

@@ -1,7 +1,7 @@
 // OpenQASM 2: a circuit read from the text that laboratories exchange, and written as one.
-mod bytes;
+pub mod bytes;
 mod names;
 mod pieces;
 pub mod reader;
-mod scan;
+pub mod scan;
 mod steps;

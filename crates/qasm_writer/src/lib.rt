@@ -1,5 +1,5 @@
 // A circuit written as a text of OpenQASM 2.
-mod printer;
+pub mod printer;
 mod room;
 
 use crate::printer::name_span;

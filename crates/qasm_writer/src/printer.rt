@@ -120,7 +120,7 @@ fn put_gate(out: &mut [u8], at: usize, g: GateWords) -> usize
     at
 }
 
-fn put_gates(out: &mut [u8], at: usize, words: &[u32]) -> usize
+pub fn put_gates(out: &mut [u8], at: usize, words: &[u32]) -> usize
     ensures { λ r. ⌜ Written (page (now (out .entry)) at) (concatMap gateText (gatesOf (now (words .entry)))) (page (now (out .exit)) r) ⌝ }
 {
     let count = words.len() / GATE;
