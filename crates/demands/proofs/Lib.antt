@@ -3,6 +3,8 @@ pub mod Verdicts
 pub mod Reading
 pub mod Stores
 pub mod Channels
+pub mod Entries
 pub mod Demands
 pub mod Layers
 pub mod Schedules
+pub mod Texts

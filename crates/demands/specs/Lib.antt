@@ -1,3 +1,4 @@
 pub mod Demands
 pub mod Layers
 pub mod Schedules
+pub mod Texts

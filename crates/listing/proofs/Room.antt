@@ -3,26 +3,24 @@ use mathlib.Core.Path.{_≡_, refl, sym, ap, _∙_}
 use mathlib.Core.Bool.{Bool, true, false, cond}
 use mathlib.Core.List.{List, [], _∷_, _++_}
 use Prim.Native.Nat.{ℕ, zero, suc, _+_, _*_, _/_, _%_, _≤_}
-use native.Mathlib.Nat.{le-refl, le-trans, suc-mul}
+use native.Mathlib.Nat.{suc-mul}
 use native.Mathlib.Omega.{arith}
-use lib.ListN.{length, drop, length-append, length-map}
+use lib.ListN.{length, drop}
 use lib.Seq.{sets-eq}
 use lib.IntN.{ℤ, pos, negsuc, natAbs}
 use Rattle.algebra.specs.Lists.{concatMap}
 use Rattle.exact.specs.Exact.{Exact, isZero}
 use Rattle.cells.specs.Cells.{cellWords}
-use Rattle.store.specs.Store.{bits}
-use Rattle.answers.specs.States.{storeBits}
+use Rattle.answers.proofs.Most.{AtMost, plus, more, known, decimal-most, bits-most}
 use Rattle.channel.specs.Layout.{Block, recordSize, side, word, dimAt, bitsAt, countAt, chain, blockAt}
 use Rattle.channel.specs.WellFormed.{wellFormed}
 use Rattle.channel.proofs.Judging.{formed}
 use Rattle.text.specs.Ascii.{ascii}
-use Rattle.text.specs.Decimal.{digits, decimal, signed}
+use Rattle.text.specs.Decimal.{decimal, signed}
 use Rattle.text.specs.Page.{page, write}
 use Rattle.listing.specs.Listing.{newline, spaced, firstLine, entryLine, entryLines, blockLines, listing}
 use Rattle.listing.specs.Claims.{Whole, Short, ShortRefusal, maxListing}
 use Rattle.text.proofs.Put.{write-from}
-use Rattle.text.proofs.RoundTrip.{digits-most}
 
 -- ---- enough room
 pub whole : Whole
@@ -31,21 +29,6 @@ whole bs l h =
     write-from bs l 0 (omega arith) ∙ ap (λ (xs : List ℕ). page xs (0 + length bs)) (sets-eq bs l 0 (omega arith)) ∙ ap (λ (k : ℕ). page (bs ++ drop k l) k) n
 
 -- ---- lines
-record AtMost (xs : List ℕ) (n : ℕ) : Type 0 where
-  pub le : length xs ≤ n
-
-plus : {xs ys : List ℕ} {a b : ℕ} → AtMost xs a → AtMost ys b → AtMost (xs ++ ys) (a + b)
-plus {xs} {ys} p q = record { le = omega (arith, length-append xs ys, p .le, q .le) }
-
-more : {xs : List ℕ} {a b : ℕ} → a ≤ b → AtMost xs a → AtMost xs b
-more h p = record { le = le-trans (p .le) h }
-
-known : (xs : List ℕ) → AtMost xs (length xs)
-known xs = record { le = le-refl (length xs) }
-
-decimal-most : (n : ℕ) → AtMost (decimal n) 20
-decimal-most n = record { le = digits-most 20 n }
-
 signed-most : (z : ℤ) → AtMost (signed z) 21
 signed-most (pos n) = more (omega arith) (decimal-most n)
 signed-most (negsuc n) = plus (known (ascii "-")) (decimal-most (suc n))
@@ -68,15 +51,6 @@ entries-most : (w n : ℕ) (f : ℕ → Exact) → AtMost (entryLines w n f) (n 
 unfolding entryLines
 entries-most w zero f = known []
 entries-most w (suc n) f = more (omega (arith, suc-mul n 153)) (plus (entries-most w n f) (entry-most (n / w) (n % w) (f n)))
-
-bits-length : (m s : ℕ) → length (bits m s) ≡ m
-bits-length zero s = refl
-bits-length (suc m) s = ap suc (bits-length m (s / 2))
-
-bits-most : (m s : ℕ) → m ≤ 64 → AtMost (storeBits m s) 64
-unfolding storeBits
-bits-most zero s h = record { le = omega arith }
-bits-most (suc m) s h = record { le = omega (arith, length-map (bits (suc m) s) (λ (b : ℕ). 48 + b), bits-length (suc m) s) }
 
 -- a word of a record stands for at most 31 bytes
 block-most : (m w : ℕ) (b : Block) → m ≤ 64 → AtMost (blockLines m w b) (31 * recordSize w)
