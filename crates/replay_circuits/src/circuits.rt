@@ -16,6 +16,8 @@ use replay::words::fitting;
 use replay::words::mark;
 use unitary::circuit_unitary;
 use verdict::Verdict;
+ghost use mathlib.Core.Path.{_≡_};
+ghost use Rattle.replay_circuits.specs.Cases.{askedVerdict, askedResult, askedWork, called, calledResult, traced, answered, circuitCase};
 
 // Room for the words of a result, for work, and for the words of effects.
 const RESULT: usize = 656000;
@@ -33,7 +35,11 @@ fn asked(
     ends: &[u32],
     result: &mut [i64],
     work: &mut [i64],
-) -> Verdict {
+) -> Verdict
+    ensures verdict { λ v. ⌜ v ≡ askedVerdict kind c (now (store .entry)) (now (gates .entry)) (now (ends .entry)) (now (result .entry)) (now (work .entry)) ⌝ }
+    ensures result { λ _. ⌜ now (result .exit) ≡ askedResult kind c (now (store .entry)) (now (gates .entry)) (now (ends .entry)) (now (result .entry)) (now (work .entry)) ⌝ }
+    ensures work { λ _. ⌜ now (work .exit) ≡ askedWork kind c (now (store .entry)) (now (gates .entry)) (now (ends .entry)) (now (result .entry)) (now (work .entry)) ⌝ }
+{
     let limits = c.limits;
     match kind {
         2 => circuit_unitary(c.n, gates, limits, result, work),
@@ -43,7 +49,10 @@ fn asked(
 }
 
 // The call on the circuit at `at` and on marked buffers.
-fn called(kind: u64, text: &[u8], at: usize, result: &mut [i64], work: &mut [i64]) -> Record {
+fn called(kind: u64, text: &[u8], at: usize, result: &mut [i64], work: &mut [i64]) -> Record
+    ensures held { λ r. ⌜ r ≡ called kind (now (text .entry)) at (now (result .entry)) (now (work .entry)) ⌝ }
+    ensures result { λ _. ⌜ now (result .exit) ≡ calledResult kind (now (text .entry)) at (now (result .entry)) (now (work .entry)) ⌝ }
+{
     let mut store = [0u8; STORE];
     let mut words = [0u32; GATES];
     let mut ends = [0u32; ENDS];
@@ -59,7 +68,9 @@ fn called(kind: u64, text: &[u8], at: usize, result: &mut [i64], work: &mut [i64
 }
 
 // The effects of a channel, in a buffer of this length; of a unitary and of a layered circuit none are recorded.
-fn traced(kind: u64, seen: Record, text: &[u8], length: u64, channel: &[i64]) -> Record {
+fn traced(kind: u64, seen: Record, text: &[u8], length: u64, channel: &[i64]) -> Record
+    ensures { λ r. ⌜ r ≡ traced kind seen (now (text .entry)) length (now (channel .entry)) ⌝ }
+{
     if (kind == 2) | (kind == LAYERED) {
         return seen;
     }
@@ -69,7 +80,9 @@ fn traced(kind: u64, seen: Record, text: &[u8], length: u64, channel: &[i64]) ->
 }
 
 // The lengths of three buffers, and a circuit; verdict, index, the checksums of two buffers, and of a channel what its effects are.
-fn answered(kind: u64, text: &[u8], at: usize, result: &mut [i64], work: &mut [i64]) -> Record {
+fn answered(kind: u64, text: &[u8], at: usize, result: &mut [i64], work: &mut [i64]) -> Record
+    ensures { λ r. ⌜ r ≡ answered kind (now (text .entry)) at (now (result .entry)) (now (work .entry)) ⌝ }
+{
     let after = read(text, at);
     let spent = read(text, after.next);
     let effects = read(text, spent.next);
@@ -80,7 +93,9 @@ fn answered(kind: u64, text: &[u8], at: usize, result: &mut [i64], work: &mut [i
 }
 
 // The same with the buffers that it lends.
-pub fn circuit_case(kind: u64, text: &[u8], at: usize) -> Record {
+pub fn circuit_case(kind: u64, text: &[u8], at: usize) -> Record
+    ensures { λ r. ⌜ r ≡ circuitCase kind (now (text .entry)) at ⌝ }
+{
     let mut result = [0i64; RESULT];
     let mut work = [0i64; WORK];
     answered(kind, text, at, &mut result, &mut work)

@@ -14,12 +14,17 @@ use replay::numeral::read;
 use replay::progress::Progress;
 use replay::progress::read_heading;
 use replay::record::Record;
+ghost use mathlib.Core.Path.{_≡_};
+ghost use Rattle.replay.specs.Progress.{withNext, replayOf};
+ghost use Rattle.replay_circuits.specs.Cases.{caseOf};
 
 // Room for the text.
 const TEXT: usize = 520000;
 
 // A case of this kind, behind its heading.
-fn case(kind: u64, text: &[u8], at: usize) -> Record {
+fn case(kind: u64, text: &[u8], at: usize) -> Record
+    ensures { λ r. ⌜ r ≡ caseOf kind (now (text .entry)) at ⌝ }
+{
     match kind {
         4 => compare_case(text, at),
         6 => listing_case(text, at),
@@ -28,14 +33,18 @@ fn case(kind: u64, text: &[u8], at: usize) -> Record {
 }
 
 // One more case.
-fn turn(text: &[u8], progress: Progress) -> Progress {
+fn turn(text: &[u8], progress: Progress) -> Progress
+    ensures { λ r. ⌜ r ≡ withNext caseOf (now (text .entry)) progress ⌝ }
+{
     let h = read_heading(text, progress.next());
     let seen = case(h.kind, text, h.next);
     progress.with(h, seen)
 }
 
 // All cases.
-fn replay_text(text: &[u8]) {
+fn replayed(text: &[u8]) -> Progress
+    ensures { λ r. ⌜ r ≡ replayOf caseOf (now (text .entry)) ⌝ }
+{
     let count = read(text, 0);
     let mut progress = Progress::begin(count.next);
     let mut rest = count.size;
@@ -43,13 +52,13 @@ fn replay_text(text: &[u8]) {
         rest -= 1;
         progress = turn(text, progress);
     }
-    progress.print();
+    progress
 }
 
 // Reads the text, and replays it.
 fn replay_input(text: &mut [u8]) {
     let n = io::read_full(STDIN_FILENO, text);
-    replay_text(&text[..n]);
+    replayed(&text[..n]).print();
 }
 
 fn main() {

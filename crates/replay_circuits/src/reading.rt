@@ -5,8 +5,10 @@ use replay::numeral::read;
 use replay::words::Part;
 use replay::words::read_bytes;
 use replay::words::read_u32s;
+ghost use mathlib.Core.Path.{_≡_};
 ghost use Prim.Native.Nat.{_≤_};
 ghost use lib.ListN.{length};
+ghost use Rattle.replay_circuits.specs.Given.{boundsAt, circuitAt, storeRead, gatesRead, endsPart, endsRead};
 
 // Room for a store and for the words of a gate list.
 pub const STORE: usize = 65;
@@ -25,7 +27,9 @@ struct Bounds {
 }
 
 // 0 for the defaults, or 1 and all six limits.
-fn read_limits(text: &[u8], at: usize) -> Bounds {
+fn read_limits(text: &[u8], at: usize) -> Bounds
+    ensures { λ r. ⌜ r ≡ boundsAt (now (text .entry)) at ⌝ }
+{
     let given = read(text, at);
     if given.size == 0 {
         return Bounds {
@@ -64,7 +68,10 @@ pub struct Circuit {
 
 // Limits, n, bits, the store and the gate words.
 pub fn read_circuit(text: &[u8], at: usize, store: &mut [u8], words: &mut [u32]) -> Circuit
-    ensures { λ r. ⌜ (r .stored ≤ length (now (store .entry))) × (r .gates ≤ length (now (words .entry))) ⌝ }
+    ensures circuit { λ r. ⌜ r ≡ circuitAt (now (text .entry)) at (now (store .entry)) (now (words .entry)) ⌝ }
+    ensures room { λ r. ⌜ (r .stored ≤ length (now (store .entry))) × (r .gates ≤ length (now (words .entry))) ⌝ }
+    ensures store { λ _. ⌜ now (store .exit) ≡ storeRead (now (text .entry)) at (now (store .entry)) (now (words .entry)) ⌝ }
+    ensures gates { λ _. ⌜ now (words .exit) ≡ gatesRead (now (text .entry)) at (now (store .entry)) (now (words .entry)) ⌝ }
 {
     let bounds = read_limits(text, at);
     let n = read(text, bounds.next);
@@ -84,7 +91,9 @@ pub fn read_circuit(text: &[u8], at: usize, store: &mut [u8], words: &mut [u32])
 
 // The ends of a circuit's layers, if it has some.
 pub fn read_ends(kind: u64, text: &[u8], at: usize, ends: &mut [u32]) -> Part
-    ensures { λ r. ⌜ r .len ≤ length (now (ends .entry)) ⌝ }
+    ensures part { λ r. ⌜ r ≡ endsPart kind (now (text .entry)) at (now (ends .entry)) ⌝ }
+    ensures room { λ r. ⌜ r .len ≤ length (now (ends .entry)) ⌝ }
+    ensures ends { λ _. ⌜ now (ends .exit) ≡ endsRead kind (now (text .entry)) at (now (ends .entry)) ⌝ }
 {
     if kind == LAYERED {
         return read_u32s(text, at, ends);
