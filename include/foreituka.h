@@ -9,7 +9,7 @@
  * writes (pointers without const) overlaps nothing else that it is given; nobody else writes to any of it during the call. Nothing is owed
  * beyond that: contents that make no sense are refused.
  *
- * Out parameters are index, place, scalars, counts, words, position, bytes and, of the scalar calls, out. They must be writable, and every call
+ * Out parameters are index, place, scalars, counts, words, position, bytes, numbers and, of the scalar calls, out. They must be writable, and every call
  * writes all of them, whatever its reply: index is 0 where the reply names no gate, and the others are all zero where there is nothing to say.
  * result and work, read_qasm's gates and write_qasm's out are other: a refusal changes nothing of theirs.
  *
@@ -36,7 +36,8 @@ extern "C" {
 #endif
 
 /* ---- Replies ----
- * FOREITUKA_ACCEPTED is the only reply that is 0, and compare and the phase test never give it, so a test for 0 cannot be read as "same". */
+ * FOREITUKA_ACCEPTED is the only reply that is 0, and compare, judge_texts and the phase test never give it, so a test for 0 cannot be read as
+ * "same". */
 enum {
     FOREITUKA_ACCEPTED = 0,         /* the result is written */
     FOREITUKA_LIMIT = 1,            /* a limit is exceeded */
@@ -55,11 +56,13 @@ enum {
     FOREITUKA_NAME = 14,            /* another word where a gate's name or a register is due; its position is given. Or, from write_qasm, a gate
                                        whose kind has no name; its index is given */
     FOREITUKA_SCHEDULE = 15,        /* a list and its table are no schedule of another list; the first position at fault is given, 0 where lengths differ */
-    FOREITUKA_SAME = 100,           /* compare: no entry differs */
-    FOREITUKA_DIMENSIONS = 101,     /* compare: dimensions or bit counts differ */
-    FOREITUKA_ENTRY = 102,          /* compare: an entry differs; place and scalars say which */
+    FOREITUKA_SAME = 100,           /* compare, judge_texts: no entry differs */
+    FOREITUKA_DIMENSIONS = 101,     /* compare, judge_texts: dimensions or bit counts differ */
+    FOREITUKA_ENTRY = 102,          /* compare, judge_texts: an entry differs; place or numbers, and scalars, say which */
     FOREITUKA_EQUIVALENT = 103,     /* phase test: equal up to a global phase */
-    FOREITUKA_DIFFERENT = 104       /* phase test: not */
+    FOREITUKA_DIFFERENT = 104,      /* phase test: not */
+    FOREITUKA_LEFT_REFUSED = 105,   /* judge_texts: the left text or its circuit is refused; numbers says why */
+    FOREITUKA_RIGHT_REFUSED = 106   /* judge_texts: the right one is */
 };
 
 /* ---- Gates: five uint32_t words each: kind, a, b, c, k; words that a kind does not use are 0 ---- */
@@ -120,6 +123,11 @@ enum {
 
 /* bytes: enough for the text of so many gates */
 #define FOREITUKA_TEXT_BYTES(gates) (76 + 49 * (size_t)(gates))
+/* the room that an answer in words needs; the words and bytes for list */
+#define FOREITUKA_ANSWER_BYTES 1024
+#define FOREITUKA_LIST_WORDS 5200
+#define FOREITUKA_LIST_WORK_WORDS 2000
+#define FOREITUKA_LIST_BYTES 161159
 
 /* The channel of a circuit of `qubits` qubits and `bits` classical bits that start as `store` (a byte for each, 0 or 1), or the refusal of
  * the first question that fails (docs/FORMATS.md has the questions). result: FOREITUKA_CHANNEL_WORDS words or more; words behind the last
@@ -185,6 +193,36 @@ uint32_t foreituka_read_qasm(const uint8_t *text, size_t text_bytes, uint32_t *g
  * for their form (5), then for the name of their kind (14), and then out for room (8). Replies: 0, 5, 8, 14. */
 uint32_t foreituka_write_qasm(uint32_t qubits, uint32_t bits, const uint32_t *gates, size_t gate_words, uint8_t *out, size_t out_bytes,
                               size_t *bytes, uint64_t *index);
+
+/* The main job: do the circuits in two texts of OpenQASM 2 the same? Both are read, judged and run, the left one first, and their channels
+ * compared. store has the first classical bits' values; those behind them start as 0. gates has room for each text's gate words, first and second
+ * for a channel each, work for either. answer gets the answer in words (docs/FORMATS.md): a first line for scripts, below it lines for people; it has
+ * FOREITUKA_ANSWER_BYTES or more, bytes says how many were written, and those behind them are kept. numbers: for 102 store, row, column, 0, 0, 0; for
+ * 105 and 106 the refusal's number, the gate's index, the byte's position, its line and column, and how many gates there are where there are too
+ * many, each 0 where there is none. scalars: for 102 the left one's five words and the right one's. Replies: 8 (answer is too short, nothing is
+ * done), 100, 101, 102, 105, 106. */
+uint32_t foreituka_judge_texts(const uint8_t *left, size_t left_bytes, const uint8_t *right, size_t right_bytes, const uint8_t *store,
+                               size_t store_bytes, const uint64_t limits[6], uint32_t *gates, size_t gate_words, int64_t *first,
+                               size_t first_words, int64_t *second, size_t second_words, int64_t *work, size_t work_words, uint8_t *answer,
+                               size_t answer_bytes, size_t *bytes, uint64_t numbers[6], int64_t scalars[10]);
+
+/* The channel of the circuit in one text, in result, as circuit_channel leaves it; refused, the answer in words. store, gates, work, answer, bytes
+ * and numbers as above. Replies: 0 to 8, 13, 14. */
+uint32_t foreituka_text_channel(const uint8_t *text, size_t text_bytes, const uint8_t *store, size_t store_bytes, const uint64_t limits[6],
+                                uint32_t *gates, size_t gate_words, int64_t *result, size_t result_words, int64_t *work, size_t work_words,
+                                uint8_t *answer, size_t answer_bytes, size_t *bytes, uint64_t numbers[6]);
+
+/* Parts of answers in words, put from the start of out on; each says how many bytes were put, and leaves out those for which there is no room. A
+ * scalar as mathematics writes it, as (1 + √2)/4. Row and column of a channel's block on so many qubits, as "from input |0⟩⟨1| to output |1⟩⟨1|". The
+ * bits of a store from bit 0 on, or "-" where there are none. */
+size_t foreituka_number_text(const int64_t x[5], uint8_t *out, size_t out_bytes);
+size_t foreituka_entry_text(uint32_t qubits, size_t row, size_t column, uint8_t *out, size_t out_bytes);
+size_t foreituka_store_text(uint64_t store, uint32_t bits, uint8_t *out, size_t out_bytes);
+
+/* The listing of a circuit that is given by numbers, or one line that says that it is refused (docs/FORMATS.md, "Listing"): how many bytes were put
+ * into out. With FOREITUKA_LIST_WORDS words of result and FOREITUKA_LIST_WORK_WORDS of work, FOREITUKA_LIST_BYTES bytes hold every answer. */
+size_t foreituka_list(const uint8_t *text, size_t text_bytes, int64_t *result, size_t result_words, int64_t *work, size_t work_words, uint8_t *out,
+                      size_t out_bytes);
 
 /* Scalars, exact. out is zero where the reply is not 0. integer: 0 or 9. zero, i, inv_sqrt_two (√2/2), omega (((1 + i)/√2)^(k mod 8)): 0. neg and
  * conj: 0 or 10. half and add: 0, 9 or 10. mul, of narrow scalars: 0, 9 or 10. */

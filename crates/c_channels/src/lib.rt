@@ -14,7 +14,8 @@ ghost use Rattle.channel.specs.Lookup.{lookupOf, spanOf};
 ghost use Rattle.effects.specs.Effects.{effectsVerdict, resultOf};
 ghost use Rattle.c_channels.specs.Channels.{findingNumber, placeWords, twoScalars};
 
-fn finding_number(f: Found) -> u32
+// The reply for what a comparison found.
+pub fn finding_number(f: Found) -> u32
     ensures { λ r. ⌜ r ≡ findingNumber f ⌝ }
 {
     match f {
@@ -37,7 +38,8 @@ fn place_words(f: Found) -> [u64; 3]
     }
 }
 
-fn two_scalars(x: Scalar, y: Scalar) -> [i64; 2 * CELL]
+// The words of two scalars.
+pub fn two_scalars(x: Scalar, y: Scalar) -> [i64; 2 * CELL]
     ensures { λ r. ⌜ r ≡ twoScalars x y ⌝ }
 {
     let mut words = [0; 2 * CELL];

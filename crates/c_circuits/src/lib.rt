@@ -10,7 +10,8 @@ ghost use Rattle.judge.specs.Layered.{layeredVerdictOf, layeredResult, layeredW
 ghost use Rattle.unitary.specs.Unitary as unitary;
 ghost use Rattle.c_circuits.specs.Circuits.{limitsOf};
 
-fn read_limits(limits: &[u64; 6]) -> Limits
+// Limits from six words.
+pub fn read_limits(limits: &[u64; 6]) -> Limits
     ensures { λ r. ⌜ r ≡ limitsOf (now (limits .entry)) ⌝ }
 {
     let a = limits[0];

@@ -17,3 +17,10 @@ equivalent = 103
 
 abbrev pub different : ℕ
 different = 104
+
+-- ---- two texts
+abbrev pub leftRefused : ℕ
+leftRefused = 105
+
+abbrev pub rightRefused : ℕ
+rightRefused = 106

@@ -1,4 +1,5 @@
 // The archive for programs in C and Rust: each call under its name of include/foreituka.h, in one line. The bodies are the c_ crates'.
+pub mod answering;
 pub mod channels;
 pub mod circuits;
 pub mod matrices;
