@@ -1,3 +1,4 @@
+# shellcheck shell=sh
 # For the scripts to source: a script's help is the comment at its head.
 help() { sed -n -e 1d -e '/^#/!q' -e 's/^# \{0,1\}//p' "$0"; }
 wrong() {
