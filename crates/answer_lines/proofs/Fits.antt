@@ -12,7 +12,7 @@ use Rattle.algebra.specs.Lists.{All, filterBy, concatMap}
 use Rattle.algebra.proofs.Lists.{filter-all, filter-length}
 use Rattle.exact.specs.Exact.{Number, Exact, maxExponent}
 use Rattle.verdict.specs.declared.Verdict.{Verdict}
-use Rattle.verdict.specs.declared.Verdict.the-variants.{Accepted, OverLimit, UnsupportedAt, OperandAt, BadStore, MalformedAt, OverCeiling, TooHeavy, ShortBuffer, TooLarge, Malformed, BadLayers, ClashAt, BadText, UnknownNameAt, NotScheduleAt}
+use Rattle.verdict.specs.declared.Verdict.the-variants.{Accepted, OverLimit, UnsupportedAt, OperandAt, BadStore, MalformedAt, OverCeiling, TooHeavy, ShortBuffer, TooLarge, Malformed, BadLayers, ClashAt, BadText, UnknownNameAt, NotScheduleAt, ZeroBlock, BadNodeAt, BadAxisAt, NoOutcomeAt, NoPlace, NoGate, NotHermitianAt, NotPlainAt, TooManyPairs, BadCounts}
 use Rattle.verdict.specs.Verdict.{verdictNumber, verdictIndex}
 use Rattle.scalar.specs.declared.Scalar.{Scalar}
 use Rattle.scalar.specs.Calls.{value}
@@ -116,6 +116,16 @@ reason-most (ClashAt i) = record { le = omega arith }
 reason-most BadText = record { le = omega arith }
 reason-most (UnknownNameAt i) = record { le = omega arith }
 reason-most (NotScheduleAt i) = record { le = omega arith }
+reason-most ZeroBlock = record { le = omega arith }
+reason-most (BadNodeAt i) = record { le = omega arith }
+reason-most (BadAxisAt i) = record { le = omega arith }
+reason-most (NoOutcomeAt i) = record { le = omega arith }
+reason-most NoPlace = record { le = omega arith }
+reason-most NoGate = record { le = omega arith }
+reason-most (NotHermitianAt i) = record { le = omega arith }
+reason-most (NotPlainAt i) = record { le = omega arith }
+reason-most TooManyPairs = record { le = omega arith }
+reason-most BadCounts = record { le = omega arith }
 
 single : (xs : List ℕ) → AtMost xs maxLine → AtMost (xs ++ []) maxLine
 single xs p = plus p (known [])

@@ -6,10 +6,10 @@ ghost use Rattle.text.specs.Inner.Written.{Written};
 ghost use Rattle.answers.specs.Reasons.{reason};
 
 // How many verdicts there are.
-const VERDICTS: usize = 16;
+const VERDICTS: usize = 26;
 
 // The sentences in the order of the verdicts' numbers, end to end.
-const SENTENCES: [u8; 1510] = *b"The circuit is accepted.\
+const SENTENCES: [u8; 2407] = *b"The circuit is accepted.\
     The circuit is over a limit on qubits, classical bits, gates, branches or size: make it smaller, or raise that limit, at most to its ceiling.\
     This gate is not supported: write it with gates that are, where rz turns by multiples of pi/4.\
     This gate names a qubit or a bit that is not there, or a qubit twice: name different ones, numbered from 0.\
@@ -24,7 +24,17 @@ const SENTENCES: [u8; 1510] = *b"The circuit is accepted.\
     This gate shares a qubit or a bit with an earlier gate of its layer: move it to another layer.\
     The text is not OpenQASM 2 in the form that is read: correct it at this place.\
     This gate or register is not known here: use a gate that can be read and written, or a declared register.\
-    The new list is no schedule of the old one at this gate: list each old gate once, by its old position, and keep the order of gates that share a qubit or a bit.";
+    The new list is no schedule of the old one at this gate: list each old gate once, by its old position, and keep the order of gates that share a qubit or a bit.\
+    A block of the channel is zero in every entry: leave such blocks out.\
+    This node names a qubit that is not there, or a node that does not come before it: name qubits from 0 and earlier nodes.\
+    The axis of this operation is no node of the program, or is not its own adjoint: name a node, with a phase that makes it Hermitian.\
+    This operation asks for an outcome that is not yet made: name one of an earlier measure.\
+    There is no free place for another gate: lend more words, for at most 1,024 gates.\
+    There is no gate at this position: name one that holds a gate.\
+    This block of the channel is not Hermitian: hand in a channel as the judge leaves it.\
+    This gate or block is outside the plain profile, whose numbers have no square root of 2: keep to the gates of the profile.\
+    There are more than 32 pairs: give them in several lists.\
+    The words are not those of a kept circuit as its calls leave them: start it anew.";
 
 // Where each begins, and the end of the last.
 const STARTS: [usize; VERDICTS + 1] = [
@@ -45,6 +55,16 @@ const STARTS: [usize; VERDICTS + 1] = [
     1246,
     1351,
     1510,
+    1579,
+    1699,
+    1830,
+    1918,
+    2000,
+    2062,
+    2147,
+    2269,
+    2326,
+    2407,
 ];
 
 // Puts the sentence of a verdict.

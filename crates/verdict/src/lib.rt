@@ -2,7 +2,7 @@
 ghost use mathlib.Core.Path.{_≡_};
 ghost use Rattle.verdict.specs.Verdict.{verdictNumber, verdictIndex, accepted};
 
-// In the order of document 01's numbers, from 0 to 15.
+// In the order of document 01's numbers, from 0 to 25.
 pub enum Verdict {
     Accepted,
     OverLimit,
@@ -20,6 +20,16 @@ pub enum Verdict {
     BadText,
     UnknownNameAt(usize),
     NotScheduleAt(usize),
+    ZeroBlock,
+    BadNodeAt(usize),
+    BadAxisAt(usize),
+    NoOutcomeAt(usize),
+    NoPlace,
+    NoGate,
+    NotHermitianAt(usize),
+    NotPlainAt(usize),
+    TooManyPairs,
+    BadCounts,
 }
 
 impl Verdict {
@@ -43,6 +53,16 @@ impl Verdict {
             Verdict::BadText => 13,
             Verdict::UnknownNameAt(_) => 14,
             Verdict::NotScheduleAt(_) => 15,
+            Verdict::ZeroBlock => 16,
+            Verdict::BadNodeAt(_) => 17,
+            Verdict::BadAxisAt(_) => 18,
+            Verdict::NoOutcomeAt(_) => 19,
+            Verdict::NoPlace => 20,
+            Verdict::NoGate => 21,
+            Verdict::NotHermitianAt(_) => 22,
+            Verdict::NotPlainAt(_) => 23,
+            Verdict::TooManyPairs => 24,
+            Verdict::BadCounts => 25,
         }
     }
 
@@ -67,6 +87,16 @@ impl Verdict {
             Verdict::BadText => 0,
             Verdict::UnknownNameAt(i) => i,
             Verdict::NotScheduleAt(i) => i,
+            Verdict::ZeroBlock => 0,
+            Verdict::BadNodeAt(i) => i,
+            Verdict::BadAxisAt(i) => i,
+            Verdict::NoOutcomeAt(i) => i,
+            Verdict::NoPlace => 0,
+            Verdict::NoGate => 0,
+            Verdict::NotHermitianAt(i) => i,
+            Verdict::NotPlainAt(i) => i,
+            Verdict::TooManyPairs => 0,
+            Verdict::BadCounts => 0,
         }
     }
 
