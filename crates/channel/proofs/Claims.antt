@@ -1,6 +1,6 @@
 -- The claims on the comparison of two channels.
 use mathlib.Core.Path.{_≡_, refl, sym, ap, _∙_, subst}
-use mathlib.Core.Bool.{Bool, true, false, cond, _&&_, true≢false}
+use mathlib.Core.Bool.{Bool, true, false, cond, _&&_, _||_, true≢false}
 use mathlib.Core.List.{List, [], _∷_, map}
 use Prim.Native.Nat.{ℕ, zero, suc, _+_, _*_, _/_, _%_, _≤_, _<_}
 use native.Mathlib.Nat.{div-add-mod', div-lt-iff-lt-mul, mod-lt}
@@ -8,41 +8,47 @@ use native.Mathlib.Omega.{arith}
 use lib.Dec.{eqb}
 use lib.IntN.{ℤ}
 use borrow.Author.Tests.{eq-eqb, eqb-true}
-use Rattle.algebra.proofs.Tests.{eqb-same}
+use Rattle.algebra.proofs.Tests.{and-split, eqb-same}
 use Rattle.exact.specs.Exact.{equal}
 use Rattle.exact.proofs.Equal.{equal-swap}
+use Rattle.verdict.specs.Verdict.{accepted}
 use Rattle.scalar.specs.Calls.{scalarOf}
 use Rattle.channel.specs.declared.compare.Place.{Place}
 use Rattle.channel.specs.declared.compare.Found.{Found}
 use Rattle.channel.specs.declared.compare.Found.the-variants.{Refused, Same, Dimensions, Entry}
 use Rattle.channel.specs.declared.compare.Difference.{Difference}
 use Rattle.channel.specs.Layout.{side, dimAt, bitsAt, readBack}
-use Rattle.channel.specs.WellFormed.{wellFormed}
-use Rattle.channel.specs.Compare.{Both, plain, unless, entry, isSame, orElse, scan, first, merge, compareOf}
-use Rattle.channel.specs.Claims.{entryOf, earlier, Comparable, Agree, SameExactly, swapped, Symmetric, FirstAt, FirstEntry}
-use Rattle.channel.proofs.Judging.{formed, verdictBy}
+use Rattle.channel.specs.WellFormed.{wellFormed, someZero, hasZeroBlock, formVerdict}
+use Rattle.channel.specs.Compare.{Both, plain, entry, isSame, orElse, scan, first, merge, compareOf}
+use Rattle.channel.specs.Claims.{entryOf, earlier, Sound, Comparable, Agree, SameExactly, Alike, AlikeExactly, swapped, Symmetric, FirstAt, FirstEntry}
+use Rattle.channel.proofs.Judging.{formed, form-right, verdict-accepts}
 use Rattle.channel.proofs.Sorted.{sorted, swap, merge-swap, merge-left, merge-right, merge-sorted, lookLeft, lookRight}
+use Rattle.channel.proofs.Stores.{same-stores}
 use Rattle.channel.proofs.First.{Compared, alike, differs, compared}
+
+pub sound : (l : List ℤ) → Sound l → accepted (formVerdict l) ≡ true
+sound l s = verdict-accepts (wellFormed l) (hasZeroBlock l) (s .right) (s .full)
 
 module _ (l r : List ℤ) where
   abbrev both : List Both
   both = merge (readBack l) (readBack r)
 
+  -- the answer by its four tests
   abbrev by : Bool → Bool → Bool → Bool → Difference
-  by p q s t = unless (verdictBy p) (unless (verdictBy q) (cond (s && t) (first (side (dimAt l)) both) (plain Dimensions)))
+  by p q s t = cond p (cond q (cond (s && t) (first (side (dimAt l)) both) (plain Dimensions)) (plain (Refused (formVerdict r)))) (plain (Refused (formVerdict l)))
 
   module _ (c : Comparable l r) where
     is-first : compareOf l r ≡ first (side (dimAt l)) both
-    is-first = λ i. by (c .left i) (c .right i) (eq-eqb (dimAt l) (dimAt r) (c .dims) i) (eq-eqb (bitsAt l) (bitsAt r) (c .bits) i)
+    is-first = λ i. by (sound l (c .left) i) (sound r (c .right) i) (eq-eqb (dimAt l) (dimAt r) (c .dims) i) (eq-eqb (bitsAt l) (bitsAt r) (c .bits) i)
 
     left-is : (s k : ℕ) → lookLeft both s k ≡ entryOf l s k
-    left-is = merge-left (readBack l) (readBack r) (sorted l (c .left)) (sorted r (c .right))
+    left-is = merge-left (readBack l) (readBack r) (sorted l (c .left .right)) (sorted r (c .right .right))
 
     right-is : (s k : ℕ) → lookRight both s k ≡ entryOf r s k
-    right-is = merge-right (readBack l) (readBack r) (sorted l (c .left)) (sorted r (c .right))
+    right-is = merge-right (readBack l) (readBack r) (sorted l (c .left .right)) (sorted r (c .right .right))
 
     outcome : Compared (side (dimAt l)) both (first (side (dimAt l)) both)
-    outcome = compared (side (dimAt l)) both (merge-sorted (readBack l) (readBack r) (sorted l (c .left)) (sorted r (c .right)))
+    outcome = compared (side (dimAt l)) both (merge-sorted (readBack l) (readBack r) (sorted l (c .left .right)) (sorted r (c .right .right)))
 
     across : (s k : ℕ) → lookLeft both s k ≡ lookRight both s k → entryOf l s k ≡ entryOf r s k
     across s k e = sym (left-is s k) ∙ e ∙ right-is s k
@@ -61,6 +67,29 @@ same-exactly l r c = (to (outcome l r c), from (outcome l r c))
     from (alike d f) a = is-first l r c ∙ d
     from (differs s q p f u d) a = absurd (u (back l r c s q (a s q p)))
 
+pub alike-exactly : AlikeExactly
+alike-exactly l r p q = (λ e. go (eqb (dimAt l) (dimAt r) && eqb (bitsAt l) (bitsAt r)) refl e, λ a. same-exactly l r (comparable (a .dims) (a .bits)) .1 (a .entries))
+  where
+    comparable : dimAt l ≡ dimAt r → bitsAt l ≡ bitsAt r → Comparable l r
+    comparable d b = record { left = p; right = q; dims = d; bits = b }
+
+    go : (t : Bool) → (eqb (dimAt l) (dimAt r) && eqb (bitsAt l) (bitsAt r)) ≡ t → compareOf l r .found ≡ Same → Alike l r
+    go true t e =
+        let u = and-split (eqb (dimAt l) (dimAt r)) (eqb (bitsAt l) (bitsAt r)) t in
+        let d = eqb-true (dimAt l) (dimAt r) (u .0) in
+        let b = eqb-true (bitsAt l) (bitsAt r) (u .1) in
+        let a = same-exactly l r (comparable d b) .0 e in
+        record {
+          dims = d;
+          bits = b;
+          stores = same-stores (side (dimAt l)) (readBack l) (readBack r) (sorted l (p .right)) (sorted r (q .right)) (p .full) (ap (λ (k : ℕ). someZero (side k) (readBack r)) d ∙ q .full) a;
+          entries = a;
+        }
+    go false t e = absurd (true≢false (sym (ap isSame (sym (ap (λ (x : Difference). x .found) is) ∙ e))))
+      where
+        is : compareOf l r ≡ plain Dimensions
+        is = λ i. cond (sound l p i) (cond (sound r q i) (cond (t i) (first (side (dimAt l)) (both l r)) (plain Dimensions)) (plain (Refused (formVerdict r)))) (plain (Refused (formVerdict l)))
+
 -- the place of an answer
 placeOf : Found → Place
 placeOf (Refused v) = record { store = 0; row = 0; col = 0 }
@@ -76,7 +105,7 @@ first-entry l r c p e = go (outcome l r c)
     w = side (dimAt l)
 
     some : 0 < w
-    some = by (dimAt l) (formed l (c .left) .head .some)
+    some = by (dimAt l) (formed l (c .left .right) .head .some)
       where
         by : (d : ℕ) → 1 ≤ d → 0 < d * d
         by zero h = absurd (omega arith)
@@ -131,24 +160,24 @@ first-swap w [] = refl
 first-swap w (b ∷ bs) = (λ i. orElse (scan-swap b w (w * w) 0 i) (first-swap w bs i)) ∙ or-swap (scan b w (w * w) 0) (first w bs)
 
 pub symmetric : Symmetric
-symmetric l r = go (wellFormed l) refl (wellFormed r) refl (eqb (dimAt l) (dimAt r)) refl (eqb (bitsAt l) (bitsAt r)) refl
+symmetric l r h = go (accepted (formVerdict l)) refl (accepted (formVerdict r)) refl h (eqb (dimAt l) (dimAt r)) refl (eqb (bitsAt l) (bitsAt r)) refl
   where
-    mine : (p q s t : Bool) → wellFormed l ≡ p → wellFormed r ≡ q → eqb (dimAt l) (dimAt r) ≡ s → eqb (bitsAt l) (bitsAt r) ≡ t → compareOf l r ≡ by l r p q s t
+    mine : (p q s t : Bool) → accepted (formVerdict l) ≡ p → accepted (formVerdict r) ≡ q → eqb (dimAt l) (dimAt r) ≡ s → eqb (bitsAt l) (bitsAt r) ≡ t → compareOf l r ≡ by l r p q s t
     mine p q s t a b c d = λ i. by l r (a i) (b i) (c i) (d i)
 
-    theirs : (p q s t : Bool) → wellFormed l ≡ p → wellFormed r ≡ q → eqb (dimAt l) (dimAt r) ≡ s → eqb (bitsAt l) (bitsAt r) ≡ t → compareOf r l ≡ by r l q p s t
+    theirs : (p q s t : Bool) → accepted (formVerdict l) ≡ p → accepted (formVerdict r) ≡ q → eqb (dimAt l) (dimAt r) ≡ s → eqb (bitsAt l) (bitsAt r) ≡ t → compareOf r l ≡ by r l q p s t
     theirs p q s t a b c d = λ i. by r l (b i) (a i) ((turned (dimAt r) (dimAt l) ∙ c) i) ((turned (bitsAt r) (bitsAt l) ∙ d) i)
       where
         turned : (m n : ℕ) → eqb m n ≡ eqb n m
         turned m n = eqb-same m n n m sym sym
 
-    go : (p : Bool) → wellFormed l ≡ p → (q : Bool) → wellFormed r ≡ q → (s : Bool) → eqb (dimAt l) (dimAt r) ≡ s → (t : Bool) → eqb (bitsAt l) (bitsAt r) ≡ t → compareOf r l ≡ swapped (compareOf l r)
-    go false a true b s c t d = theirs false true s t a b c d ∙ sym (ap swapped (mine false true s t a b c d))
-    go false a false b s c t d = theirs false false s t a b c d ∙ sym (ap swapped (mine false false s t a b c d))
-    go true a false b s c t d = theirs true false s t a b c d ∙ sym (ap swapped (mine true false s t a b c d))
-    go true a true b false c t d = theirs true true false t a b c d ∙ sym (ap swapped (mine true true false t a b c d))
-    go true a true b true c false d = theirs true true true false a b c d ∙ sym (ap swapped (mine true true true false a b c d))
-    go true a true b true c true d =
+    go : (p : Bool) → accepted (formVerdict l) ≡ p → (q : Bool) → accepted (formVerdict r) ≡ q → (accepted (formVerdict l) || accepted (formVerdict r)) ≡ true → (s : Bool) → eqb (dimAt l) (dimAt r) ≡ s → (t : Bool) → eqb (bitsAt l) (bitsAt r) ≡ t → compareOf r l ≡ swapped (compareOf l r)
+    go false a true b h s c t d = theirs false true s t a b c d ∙ sym (ap swapped (mine false true s t a b c d))
+    go false a false b h s c t d = absurd (true≢false (sym h ∙ (λ i. a i || b i)))
+    go true a false b h s c t d = theirs true false s t a b c d ∙ sym (ap swapped (mine true false s t a b c d))
+    go true a true b h false c t d = theirs true true false t a b c d ∙ sym (ap swapped (mine true true false t a b c d))
+    go true a true b h true c false d = theirs true true true false a b c d ∙ sym (ap swapped (mine true true true false a b c d))
+    go true a true b h true c true d =
         theirs true true true true a b c d
-        ∙ (λ i. first (side (sym (eqb-true (dimAt l) (dimAt r) c) i)) (merge-swap (readBack l) (readBack r) (sorted l a) (sorted r b) i))
+        ∙ (λ i. first (side (sym (eqb-true (dimAt l) (dimAt r) c) i)) (merge-swap (readBack l) (readBack r) (sorted l (form-right l a)) (sorted r (form-right r b)) i))
         ∙ first-swap (side (dimAt l)) (both l r) ∙ sym (ap swapped (mine true true true true a b c d))

@@ -9,11 +9,12 @@ use lib.ListN.{length, take, drop}
 use lib.IntN.{ℤ, natAbs}
 use Rattle.algebra.specs.Words.{fromBits}
 use Rattle.channel.specs.Layout.{recordSize, side, word, storeAt, dimAt, bitsAt, countAt}
-use Rattle.channel.specs.WellFormed.{wellFormed}
+use Rattle.channel.specs.WellFormed.{wellFormed, formVerdict}
 use Rattle.channel.specs.Inner.Shapes.{Onward}
 use Rattle.store.specs.Store.{storeFits}
-use Rattle.channel.specs.Lookup.{Lookup, malformed, wrongStore, missing, found, find, placed, lookupOf, partOf, spanOf}
-use Rattle.channel.proofs.Judging.{verdict-test}
+use Rattle.channel.specs.Lookup.{Lookup, refused, wrongStore, missing, found, find, placed, lookupOf, partOf, spanOf}
+use Rattle.verdict.specs.Verdict.{accepted}
+use Rattle.channel.proofs.Judging.{form-right}
 use Rattle.channel.proofs.Chain.{onward-begin, on-inside, on-next}
 
 -- ---- one step of the walk
@@ -38,7 +39,7 @@ placed-found (suc a) h = refl
 
 -- the part, by its place and size
 pub part-span : (l : List ℤ) (x : Lookup) → take (spanOf l x .size) (drop (spanOf l x .start) l) ≡ partOf l x
-part-span l malformed = refl
+part-span l refused = refl
 part-span l wrongStore = refl
 part-span l missing = refl
 part-span l (found at) = refl
@@ -59,20 +60,20 @@ module _ (l : List ℤ) (bs : List ℕ) where
   abbrev pub index : ℕ
   index = find l (fromBits bs) (countAt l) (natAbs (word l 3))
 
-  pub look-malformed : wellFormed l ≡ false → lookupOf l bs ≡ malformed
-  look-malformed e = ap (λ (b : Bool). cond b (cond (storeFits (bitsAt l) bs) (placed index) wrongStore) malformed) (verdict-test (wellFormed l) ∙ e)
+  pub look-refused : accepted (formVerdict l) ≡ false → lookupOf l bs ≡ refused
+  look-refused e = ap (λ (b : Bool). cond b (cond (storeFits (bitsAt l) bs) (placed index) wrongStore) refused) e
 
-  pub look-wrong : wellFormed l ≡ true → storeFits (bitsAt l) bs ≡ false → lookupOf l bs ≡ wrongStore
-  look-wrong e f = λ i. cond ((verdict-test (wellFormed l) ∙ e) i) (cond (f i) (placed index) wrongStore) malformed
+  pub look-wrong : accepted (formVerdict l) ≡ true → storeFits (bitsAt l) bs ≡ false → lookupOf l bs ≡ wrongStore
+  look-wrong e f = λ i. cond (e i) (cond (f i) (placed index) wrongStore) refused
 
-  pub look-placed : wellFormed l ≡ true → storeFits (bitsAt l) bs ≡ true → lookupOf l bs ≡ placed index
-  look-placed e f = λ i. cond ((verdict-test (wellFormed l) ∙ e) i) (cond (f i) (placed index) wrongStore) malformed
+  pub look-placed : accepted (formVerdict l) ≡ true → storeFits (bitsAt l) bs ≡ true → lookupOf l bs ≡ placed index
+  look-placed e f = λ i. cond (e i) (cond (f i) (placed index) wrongStore) refused
 
   pub index-inside : wellFormed l ≡ true → (a : ℕ) → index ≡ a → 0 < a → a + recordSize (side (dimAt l)) ≤ length l
   index-inside e = find-inside (fromBits bs) (countAt l) (natAbs (word l 3)) (onward-begin l e)
 
   pub span-inside : spanOf l (lookupOf l bs) .start + spanOf l (lookupOf l bs) .size ≤ length l
-  span-inside = go (wellFormed l) refl
+  span-inside = go (accepted (formVerdict l)) refl
     where
       Inside : Lookup → Type 0
       Inside x = spanOf l x .start + spanOf l x .size ≤ length l
@@ -81,10 +82,10 @@ module _ (l : List ℤ) (bs : List ℕ) where
       placed-inside zero h = omega arith
       placed-inside (suc a) h = let q = h (omega arith) in omega arith
 
-      right : (b : Bool) → storeFits (bitsAt l) bs ≡ b → wellFormed l ≡ true → Inside (lookupOf l bs)
-      right true t e = subst Inside (sym (look-placed e t)) (placed-inside index (index-inside e index refl))
+      right : (b : Bool) → storeFits (bitsAt l) bs ≡ b → accepted (formVerdict l) ≡ true → Inside (lookupOf l bs)
+      right true t e = subst Inside (sym (look-placed e t)) (placed-inside index (index-inside (form-right l e) index refl))
       right false t e = subst Inside (sym (look-wrong e t)) (omega arith)
 
-      go : (b : Bool) → wellFormed l ≡ b → Inside (lookupOf l bs)
+      go : (b : Bool) → accepted (formVerdict l) ≡ b → Inside (lookupOf l bs)
       go true e = right (storeFits (bitsAt l) bs) refl e
-      go false e = subst Inside (sym (look-malformed e)) (omega arith)
+      go false e = subst Inside (sym (look-refused e)) (omega arith)

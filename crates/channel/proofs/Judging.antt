@@ -1,41 +1,41 @@
 -- Judged records: what a verdict says of the test behind it, and where the records of a well-formed channel lie.
 use mathlib.Core.Path.{_≡_, refl, sym, ap, _∙_}
-use mathlib.Core.Bool.{Bool, true, false, cond, _&&_}
+use mathlib.Core.Bool.{Bool, true, false, not, cond, _&&_, _||_, true≢false}
 use mathlib.Core.List.{List}
 use Prim.Native.Nat.{ℕ, suc, _+_, _*_, _-_, _/_, _<_, _≤_}
 use native.Mathlib.Omega.{arith}
 use native.Mathlib.Nat.{le-div-iff-mul-le}
-use lib.Dec.{leb}
+use lib.Dec.{leb, eqb}
 use lib.ListN.{length}
 use borrow.Author.Tests.{leb-true}
 use lib.IntN.{ℤ, pos, natAbs}
 use Rattle.algebra.specs.Words.{eqℤ, upTo}
 use Rattle.algebra.proofs.Tests.{and-split}
 use Rattle.verdict.specs.declared.Verdict.{Verdict}
-use Rattle.verdict.specs.declared.Verdict.the-variants.{Accepted, Malformed}
-use Rattle.verdict.specs.Verdict.{accepted}
-use Rattle.channel.specs.Layout.{headerSize, recordSize, side, word, storeAt, dimAt, bitsAt, countAt}
+use Rattle.verdict.specs.declared.Verdict.the-variants.{Malformed}
+use Rattle.verdict.specs.Verdict.{verdictNumber, accepted}
+use Rattle.channel.specs.Layout.{headerSize, recordSize, side, word, entryAt, storeAt, dimAt, bitsAt, countAt, chain}
 use Rattle.channel.specs.declared.Shape.{Shape}
 use Rattle.channel.specs.declared.well_formed.Judged.{Judged}
-use Rattle.channel.specs.WellFormed.{isDim, isStart, recordOk, chainOk, headerOk, chained, wellFormed}
+use Rattle.channel.specs.WellFormed.{isDim, isStart, recordOk, chainOk, headerOk, chained, wellFormed, allZero, someZero, hasZeroBlock, verdictBy, formVerdict}
 use Rattle.channel.specs.Inner.Shapes.{judged, Room, shapeAt, shapeOf, noShape, shapeBy}
 use Rattle.store.proofs.Words.{up-abs}
 use Rattle.channel.proofs.Words.{dim-range, square-small}
 
-pub good : (j : Judged) (b : Bool) (s : ℕ) → j ≡ judged b s → j .ok ≡ true → (b ≡ true) × (j .store ≡ s)
-good j b s e f =
+pub good : (j : Judged) (b z : Bool) (s : ℕ) → j ≡ judged b z s → j .ok ≡ true → (b ≡ true) × ((j .store ≡ s) × (j .zero ≡ z))
+good j b z s e f =
     let t : b ≡ true = sym (ap (λ (k : Judged). k .ok) e) ∙ f in
-    (t, ap (λ (k : Judged). k .store) e ∙ ap (λ (c : Bool). cond c s 0) t)
+    (t, (ap (λ (k : Judged). k .store) e ∙ ap (λ (c : Bool). cond c s 0) t, ap (λ (k : Judged). k .zero) e ∙ ap (λ (c : Bool). c && z) t))
 
-pub bad : (j : Judged) (b : Bool) (s : ℕ) → j ≡ judged b s → j .ok ≡ false → b ≡ false
-bad j b s e f = sym (ap (λ (k : Judged). k .ok) e) ∙ f
+pub bad : (j : Judged) (b z : Bool) (s : ℕ) → j ≡ judged b z s → j .ok ≡ false → b ≡ false
+bad j b z s e f = sym (ap (λ (k : Judged). k .ok) e) ∙ f
 
 -- a verdict on a test that fails, or holds
-pub is-bad : (j : Judged) (b : Bool) (s : ℕ) → j ≡ judged false 0 → b ≡ false → j ≡ judged b s
-is-bad j b s e f = e ∙ ap (λ (c : Bool). judged c s) (sym f)
+pub is-bad : (j : Judged) (b z : Bool) (s : ℕ) → j ≡ judged false false 0 → b ≡ false → j ≡ judged b z s
+is-bad j b z s e f = e ∙ ap (λ (c : Bool). judged c z s) (sym f)
 
-pub is-good : (n : ℕ) (b : Bool) (s : ℕ) → n ≡ s → b ≡ true → _≡_ {A = Judged} (record { ok = true; store = n }) (judged b s)
-is-good n b s e f = ap (judged true) e ∙ ap (λ (c : Bool). judged c s) (sym f)
+pub is-good : (y : Bool) (n : ℕ) (b z : Bool) (s : ℕ) → y ≡ z → n ≡ s → b ≡ true → _≡_ {A = Judged} (record { ok = true; zero = y; store = n }) (judged b z s)
+is-good y n b z s d e f = (λ i. judged (sym f i) (d i) (e i))
 
 -- ---- one step along the chain
 module _ (l : List ℤ) (w m count n : ℕ) (z : ℤ) (first : Bool) (prev : ℕ) (h : 0 < n) where
@@ -64,6 +64,22 @@ module _ (l : List ℤ) (w m count n : ℕ) (z : ℤ) (first : Bool) (prev : ℕ
 
   pub chain-rest : chainOk l w m count n z first prev ≡ true → rest ≡ true
   chain-rest e = and-split (recordOk l w m (natAbs z) first prev) _ (and-split (isStart w count z) _ (sym step ∙ e) .1) .1
+
+pub or-assoc : (a b c : Bool) → (a || (b || c)) ≡ ((a || b) || c)
+or-assoc true b c = refl
+or-assoc false b c = refl
+
+pub or-end : (a : Bool) → (a || false) ≡ a
+or-end true = refl
+or-end false = refl
+
+-- whether a block is zero, one block further along the chain, and at its end
+module _ (l : List ℤ) (w n at : ℕ) where
+  pub zero-step : 0 < n → someZero w (chain l n at) ≡ (allZero (w * w) (entryAt l at) || someZero w (chain l (n - 1) (natAbs (word l at))))
+  zero-step h = let e : n ≡ suc (n - 1) = omega arith in ap (λ (k : ℕ). someZero w (chain l k at)) e
+
+  pub zero-end : n ≤ 0 → someZero w (chain l n at) ≡ false
+  zero-end h = let e : n ≡ 0 = omega arith in ap (λ (k : ℕ). someZero w (chain l k at)) e
 
 pub chain-end : (l : List ℤ) (w m count n : ℕ) (z : ℤ) (first : Bool) (prev : ℕ) → n ≤ 0 → chainOk l w m count n z first prev ≡ eqℤ z (pos 0)
 unfolding chainOk
@@ -96,39 +112,81 @@ headed l e =
     fit : (s n k : ℕ) → 1 ≤ s → headerSize ≤ k → n ≤ (k - headerSize) / s → headerSize + n * s ≤ k
     fit s n k p h q = let r = le-div-iff-mul-le p .0 q in omega arith
 
--- the verdict of a test of the form
-abbrev pub verdictBy : Bool → Verdict
-verdictBy b = cond b Accepted Malformed
-
-pub verdict-test : (b : Bool) → accepted (verdictBy b) ≡ b
+-- what a verdict says of its two tests
+pub verdict-test : (b : Bool) → accepted (verdictBy b false) ≡ b
 verdict-test true = refl
 verdict-test false = refl
 
-module _ (l : List ℤ) (b : Bool) (h : Shape) (e : h ≡ shapeBy (verdictBy b) l) where
-  pub shape-test : accepted (h .verdict) ≡ b
-  shape-test = ap (λ (s : Shape). accepted (s .verdict)) e ∙ by b
+pub verdict-right : (b z : Bool) → accepted (verdictBy b z) ≡ true → (b ≡ true) × (z ≡ false)
+verdict-right true true e = absurd (true≢false (sym e))
+verdict-right true false e = (refl, refl)
+verdict-right false z e = absurd (true≢false (sym e))
+
+pub verdict-accepts : (b z : Bool) → b ≡ true → z ≡ false → accepted (verdictBy b z) ≡ true
+verdict-accepts b z e f = λ i. accepted (verdictBy (e i) (f i))
+
+-- a channel that is accepted
+module _ (l : List ℤ) (e : accepted (formVerdict l) ≡ true) where
+  pub form-right : wellFormed l ≡ true
+  form-right = verdict-right (wellFormed l) (hasZeroBlock l) e .0
+
+  pub form-full : hasZeroBlock l ≡ false
+  form-full = verdict-right (wellFormed l) (hasZeroBlock l) e .1
+
+-- a shape by its verdict
+module _ (l : List ℤ) (v : Verdict) where
+  pub shape-yes : accepted v ≡ true → shapeAt l ≡ shapeBy v l
+  shape-yes e = ap (λ (b : Bool). cond b (shapeAt l) (noShape v)) (sym e)
+
+  pub shape-refused : accepted v ≡ false → noShape v ≡ shapeBy v l
+  shape-refused e = ap (λ (b : Bool). cond b (shapeAt l) (noShape v)) (sym e)
+
+-- what a shape says of the verdict that it goes with
+module _ (l : List ℤ) (v : Verdict) (h : Shape) (e : h ≡ shapeBy v l) where
+  pub shape-test : accepted (h .verdict) ≡ accepted v
+  shape-test = ap (λ (s : Shape). accepted (s .verdict)) e ∙ by (accepted v) refl
     where
-      by : (b : Bool) → accepted (shapeBy (verdictBy b) l .verdict) ≡ b
-      by true = refl
-      by false = refl
+      by : (b : Bool) → accepted v ≡ b → accepted (shapeBy v l .verdict) ≡ accepted v
+      by true p = ap (λ (b : Bool). accepted (cond b (shapeAt l) (noShape v) .verdict)) p ∙ sym p
+      by false p = ap (λ (b : Bool). accepted (cond b (shapeAt l) (noShape v) .verdict)) p
 
   pub shape-is : accepted (h .verdict) ≡ true → h ≡ shapeAt l
-  shape-is f = e ∙ ap (λ (c : Bool). shapeBy (verdictBy c) l) (sym shape-test ∙ f)
+  shape-is f = e ∙ ap (λ (b : Bool). cond b (shapeAt l) (noShape v)) (sym shape-test ∙ f)
 
-  pub shape-no : accepted (h .verdict) ≡ false → h ≡ noShape Malformed
-  shape-no f = e ∙ ap (λ (c : Bool). shapeBy (verdictBy c) l) (sym shape-test ∙ f)
+  pub shape-no : accepted (h .verdict) ≡ false → h ≡ noShape v
+  shape-no f = e ∙ ap (λ (b : Bool). cond b (shapeAt l) (noShape v)) (sym shape-test ∙ f)
 
--- the shape by a test that agrees with `wellFormed`
-pub shape-of : (l : List ℤ) (b : Bool) (h : Shape) → h ≡ shapeBy (verdictBy b) l → wellFormed l ≡ b → h ≡ shapeOf l
-shape-of l b h e f = e ∙ ap (λ (c : Bool). shapeBy (verdictBy c) l) (sym f)
+-- the verdict, by the header and what is found along the chain
+module _ (l : List ℤ) where
+  pub well-formed : (b : Bool) → headerOk l ≡ true → chained l ≡ b → wellFormed l ≡ b
+  unfolding wellFormed
+  well-formed b e f = λ i. e i && f i
 
-pub bad-header : (l : List ℤ) → headerOk l ≡ false → wellFormed l ≡ false
-unfolding wellFormed
-bad-header l e = ap (λ (b : Bool). b && chained l) e
+  pub bad-header : headerOk l ≡ false → formVerdict l ≡ Malformed
+  unfolding wellFormed
+  bad-header e = ap (λ (b : Bool). verdictBy (b && chained l) (hasZeroBlock l)) e
 
-pub well-formed : (l : List ℤ) (b : Bool) → headerOk l ≡ true → chained l ≡ b → wellFormed l ≡ b
-unfolding wellFormed
-well-formed l b e f = λ i. e i && f i
+  pub form-along : headerOk l ≡ true → formVerdict l ≡ verdictBy (chained l) (hasZeroBlock l)
+  unfolding wellFormed
+  form-along e = ap (λ (b : Bool). verdictBy (b && chained l) (hasZeroBlock l)) e
+
+  -- the verdict of the shape
+  pub shape-verdict : (h : Shape) → h ≡ shapeOf l → h .verdict ≡ formVerdict l
+  shape-verdict h e = ap (λ (s : Shape). s .verdict) e ∙ by (wellFormed l) (hasZeroBlock l)
+    where
+      by : (b z : Bool) → shapeBy (verdictBy b z) l .verdict ≡ verdictBy b z
+      by true true = refl
+      by true false = refl
+      by false z = refl
+
+  -- only 10 is not well formed
+  pub form-number : not (eqb (verdictNumber (formVerdict l)) 10) ≡ wellFormed l
+  form-number = by (wellFormed l) (hasZeroBlock l)
+    where
+      by : (b z : Bool) → not (eqb (verdictNumber (verdictBy b z)) 10) ≡ b
+      by true true = refl
+      by true false = refl
+      by false z = refl
 
 -- a well-formed channel: its header, and its chain
 pub record Formed (l : List ℤ) : Type 0 where

@@ -6,6 +6,7 @@ pub mod Scanning
 pub mod Merging
 pub mod Sorted
 pub mod First
+pub mod Stores
 pub mod Claims
 pub mod Visits
 pub mod Least

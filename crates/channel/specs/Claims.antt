@@ -1,11 +1,12 @@
 -- What is claimed of well-formed channels, and of the comparison of two.
 use mathlib.Core.Path.{_≡_}
-use mathlib.Core.Bool.{Bool, true, cond, _&&_, _||_}
+use mathlib.Core.Bool.{Bool, true, false, cond, _&&_, _||_}
 use mathlib.Core.List.{List, [], _∷_, _++_, map}
 use Prim.Native.Nat.{ℕ, zero, suc, _+_, _*_, _-_, _/_, _^_, _<_, _≤_}
 use lib.Dec.{eqb, ltb}
 use lib.IntN.{ℤ, pos, natAbs}
 use Rattle.algebra.specs.Lists.{total}
+use Rattle.verdict.specs.Verdict.{accepted}
 use Rattle.exact.specs.Exact.{Exact, exact}
 use Rattle.exact.specs.Exact as numbers
 use Rattle.scalar.specs.Calls.{scalarOf}
@@ -14,7 +15,7 @@ use Rattle.channel.specs.declared.compare.Found.the-variants.{Same, Entr
 use Rattle.channel.specs.declared.compare.Difference.{Difference}
 use Rattle.store.specs.Store.{before}
 use Rattle.channel.specs.Layout.{Block, headerSize, recordSize, side, word, dimAt, bitsAt, countAt, channelWords, readBack}
-use Rattle.channel.specs.WellFormed.{isDim, wellFormed}
+use Rattle.channel.specs.WellFormed.{isDim, wellFormed, hasZeroBlock, formVerdict}
 use Rattle.channel.specs.Compare.{plain, compareOf}
 
 -- entry k of the block of the store s; a missing block is zero
@@ -25,10 +26,15 @@ look (b ∷ bs) s k = cond (eqb s (b .store)) (b .entry k) (look bs s k)
 abbrev pub entryOf : List ℤ → ℕ → ℕ → Exact
 entryOf l = look (readBack l)
 
--- two well-formed channels of one dimension and one bit count
+-- a well-formed channel without a block of zeros
+pub record Sound (l : List ℤ) : Type 0 where
+  pub right : wellFormed l ≡ true
+  pub full : hasZeroBlock l ≡ false
+
+-- two such channels of one dimension and one bit count
 pub record Comparable (l r : List ℤ) : Type 0 where
-  pub left : wellFormed l ≡ true
-  pub right : wellFormed r ≡ true
+  pub left : Sound l
+  pub right : Sound r
   pub dims : dimAt l ≡ dimAt r
   pub bits : bitsAt l ≡ bitsAt r
 
@@ -44,11 +50,26 @@ Agree l r = (s k : ℕ) → k < size l → entryOf l s k ≡ entryOf r s k
 abbrev pub SameExactly : Type 0
 SameExactly = (l r : List ℤ) → Comparable l r → (compareOf l r .found ≡ Same → Agree l r) × (Agree l r → compareOf l r ≡ plain Same)
 
+abbrev pub storesOf : List Block → List ℕ
+storesOf bs = map (λ (b : Block). b .store) bs
+
+-- the same dimensions and bit counts, the same stores along the chain, and entries equal at every row and column
+pub record Alike (l r : List ℤ) : Type 0 where
+  pub dims : dimAt l ≡ dimAt r
+  pub bits : bitsAt l ≡ bitsAt r
+  pub stores : storesOf (readBack l) ≡ storesOf (readBack r)
+  pub entries : Agree l r
+
+-- so "same" says that nothing that is read back differs
+abbrev pub AlikeExactly : Type 0
+AlikeExactly = (l r : List ℤ) → Sound l → Sound r → (compareOf l r .found ≡ Same → Alike l r) × (Alike l r → compareOf l r ≡ plain Same)
+
 abbrev pub swapped : Difference → Difference
 swapped d = record { found = d .found; left = d .right; right = d .left }
 
+-- the other way round, unless both are refused: then the left one's refusal is told
 abbrev pub Symmetric : Type 0
-Symmetric = (l r : List ℤ) → compareOf r l ≡ swapped (compareOf l r)
+Symmetric = (l r : List ℤ) → (accepted (formVerdict l) || accepted (formVerdict r)) ≡ true → compareOf r l ≡ swapped (compareOf l r)
 
 -- entry j of the store s comes before entry k of the store t
 abbrev pub earlier : ℕ → ℕ → ℕ → ℕ → Bool
@@ -85,9 +106,6 @@ abbrev pub rising : List ℕ → Bool
 rising [] = true
 rising (x ∷ []) = true
 rising (x ∷ y ∷ ys) = before x y && rising (y ∷ ys)
-
-abbrev pub storesOf : List Block → List ℕ
-storesOf bs = map (λ (b : Block). b .store) bs
 
 -- n blocks that make a channel of dimension d and m bits
 pub record Writable (d m n : ℕ) (block : ℕ → Block) : Type 0 where

@@ -13,7 +13,8 @@ use Rattle.channel.specs.Layout.{recordHead, blockSize, side, word, stor
 use Rattle.channel.specs.WellFormed.{formVerdict}
 
 pub data Lookup : Type 0 where
-  malformed : Lookup
+  -- the channel is
+  refused : Lookup
   wrongStore : Lookup
   missing : Lookup
   -- the index of the store's record
@@ -30,7 +31,7 @@ placed (suc a) = found (suc a)
 
 abbrev pub lookupOf : List ℤ → List ℕ → Lookup
 lookupOf l bytes =
-    cond (accepted (formVerdict l)) (cond (storeFits (bitsAt l) bytes) (placed (find l (fromBits bytes) (countAt l) (natAbs (word l 3)))) wrongStore) malformed
+    cond (accepted (formVerdict l)) (cond (storeFits (bitsAt l) bytes) (placed (find l (fromBits bytes) (countAt l) (natAbs (word l 3)))) wrongStore) refused
 
 -- the words of a block's entries
 abbrev pub blockWords : List ℤ → ℕ
@@ -38,7 +39,7 @@ blockWords l = blockSize (side (dimAt l))
 
 -- the part of the words that holds the block's entries, or an empty part
 abbrev pub partOf : List ℤ → Lookup → List ℤ
-partOf l malformed = []
+partOf l refused = []
 partOf l wrongStore = []
 partOf l missing = []
 partOf l (found at) = take (blockWords l) (drop (at + recordHead) l)
@@ -48,7 +49,7 @@ abbrev pub noSpan : Span
 noSpan = record { start = 0; size = 0 }
 
 abbrev pub spanOf : List ℤ → Lookup → Span
-spanOf l malformed = noSpan
+spanOf l refused = noSpan
 spanOf l wrongStore = noSpan
 spanOf l missing = noSpan
 spanOf l (found at) = record { start = at + recordHead; size = blockWords l }

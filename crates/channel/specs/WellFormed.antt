@@ -1,17 +1,18 @@
--- Well-formed channels.
+-- Well-formed channels, and those without a block of zeros.
 use mathlib.Core.Bool.{Bool, true, false, cond, _&&_, _||_}
 use mathlib.Core.List.{List}
 use Prim.Native.Nat.{ℕ, zero, suc, _+_, _*_, _-_, _/_, _%_, _^_}
 use lib.Dec.{eqb, leb, ltb}
 use lib.ListN.{length}
 use lib.IntN.{ℤ, pos, negsuc, natAbs}
-use Rattle.algebra.specs.Lists.{allBelow}
+use Rattle.algebra.specs.Lists.{allBelow, some}
 use Rattle.algebra.specs.Words.{eqℤ, upTo}
+use Rattle.exact.specs.Exact.{Exact, isZero}
 use Rattle.cells.specs.Cells.{wellFormedAt}
 use Rattle.verdict.specs.declared.Verdict.{Verdict}
-use Rattle.verdict.specs.declared.Verdict.the-variants.{Accepted, Malformed}
+use Rattle.verdict.specs.declared.Verdict.the-variants.{Accepted, Malformed, ZeroBlock}
 use Rattle.store.specs.Store.{maxWord, storeFrom, before}
-use Rattle.channel.specs.Layout.{headerSize, recordSize, entryPlace, side, word, storeAt, dimAt, bitsAt, countAt}
+use Rattle.channel.specs.Layout.{Block, headerSize, recordSize, entryPlace, side, word, storeAt, dimAt, bitsAt, countAt, readBack}
 
 abbrev pub isDim : ℤ → Bool
 isDim z = (((eqℤ z (pos 1) || eqℤ z (pos 2)) || eqℤ z (pos 4)) || eqℤ z (pos 8)) || eqℤ z (pos 16)
@@ -58,6 +59,20 @@ chained l = chainOk l (side (dimAt l)) (bitsAt l) (countAt l) (countAt l) (word 
 unfoldable pub wellFormed : List ℤ → Bool
 wellFormed l = headerOk l && chained l
 
--- the verdict on words given as a channel
+-- ---- no block of zeros
+abbrev pub allZero : ℕ → (ℕ → Exact) → Bool
+allZero n x = allBelow n (λ (k : ℕ). isZero (x k .num))
+
+abbrev pub someZero : ℕ → List Block → Bool
+someZero w bs = some (λ (b : Block). allZero (w * w) (b .entry)) bs
+
+-- a block that is read back has no entry but zeros
+abbrev pub hasZeroBlock : List ℤ → Bool
+hasZeroBlock l = someZero (side (dimAt l)) (readBack l)
+
+-- the verdict on words given as a channel, by whether they are well formed and whether a block is zero
+abbrev pub verdictBy : Bool → Bool → Verdict
+verdictBy right blank = cond right (cond blank ZeroBlock Accepted) Malformed
+
 abbrev pub formVerdict : List ℤ → Verdict
-formVerdict l = cond (wellFormed l) Accepted Malformed
+formVerdict l = verdictBy (wellFormed l) (hasZeroBlock l)

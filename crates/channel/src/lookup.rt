@@ -66,8 +66,8 @@ pub fn locate(s: &[i64], store: &[u8]) -> Span
     }
 }
 
-// The part of the channel's words that holds the entries of a store's block: empty for a malformed channel, for a store of the
-// wrong length or with a byte above 1, and where the channel has no such block.
+// The part of the channel's words that holds the entries of a store's block: empty for a channel that is malformed or
+// has a block of zeros, for a store of the wrong length or with a byte above 1, and where the channel has no such block.
 pub fn lookup<'a>(channel: &'a [i64], store: &[u8]) -> &'a [i64]
     ensures { λ r. ⌜ now r ≡ partOf (now (channel .entry)) (lookupOf (now (channel .entry)) (now (store .entry))) ⌝ }
 {

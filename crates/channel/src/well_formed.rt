@@ -1,4 +1,4 @@
-// Whether words are a well-formed channel. Each word is read once.
+// Whether words are a well-formed channel, and whether a block of it is zero. Each word is read once.
 use super::Shape;
 use super::layout::HEADER;
 use super::layout::entry_place;
@@ -6,6 +6,7 @@ use super::layout::is_start;
 use super::layout::record_size;
 use super::layout::up_to;
 use cells::well_formed_at;
+use cells::zero_at;
 use store::MAX_WORD;
 use store::comes_before;
 use store::fits_bits;
@@ -13,24 +14,27 @@ use store::join;
 use verdict::Verdict;
 ghost use mathlib.Core.Path.{_≡_};
 ghost use mathlib.Core.Bool.{true, false};
-ghost use Prim.Native.Nat.{_+_, _≤_};
+ghost use Prim.Native.Nat.{_+_, _*_, _≤_};
 ghost use lib.ListN.{length};
+ghost use lib.IntN.{natAbs};
 ghost use Rattle.store.specs.Store.{storeFrom};
-ghost use Rattle.channel.specs.Layout.{recordHead, recordSize, entryPlace, storeAt, word};
-ghost use Rattle.channel.specs.WellFormed.{isDim, wordsOk, storeOk, entriesOk, recordOk, chainOk, wellFormed};
+ghost use Rattle.channel.specs.Layout.{recordHead, recordSize, entryPlace, entryAt, storeAt, word, chain};
+ghost use Rattle.channel.specs.WellFormed.{isDim, wordsOk, storeOk, entriesOk, recordOk, chainOk, wellFormed, allZero, someZero, verdictBy};
 ghost use Rattle.channel.specs.Inner.Shapes.{judged, Room, headerOf, shapeOf, noShape};
 
-// What is found of a record: its store, or `ok` false and 0.
+// What is found of a record: whether its block is zero, and its store; or `ok` false, false and 0.
 struct Judged {
     pub ok: bool,
+    pub zero: bool,
     pub store: u64,
 }
 
 fn bad() -> Judged
-    ensures { λ r. ⌜ r ≡ judged false 0 ⌝ }
+    ensures { λ r. ⌜ r ≡ judged false false 0 ⌝ }
 {
     Judged {
         ok: false,
+        zero: false,
         store: 0,
     }
 }
@@ -44,7 +48,7 @@ fn is_dim(z: i64) -> bool
 // The store in two words, if it has at most m bits.
 fn judge_words(low: i64, high: i64, m: u32) -> Judged
     requires { ⌜ m ≤ 64 ⌝ }
-    ensures { λ r. ⌜ r ≡ judged (wordsOk low high m) (storeFrom low high) ⌝ }
+    ensures { λ r. ⌜ r ≡ judged (wordsOk low high m) false (storeFrom low high) ⌝ }
 {
     if !(up_to(MAX_WORD, low) & up_to(MAX_WORD, high)) {
         return bad();
@@ -53,38 +57,49 @@ fn judge_words(low: i64, high: i64, m: u32) -> Judged
     if !fits_bits(store, m) {
         return bad();
     }
-    Judged { ok: true, store }
+    Judged {
+        ok: true,
+        zero: false,
+        store,
+    }
 }
 
 // The store of the record at `at`.
 fn judge_store(s: &[i64], at: usize, m: u32) -> Judged
     requires { ⌜ (at + recordHead ≤ length (now s)) × (m ≤ 64) ⌝ }
-    ensures { λ r. ⌜ r ≡ judged (storeOk (now (s .entry)) at m) (storeAt (now (s .entry)) at) ⌝ }
+    ensures { λ r. ⌜ r ≡ judged (storeOk (now (s .entry)) at m) false (storeAt (now (s .entry)) at) ⌝ }
 {
     let low = s[at + 1];
     let high = s[at + 2];
     judge_words(low, high, m)
 }
 
-// Whether n entries of the record at `at` are scalars in range and in lowest form.
-fn entries_ok(s: &[i64], at: usize, n: usize) -> bool
+// Whether n entries of the record at `at` are scalars in range and in lowest form, and whether all are zero.
+fn judge_entries(s: &[i64], at: usize, n: usize) -> Judged
     requires { ⌜ entryPlace at n ≤ length (now s) ⌝ }
-    ensures { λ r. ⌜ r ≡ entriesOk (now (s .entry)) at n ⌝ }
+    ensures { λ r. ⌜ r ≡ judged (entriesOk (now (s .entry)) at n) (allZero n (entryAt (now (s .entry)) at)) 0 ⌝ }
 {
+    let mut zero = true;
     let mut k = 0;
     while k < n {
-        if !well_formed_at(s, entry_place(at, k)) {
-            return false;
+        let place = entry_place(at, k);
+        if !well_formed_at(s, place) {
+            return bad();
         }
+        zero = zero & zero_at(s, place);
         k += 1;
     }
-    true
+    Judged {
+        ok: true,
+        zero,
+        store: 0,
+    }
 }
 
 // The record at `at`, whose store is to come after `prev` unless it is the first.
 fn judge_record(s: &[i64], at: usize, w: usize, m: u32, first: bool, prev: u64) -> Judged
     requires { ⌜ (w ≤ 256) × ((m ≤ 64) × (at + recordSize w ≤ length (now s))) ⌝ }
-    ensures { λ r. ⌜ r ≡ judged (recordOk (now (s .entry)) w m at first prev) (storeAt (now (s .entry)) at) ⌝ }
+    ensures { λ r. ⌜ r ≡ judged (recordOk (now (s .entry)) w m at first prev) (allZero (w * w) (entryAt (now (s .entry)) at)) (storeAt (now (s .entry)) at) ⌝ }
 {
     let j = judge_store(s, at, m);
     if !j.ok {
@@ -94,36 +109,50 @@ fn judge_record(s: &[i64], at: usize, w: usize, m: u32, first: bool, prev: u64) 
     if !(first | comes_before(prev, store)) {
         return bad();
     }
-    if !entries_ok(s, at, w * w) {
+    let b = judge_entries(s, at, w * w);
+    if !b.ok {
         return bad();
     }
-    Judged { ok: true, store }
+    let zero = b.zero;
+    Judged {
+        ok: true,
+        zero,
+        store,
+    }
 }
 
-// Whether the chain visits `count` records in rising order of their stores, and ends.
-fn chain_ok(s: &[i64], w: usize, m: u32, count: usize) -> bool
+// Whether the chain visits `count` records in rising order of their stores, and ends; then, whether a block is zero.
+fn judge_chain(s: &[i64], w: usize, m: u32, count: usize) -> Verdict
     requires { ⌜ Room (now s) w m count ⌝ }
-    ensures { λ r. ⌜ r ≡ chainOk (now (s .entry)) w m count count (word (now (s .entry)) 3) true 0 ⌝ }
+    ensures { λ r. ⌜ r ≡ verdictBy (chainOk (now (s .entry)) w m count count (word (now (s .entry)) 3) true 0) (someZero w (chain (now (s .entry)) count (natAbs (word (now (s .entry)) 3)))) ⌝ }
 {
     let mut z = s[3];
     let mut first = true;
     let mut prev = 0;
+    let mut zero = false;
     let mut left = count;
     while 0 < left {
         if !is_start(w, count, z) {
-            return false;
+            return Verdict::Malformed;
         }
         let at = z as usize;
         let j = judge_record(s, at, w, m, first, prev);
         if !j.ok {
-            return false;
+            return Verdict::Malformed;
         }
         z = s[at];
+        zero = zero | j.zero;
         first = false;
         prev = j.store;
         left -= 1;
     }
-    z == 0
+    if z != 0 {
+        return Verdict::Malformed;
+    }
+    if zero {
+        return Verdict::ZeroBlock;
+    }
+    Verdict::Accepted
 }
 
 // A refusal, with zeros.
@@ -177,16 +206,19 @@ pub fn judge(s: &[i64]) -> Shape
         return h;
     }
     let d = h.dim;
-    if !chain_ok(s, d * d, h.bits, h.count) {
-        return no_shape(Verdict::Malformed);
+    let c = judge_chain(s, d * d, h.bits, h.count);
+    if !c.is_accepted() {
+        return no_shape(c);
     }
     h
 }
 
+// A channel with a block of zeros is well formed too.
 pub fn well_formed(s: &[i64]) -> bool
     ensures { λ r. ⌜ r ≡ wellFormed (now (s .entry)) ⌝ }
 {
     let h = judge(s);
     let v = h.verdict;
-    v.is_accepted()
+    let m = Verdict::Malformed;
+    v.number() != m.number()
 }

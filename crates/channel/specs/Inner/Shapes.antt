@@ -1,17 +1,17 @@
 -- What the judge of a channel answers inside: the verdict with the header, and what is found of a record; the room and the walk that its calls ask for.
 use mathlib.Core.Path.{_≡_}
-use mathlib.Core.Bool.{Bool, true, cond}
+use mathlib.Core.Bool.{Bool, true, false, cond, _&&_}
 use mathlib.Core.List.{List}
 use Prim.Native.Nat.{ℕ, _+_, _*_, _≤_}
 use lib.ListN.{length}
 use lib.IntN.{ℤ, pos}
 use Rattle.verdict.specs.declared.Verdict.{Verdict}
-use Rattle.verdict.specs.declared.Verdict.the-variants.{Accepted, Malformed}
+use Rattle.verdict.specs.declared.Verdict.the-variants.{Accepted}
 use Rattle.verdict.specs.Verdict.{accepted}
 use Rattle.channel.specs.declared.Shape.{Shape}
 use Rattle.channel.specs.declared.well_formed.Judged.{Judged}
 use Rattle.channel.specs.Layout.{headerSize, recordSize, side, dimAt, bitsAt, countAt}
-use Rattle.channel.specs.WellFormed.{headerOk, chainOk, wellFormed, formVerdict}
+use Rattle.channel.specs.WellFormed.{headerOk, chainOk, wellFormed, verdictBy, formVerdict}
 
 -- a refusal, with zeros
 abbrev pub noShape : Verdict → Shape
@@ -29,11 +29,11 @@ shapeOf l = shapeBy (formVerdict l) l
 
 -- the header alone
 abbrev pub headerOf : List ℤ → Shape
-headerOf l = shapeBy (cond (headerOk l) Accepted Malformed) l
+headerOf l = shapeBy (verdictBy (headerOk l) false) l
 
--- a store, or 0 where the test of its record fails
-abbrev pub judged : Bool → ℕ → Judged
-judged b s = record { ok = b; store = cond b s 0 }
+-- whether a block is zero, and its store, where the test of its record holds
+abbrev pub judged : Bool → Bool → ℕ → Judged
+judged b z s = record { ok = b; zero = b && z; store = cond b s 0 }
 
 -- room for `count` records of side w
 pub record Room (l : List ℤ) (w m count : ℕ) : Type 0 where

@@ -8,35 +8,35 @@ use lib.Dec.{eqb}
 use lib.IntN.{ℤ}
 use borrow.Author.Tests.{not-true, not-false, eqb-true}
 use Rattle.algebra.proofs.Tests.{and-split}
-use Rattle.verdict.specs.declared.Verdict.the-variants.{Malformed}
+use Rattle.verdict.specs.declared.Verdict.{Verdict}
 use Rattle.verdict.specs.Verdict.{accepted}
 use Rattle.channel.specs.declared.Shape.{Shape}
 use Rattle.channel.specs.declared.compare.Difference.{Difference}
 use Rattle.channel.specs.declared.compare.Found.the-variants.{Refused, Dimensions}
 use Rattle.channel.specs.Layout.{side, dimAt, bitsAt, readBack}
-use Rattle.channel.specs.WellFormed.{wellFormed}
+use Rattle.channel.specs.WellFormed.{formVerdict}
 use Rattle.channel.specs.Inner.Shapes.{shapeAt, shapeOf}
-use Rattle.channel.specs.Compare.{plain, unless, first, merge}
+use Rattle.channel.specs.Compare.{plain, first, merge}
 use Rattle.channel.specs.Inner.Walk.{Matched}
-use Rattle.channel.proofs.Judging.{formed, verdictBy, shape-test, shape-is, shape-no}
+use Rattle.channel.proofs.Judging.{formed, form-right, shape-test, shape-is, shape-verdict}
 use borrow.Author.Needs.{needs}
 use Rattle.channel.proofs.compare.compare.Statement.{statement}
 use Rattle.channel.proofs.compare.compare.Tie as tie
 
 -- what a shape that is judged says
 module _ (l : List ℤ) (h : Shape) (e : h ≡ shapeOf l) where
-  judged : accepted (h .verdict) ≡ wellFormed l
-  judged = shape-test l (wellFormed l) h e
+  judged : accepted (h .verdict) ≡ accepted (formVerdict l)
+  judged = shape-test l (formVerdict l) h e
 
-  right : accepted (h .verdict) ≡ true → wellFormed l ≡ true
-  right f = sym judged ∙ f
+  passed : accepted (h .verdict) ≡ true → accepted (formVerdict l) ≡ true
+  passed f = sym judged ∙ f
 
   is : accepted (h .verdict) ≡ true → h ≡ shapeAt l
-  is f = shape-is l (wellFormed l) h e f
+  is f = shape-is l (formVerdict l) h e f
 
   -- the answer where it is refused
-  refused : accepted (h .verdict) ≡ false → plain (Refused (h .verdict)) ≡ plain (Refused Malformed)
-  refused f = ap (λ (s : Shape). plain (Refused (s .verdict))) (shape-no l (wellFormed l) h e f)
+  refused : plain (Refused (h .verdict)) ≡ plain (Refused (formVerdict l))
+  refused = ap (λ (v : Verdict). plain (Refused v)) (shape-verdict l h e)
 
 -- the answer by its three tests
 module _ (l r : List ℤ) where
@@ -44,7 +44,8 @@ module _ (l r : List ℤ) where
   same = eqb (dimAt l) (dimAt r) && eqb (bitsAt l) (bitsAt r)
 
   abbrev by : Bool → Bool → Bool → Difference
-  by p q s = unless (verdictBy p) (unless (verdictBy q) (cond s (first (side (dimAt l)) (merge (readBack l) (readBack r))) (plain Dimensions)))
+  by p q s =
+      cond p (cond q (cond s (first (side (dimAt l)) (merge (readBack l) (readBack r))) (plain Dimensions)) (plain (Refused (formVerdict r)))) (plain (Refused (formVerdict l)))
 
 module _ (c : tie.After-struct-known4) where
   abbrev two : tie.Else2
@@ -68,11 +69,11 @@ module _ (c : tie.After-struct-known4) where
   yes-h : accepted (h .verdict) ≡ true
   yes-h = sym (two .before .is-accepted2 .ensures) ∙ not-false _ (two .if2 .left)
 
-  right-g : wellFormed (start .args .left .now) ≡ true
-  right-g = right (start .args .left .now) g (one .before .before .judge .ensures) yes-g
+  right-g : accepted (formVerdict (start .args .left .now)) ≡ true
+  right-g = passed (start .args .left .now) g (one .before .before .judge .ensures) yes-g
 
-  right-h : wellFormed (start .args .right .now) ≡ true
-  right-h = right (start .args .right .now) h (two .before .before .judge2 .ensures) yes-h
+  right-h : accepted (formVerdict (start .args .right .now)) ≡ true
+  right-h = passed (start .args .right .now) h (two .before .before .judge2 .ensures) yes-h
 
   is-g : g ≡ shapeAt (start .args .left .now)
   is-g = is (start .args .left .now) g (one .before .before .judge .ensures) yes-g
@@ -90,8 +91,8 @@ matched : (c : tie.Else3) → Matched (start (c .before) .args .left .now) (star
 matched c =
     let k = c .before in
     record {
-      left = right-g k;
-      right = right-h k;
+      left = form-right _ (right-g k);
+      right = form-right _ (right-h k);
       leftCount = ap (λ (s : Shape). s .count) (is-g k);
       rightCount = ap (λ (s : Shape). s .count) (is-h k);
       leftSide = ap (λ (s : Shape). s .dim * s .dim) (is-g k);
@@ -114,8 +115,8 @@ returns c =
     let s = j .before .args in
     let no = sym (t .before .is-accepted .ensures) ∙ not-true _ (t .if1 .taken) in
     let bad = sym (judged (s .left .now) (j .judge .result) (j .judge .ensures)) ∙ no in
-    c .without-entry .ensures ∙ refused (s .left .now) (j .judge .result) (j .judge .ensures) no
-    ∙ sym (ap (λ (p : Bool). by (s .left .now) (s .right .now) p (wellFormed (s .right .now)) (same (s .left .now) (s .right .now))) bad)
+    c .without-entry .ensures ∙ refused (s .left .now) (j .judge .result) (j .judge .ensures)
+    ∙ sym (ap (λ (p : Bool). by (s .left .now) (s .right .now) p (accepted (formVerdict (s .right .now))) (same (s .left .now) (s .right .now))) bad)
 
 judge-requires-2 : tie.Need-judge-requires-2
 judge-requires-2 c κs = search needs
@@ -135,9 +136,9 @@ returns-2 c =
     let s = i .before .args in
     let yes = sym (e .before .is-accepted .ensures) ∙ not-false _ (e .if1 .left) in
     let no = sym (t .before .is-accepted2 .ensures) ∙ not-true _ (t .if2 .taken) in
-    let good = right (s .left .now) (i .judge .result) (i .judge .ensures) yes in
+    let good = passed (s .left .now) (i .judge .result) (i .judge .ensures) yes in
     let bad = sym (judged (s .right .now) (j .judge2 .result) (j .judge2 .ensures)) ∙ no in
-    c .without-entry2 .ensures ∙ refused (s .right .now) (j .judge2 .result) (j .judge2 .ensures) no
+    c .without-entry2 .ensures ∙ refused (s .right .now) (j .judge2 .result) (j .judge2 .ensures)
     ∙ sym (λ k. by (s .left .now) (s .right .now) (good k) (bad k) (same (s .left .now) (s .right .now)))
 
 without-entry-requires-3 : tie.Need-without-entry-requires-3
@@ -153,7 +154,7 @@ returns-3 c =
 mul-compare-chains : tie.Need-mul-compare-chains
 mul-compare-chains c =
     let k = c .before in
-    let q : g k .dim * g k .dim ≤ 256 = subst (λ (s : Shape). s .dim * s .dim ≤ 256) (sym (is-g k)) (formed _ (right-g k) .head .room .width) in
+    let q : g k .dim * g k .dim ≤ 256 = subst (λ (s : Shape). s .dim * s .dim ≤ 256) (sym (is-g k)) (formed _ (form-right _ (right-g k)) .head .room .width) in
     omega arith
 
 compare-chains-requires : tie.Need-compare-chains-requires

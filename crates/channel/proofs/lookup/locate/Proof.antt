@@ -10,14 +10,15 @@ use lib.IntN.{ℤ, natAbs}
 use borrow.Author.Tests.{not-true, not-false}
 use Rattle.algebra.specs.Words.{fromBits}
 use Rattle.store.proofs.Bytes.{fits-word}
+use Rattle.verdict.specs.Verdict.{accepted}
 use Rattle.channel.specs.declared.Shape.{Shape}
 use Rattle.channel.specs.Layout.{recordHead, blockSize, recordSize, word, side, dimAt, bitsAt}
-use Rattle.channel.specs.WellFormed.{wellFormed}
+use Rattle.channel.specs.WellFormed.{wellFormed, formVerdict}
 use Rattle.channel.specs.Inner.Shapes.{shapeAt}
 use Rattle.store.specs.Store.{storeFits}
 use Rattle.channel.specs.Lookup.{find, placed, spanOf, lookupOf}
-use Rattle.channel.proofs.Judging.{formed, shape-test, shape-is}
-use Rattle.channel.proofs.Finding.{placed-found, look-malformed, look-wrong, look-placed, index, index-inside}
+use Rattle.channel.proofs.Judging.{formed, form-right, shape-test, shape-is}
+use Rattle.channel.proofs.Finding.{placed-found, look-refused, look-wrong, look-placed, index, index-inside}
 use borrow.Author.Needs.{needs}
 use Rattle.channel.proofs.lookup.locate.Statement.{statement}
 use Rattle.channel.proofs.lookup.locate.Tie as tie
@@ -31,15 +32,18 @@ bytes c = c .before .before .before .args .store .now
 abbrev shape : tie.After-is-accepted → Shape
 shape c = c .before .judge .result
 
-tested : (c : tie.After-is-accepted) → c .is-accepted .result ≡ wellFormed (words c)
-tested c = c .is-accepted .ensures ∙ shape-test (words c) (wellFormed (words c)) (shape c) (c .before .judge .ensures)
+tested : (c : tie.After-is-accepted) → c .is-accepted .result ≡ accepted (formVerdict (words c))
+tested c = c .is-accepted .ensures ∙ shape-test (words c) (formVerdict (words c)) (shape c) (c .before .judge .ensures)
 
 module _ (c : tie.Else1) where
+  passed : accepted (formVerdict (words (c .before))) ≡ true
+  passed = sym (tested (c .before)) ∙ not-false _ (c .if1 .left)
+
   right : wellFormed (words (c .before)) ≡ true
-  right = sym (tested (c .before)) ∙ not-false _ (c .if1 .left)
+  right = form-right (words (c .before)) passed
 
   is : shape (c .before) ≡ shapeAt (words (c .before))
-  is = shape-is (words (c .before)) (wellFormed (words (c .before))) (shape (c .before)) (c .before .before .judge .ensures) (sym (c .before .is-accepted .ensures) ∙ not-false _ (c .if1 .left))
+  is = shape-is (words (c .before)) (formVerdict (words (c .before))) (shape (c .before)) (c .before .before .judge .ensures) (sym (c .before .is-accepted .ensures) ∙ not-false _ (c .if1 .left))
 
 stores : (c : tie.After-is-store) → c .is-store .result ≡ storeFits (bitsAt (words (c .before .before))) (bytes (c .before .before))
 stores c = c .is-store .ensures ∙ ap (λ (h : Shape). storeFits (h .bits) (bytes (c .before .before))) (is (c .before))
@@ -52,7 +56,7 @@ module _ (c : tie.Else2) where
   stored = sym (stores (c .before)) ∙ not-false _ (c .if2 .left)
 
   look : lookupOf (words known) (bytes known) ≡ placed (index (words known) (bytes known))
-  look = look-placed (words known) (bytes known) (right (c .before .before)) stored
+  look = look-placed (words known) (bytes known) (passed (c .before .before)) stored
 
 found-at : (c : tie.After-find-store) → c .find-store .result ≡ index (words (known (c .before .before))) (bytes (known (c .before .before)))
 found-at c =
@@ -72,13 +76,13 @@ module _ (c : tie.Else3) where
 returns : tie.Need-returns
 returns c =
     let k = c .before .before in
-    c .none .ensures ∙ sym (ap (spanOf (words k)) (look-malformed (words k) (bytes k) (sym (tested k) ∙ not-true _ (c .before .if1 .taken))))
+    c .none .ensures ∙ sym (ap (spanOf (words k)) (look-refused (words k) (bytes k) (sym (tested k) ∙ not-true _ (c .before .if1 .taken))))
 
 returns-2 : tie.Need-returns-2
 returns-2 c =
     let r = c .before .before in
     let k = r .before .before in
-    c .none2 .ensures ∙ sym (ap (spanOf (words k)) (look-wrong (words k) (bytes k) (right (r .before)) (sym (stores r) ∙ not-true _ (c .before .if2 .taken))))
+    c .none2 .ensures ∙ sym (ap (spanOf (words k)) (look-wrong (words k) (bytes k) (passed (r .before)) (sym (stores r) ∙ not-true _ (c .before .if2 .taken))))
 
 pack-requires : tie.Need-pack-requires
 pack-requires c κs =

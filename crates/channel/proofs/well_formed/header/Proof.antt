@@ -17,10 +17,9 @@ use Rattle.algebra.proofs.Tests.{and-split}
 use Rattle.algebra.proofs.Signed.{cast-ok}
 use Rattle.channel.specs.declared.Shape.{Shape}
 use Rattle.channel.specs.Layout.{headerSize, word, recordSize, dimAt}
-use Rattle.channel.specs.WellFormed.{isDim, counted, headerOk}
+use Rattle.channel.specs.WellFormed.{isDim, counted, headerOk, verdictBy}
 use Rattle.channel.specs.Inner.Shapes.{shapeBy, noShape}
 use Rattle.store.proofs.Words.{Casts, read, casts-up, up-abs}
-use Rattle.channel.proofs.Judging.{verdictBy}
 use Rattle.channel.proofs.Words.{dim-range, square-small}
 use borrow.Author.Needs.{needs}
 use Rattle.channel.proofs.well_formed.header.Statement.{statement}
@@ -68,8 +67,8 @@ counts c =
     ∙ ap (λ (z : ℤ). upTo ((length l - headerSize) / recordSize (natAbs z * natAbs z)) (word l 2)) (toZ-ofZ (dim (a (c .before .before))))
 
 -- the header by its three tests
-refused : (l : List ℤ) (s : Shape) → s ≡ noShape Malformed → headerOk l ≡ false → s ≡ shapeBy (verdictBy (headerOk l)) l
-refused l s e f = e ∙ ap (λ (b : Bool). shapeBy (verdictBy b) l) (sym f)
+refused : (l : List ℤ) (s : Shape) → s ≡ noShape Malformed → headerOk l ≡ false → s ≡ shapeBy (verdictBy (headerOk l) false) l
+refused l s e f = e ∙ ap (λ (b : Bool). shapeBy (verdictBy b false) l) (sym f)
 
 no-shape-requires : tie.Need-no-shape-requires
 no-shape-requires c κs = search needs
@@ -152,7 +151,7 @@ returns-4 c =
     let b = toZ-ofZ (bits (a e)) in
     let n = toZ-ofZ (count (a e)) in
     let ok : headerOk l ≡ true = λ i. long (a e) i && (right e i && (sym (counts u) ∙ not-false _ (c .if3 .left)) i) in
-    (λ i. record { verdict = Accepted; dim = natAbs (d i); bits = natAbs (b i); count = natAbs (n i) }) ∙ ap (λ (b : Bool). shapeBy (verdictBy b) l) (sym ok)
+    (λ i. record { verdict = Accepted; dim = natAbs (d i); bits = natAbs (b i); count = natAbs (n i) }) ∙ ap (λ (b : Bool). shapeBy (verdictBy b false) l) (sym ok)
 
 pub header-spec : {M : Type 1} → statement M
 header-spec =

@@ -1,11 +1,11 @@
 -- `well_formed::judge_record` meets its contract.
 use mathlib.Core.Path.{_≡_, sym, ap, _∙_}
-use mathlib.Core.Bool.{Bool, true, _&&_, _||_}
+use mathlib.Core.Bool.{Bool, true, false, _&&_, _||_}
 use Prim.Native.Nat.{ℕ, _*_}
 use borrow.Author.Tests.{not-true, not-false}
 use Rattle.store.specs.Store.{before}
-use Rattle.channel.specs.Layout.{storeAt}
-use Rattle.channel.specs.WellFormed.{rises, storeOk, entriesOk}
+use Rattle.channel.specs.Layout.{entryAt, storeAt}
+use Rattle.channel.specs.WellFormed.{rises, storeOk, entriesOk, allZero}
 use Rattle.channel.proofs.Judging.{good, bad, is-bad, is-good}
 use borrow.Author.Needs.{needs}
 use Rattle.channel.proofs.well_formed.judge_record.Statement.{statement}
@@ -24,11 +24,17 @@ module _ (s : tie.Start) where
   abbrev inEntries : Bool
   inEntries = entriesOk (s .args .s .now) (s .args .at) (s .args .w * s .args .w)
 
+  abbrev blank : Bool
+  blank = allZero (s .args .w * s .args .w) (entryAt (s .args .s .now) (s .args .at))
+
 abbrev start : tie.Else1 → tie.Start
 start c = c .before .before .before
 
 fine : (c : tie.Else1) → (inStore (start c) ≡ true) × (c .before .before .judge-store .result .store ≡ store (start c))
-fine c = let j = c .before .before .judge-store in good (j .result) (inStore (start c)) (store (start c)) (j .ensures) (not-false _ (c .if1 .left))
+fine c =
+    let j = c .before .before .judge-store in
+    let g = good (j .result) (inStore (start c)) false (store (start c)) (j .ensures) (not-false _ (c .if1 .left)) in
+    (g .0, g .1 .0)
 
 ordered : (c : tie.After-comes-before) → (start (c .before) .args .first || c .comes-before .result) ≡ inOrder (start (c .before))
 ordered c = let s = start (c .before) .args in ap (λ (b : Bool). s .first || b) (c .comes-before .ensures ∙ ap (before (s .prev)) (fine (c .before) .1))
@@ -46,7 +52,7 @@ returns : tie.Need-returns
 returns c =
     let j = c .before .before .before in
     let s = j .before in
-    is-bad _ (inStore s && (inOrder s && inEntries s)) _ (c .bad .ensures) (ap (λ (b : Bool). b && (inOrder s && inEntries s)) (bad _ (inStore s) (store s) (j .judge-store .ensures) (not-true _ (c .before .if1 .taken))))
+    is-bad _ (inStore s && (inOrder s && inEntries s)) _ _ (c .bad .ensures) (ap (λ (b : Bool). b && (inOrder s && inEntries s)) (bad _ (inStore s) false (store s) (j .judge-store .ensures) (not-true _ (c .before .if1 .taken))))
 
 comes-before-requires : tie.Need-comes-before-requires
 comes-before-requires c κs = search needs
@@ -58,31 +64,32 @@ returns-2 : tie.Need-returns-2
 returns-2 c =
     let b = c .before .before in
     let s = start (b .before) in
-    is-bad _ (inStore s && (inOrder s && inEntries s)) _ (c .bad2 .ensures) (λ i. fine (b .before) .0 i && ((sym (ordered b) ∙ not-true _ (c .before .if2 .taken)) i && inEntries s))
+    is-bad _ (inStore s && (inOrder s && inEntries s)) _ _ (c .bad2 .ensures) (λ i. fine (b .before) .0 i && ((sym (ordered b) ∙ not-true _ (c .before .if2 .taken)) i && inEntries s))
 
-mul-entries-ok : tie.Need-mul-entries-ok
-mul-entries-ok c = search needs
+mul-judge-entries : tie.Need-mul-judge-entries
+mul-judge-entries c = search needs
 
-entries-ok-requires : tie.Need-entries-ok-requires
-entries-ok-requires c κs = search needs
+judge-entries-requires : tie.Need-judge-entries-requires
+judge-entries-requires c κs = search needs
 
 bad-requires-3 : tie.Need-bad-requires-3
 bad-requires-3 c κs = search needs
 
 returns-3 : tie.Need-returns-3
 returns-3 c =
-    let e = c .before .before in
+    let e = c .before .before .before in
     let o = e .before in
     let s = start (o .before .before) in
-    is-bad _ (inStore s && (inOrder s && inEntries s)) _ (c .bad3 .ensures) (λ i. fine (o .before .before) .0 i && (rising o i && (sym (e .entries-ok .ensures) ∙ not-true _ (c .before .if3 .taken)) i))
+    is-bad _ (inStore s && (inOrder s && inEntries s)) _ _ (c .bad3 .ensures) (λ i. fine (o .before .before) .0 i && (rising o i && bad _ (inEntries s) (blank s) 0 (e .judge-entries .ensures) (not-true _ (c .before .if3 .taken)) i))
 
 returns-4 : tie.Need-returns-4
 returns-4 c =
-    let e = c .before in
+    let e = c .before .before in
     let o = e .before in
     let f = fine (o .before .before) in
     let s = start (o .before .before) in
-    is-good _ (inStore s && (inOrder s && inEntries s)) _ (f .1) (λ i. f .0 i && (rising o i && (sym (e .entries-ok .ensures) ∙ not-false _ (c .if3 .left)) i))
+    let g = good _ (inEntries s) (blank s) 0 (e .judge-entries .ensures) (not-false _ (c .if3 .left)) in
+    is-good _ _ (inStore s && (inOrder s && inEntries s)) _ _ (g .1 .1) (f .1) (λ i. f .0 i && (rising o i && g .0 i))
 
 pub judge-record-spec : {M : Type 1} → statement M
 judge-record-spec =
@@ -94,8 +101,8 @@ judge-record-spec =
     comes-before-requires
     bad-requires-2
     returns-2
-    mul-entries-ok
-    entries-ok-requires
+    mul-judge-entries
+    judge-entries-requires
     bad-requires-3
     returns-3
     returns-4)

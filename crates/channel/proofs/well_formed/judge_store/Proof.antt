@@ -1,5 +1,6 @@
 -- `well_formed::judge_store` meets its contract.
 use mathlib.Core.Path.{_∙_}
+use mathlib.Core.Bool.{false}
 use Prim.Native.Nat.{_+_}
 use Rattle.store.specs.Store.{storeFrom}
 use Rattle.channel.specs.Layout.{word}
@@ -16,7 +17,7 @@ returns c =
     let s = h .before .before .args in
     let low = reads (word (s .s .now) (s .at + 1)) (h .before .low .given) in
     let high = reads (word (s .s .now) (s .at + 2)) (h .high .given) in
-    c .judge-words .ensures ∙ (λ i. judged (wordsOk (low i) (high i) (s .m)) (storeFrom (low i) (high i)))
+    c .judge-words .ensures ∙ (λ i. judged (wordsOk (low i) (high i) (s .m)) false (storeFrom (low i) (high i)))
 
 pub judge-store-spec : {M : Type 1} → statement M
 judge-store-spec = tie.close (tie.spec (λ c. search needs) (λ c. search needs) (λ c. search needs) (λ c. search needs) (λ c. search needs) (λ c. search needs) (λ c κs. search needs) returns)

@@ -1,6 +1,6 @@
 -- `well_formed::judge_words` meets its contract.
-use mathlib.Core.Path.{_≡_, sym, ap, _∙_}
-use mathlib.Core.Bool.{Bool, true, _&&_}
+use mathlib.Core.Path.{_≡_, refl, sym, ap, _∙_}
+use mathlib.Core.Bool.{Bool, true, false, _&&_}
 use lib.Dec.{ltb}
 use Prim.Native.Nat.{ℕ, _^_}
 use lib.IntN.{ℤ}
@@ -52,7 +52,7 @@ returns : tie.Need-returns
 returns c =
     let b = c .before .before in
     let s = b .before .before .args in
-    is-bad _ (wordsOk (s .low) (s .high) (s .m)) _ (c .bad .ensures) (ap (λ (b : Bool). b && ltb (storeFrom (s .low) (s .high)) (2 ^ s .m)) (sym (both b) ∙ not-true _ (c .before .if1 .taken)))
+    is-bad _ (wordsOk (s .low) (s .high) (s .m)) _ _ (c .bad .ensures) (ap (λ (b : Bool). b && ltb (storeFrom (s .low) (s .high)) (2 ^ s .m)) (sym (both b) ∙ not-true _ (c .before .if1 .taken)))
 
 join-requires : tie.Need-join-requires
 join-requires c κs =
@@ -69,13 +69,13 @@ returns-2 : tie.Need-returns-2
 returns-2 c =
     let t = c .before .before in
     let s = t .before .before .before .before .before .args in
-    is-bad _ (wordsOk (s .low) (s .high) (s .m)) _ (c .bad2 .ensures) (sym (tested t) ∙ not-true _ (c .before .if2 .taken))
+    is-bad _ (wordsOk (s .low) (s .high) (s .m)) _ _ (c .bad2 .ensures) (sym (tested t) ∙ not-true _ (c .before .if2 .taken))
 
 returns-3 : tie.Need-returns-3
 returns-3 c =
     let t = c .before in
     let s = t .before .before .before .before .before .args in
-    is-good _ (wordsOk (s .low) (s .high) (s .m)) _ (stored (t .before)) (sym (tested t) ∙ not-false _ (c .if2 .left))
+    is-good false _ (wordsOk (s .low) (s .high) (s .m)) false _ refl (stored (t .before)) (sym (tested t) ∙ not-false _ (c .if2 .left))
 
 pub judge-words-spec : {M : Type 1} → statement M
 judge-words-spec =
