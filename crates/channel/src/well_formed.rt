@@ -121,6 +121,19 @@ fn judge_record(s: &[i64], at: usize, w: usize, m: u32, first: bool, prev: u64) 
     }
 }
 
+// The verdict by whether the words are well formed and whether a block is zero.
+fn verdict_by(right: bool, blank: bool) -> Verdict
+    ensures { λ r. ⌜ r ≡ verdictBy right blank ⌝ }
+{
+    if !right {
+        return Verdict::Malformed;
+    }
+    if blank {
+        return Verdict::ZeroBlock;
+    }
+    Verdict::Accepted
+}
+
 // Whether the chain visits `count` records in rising order of their stores, and ends; then, whether a block is zero.
 fn judge_chain(s: &[i64], w: usize, m: u32, count: usize) -> Verdict
     requires { ⌜ Room (now s) w m count ⌝ }
@@ -146,13 +159,7 @@ fn judge_chain(s: &[i64], w: usize, m: u32, count: usize) -> Verdict
         prev = j.store;
         left -= 1;
     }
-    if z != 0 {
-        return Verdict::Malformed;
-    }
-    if zero {
-        return Verdict::ZeroBlock;
-    }
-    Verdict::Accepted
+    verdict_by(z == 0, zero)
 }
 
 // A refusal, with zeros.

@@ -1,16 +1,16 @@
 -- `well_formed::judge_chain` meets its contract.
-use mathlib.Core.Path.{_≡_, sym, ap, _∙_}
+use mathlib.Core.Path.{_≡_, refl, sym, ap, _∙_}
 use mathlib.Core.Bool.{Bool, true, false, _||_}
 use Prim.Native.Nat.{ℕ, _+_, _*_, _-_, _<_, _≤_}
 use native.Mathlib.Omega.{arith}
 use mathlib.Core.List.{List}
-use lib.Dec.{T, eqb}
+use lib.Dec.{T}
 use lib.ListN.{length}
 use lib.IntN.{ℤ, pos, natAbs}
 use lib.Signed.{nonNeg}
 use mir.Syntax.{w64}
 use mir.Val.{toZ}
-use borrow.Author.Tests.{not-true, not-false, ne-eqb, eq-eqb}
+use borrow.Author.Tests.{not-true, not-false}
 use Rattle.verdict.specs.declared.Verdict.{Verdict}
 use Rattle.channel.specs.Layout.{recordSize, word, entryAt, storeAt, chain}
 use Rattle.channel.specs.WellFormed.{isStart, recordOk, chainOk, allZero, someZero, verdictBy}
@@ -117,30 +117,15 @@ loop-again c =
           ∙ (λ i. verdict (s .s .now) (s .w) (s .m) (s .count) (l .loop .left - 1) (sym (reads (word (s .s .now) at) (c .before .z2 .given)) i) false (sym (g .1 .0) i) (l .loop .zero || sym (g .1 .1) i)),
     )
 
--- the end of the chain
-abbrev from : tie.After-loop Inv-loop μ-loop → tie.Start Inv-loop μ-loop
-from c = c .before .before .before
-
-abbrev whole : tie.Start Inv-loop μ-loop → Verdict
-whole s = verdict (s .args .s .now) (s .args .w) (s .args .m) (s .args .count) (s .args .count) (word (s .args .s .now) 3) true 0 false
-
-at-end : (c : tie.After-loop Inv-loop μ-loop) (ends : Bool) → eqb (c .before .loop .z) 0 ≡ ends → whole (from c) ≡ verdictBy ends (c .before .loop .zero)
-at-end c ends e =
-    let l = c .before .loop in
-    l .inv .1 ∙ ended _ _ _ _ (l .left) (toZ w64 (l .z)) (l .first) (l .prev) (l .zero) ends (c .loop-test .left) (sym (bits-zero (l .z)) ∙ e)
+verdict-by-requires : tie.Need-verdict-by-requires Inv-loop μ-loop
+verdict-by-requires c κs = tt
 
 returns-3 : tie.Need-returns-3 Inv-loop μ-loop
-returns-3 c = sym (at-end (c .before) false (ne-eqb _ 0 (c .if3 .taken)))
-
--- the chain ends; the verdict by whether a block was zero
-told : (c : tie.Else3 Inv-loop μ-loop) (blank : Bool) → c .before .before .loop .zero ≡ blank → whole (from (c .before)) ≡ verdictBy true blank
-told c blank e = at-end (c .before) true (eq-eqb _ 0 (c .if3 .left)) ∙ ap (verdictBy true) e
-
-returns-4 : tie.Need-returns-4 Inv-loop μ-loop
-returns-4 c = sym (told (c .before) true (c .if4 .taken))
-
-returns-5 : tie.Need-returns-5 Inv-loop μ-loop
-returns-5 c = sym (told (c .before) false (c .if4 .left))
+returns-3 c =
+    let e = c .before in
+    let l = e .before .loop in
+    c .verdict-by .ensures ∙ ap (λ (b : Bool). verdictBy b (l .zero)) (bits-zero (l .z))
+    ∙ sym (l .inv .1 ∙ ended _ _ _ _ (l .left) (toZ w64 (l .z)) (l .first) (l .prev) (l .zero) _ (e .loop-test .left) refl)
 
 pub judge-chain-spec : {M : Type 1} → statement M
 judge-chain-spec =
@@ -160,6 +145,5 @@ judge-chain-spec =
     sub-left
     loop-less
     loop-again
-    returns-3
-    returns-4
-    returns-5)
+    verdict-by-requires
+    returns-3)
