@@ -61,12 +61,15 @@ module _ (n : ℕ) where
       (all-concat Square Square (λ (b : Branch). map (apply n b) (operatorsOf n g)) (λ b k.
       all-map (λ (K : KrausOperator). Unit {0}) Square (apply n b) (λ K u. tabulate-length (2 ^ n * 2 ^ n) 0 _) (operatorsOf n g) (any (λ (K : KrausOperator). Unit {0}) (λ K. tt) (operatorsOf n g))) bs h)
 
+pub branches-square : (n : ℕ) (σ : Store) (gs : List Gate) → All (λ (b : Branch). length (b .matrix) ≡ 2 ^ n * 2 ^ n) (branches n σ gs)
+branches-square n σ gs = run-square n gs (start n σ) (tabulate-length (2 ^ n * 2 ^ n) 0 _, tt)
+
 -- an accepted circuit's branches in a bank
 pub circuit-held : {l : List ℤ} {at : ℕ} (n : ℕ) (σ : Store) (gs : List Gate) → every (valid n (length σ)) gs ≡ true → Bits σ → total weight gs ≤ maxWeight → length σ ≤ 64 → n ≤ 4 → 2 ^ total splits gs ≤ 64
     → Holds l at (bankWords (2 ^ n) (branches n σ gs)) → Held l at n (length σ) (branches n σ gs)
 circuit-held n σ gs ok bits light narrow small few holds = record {
   words = holds;
-  square = run-square n gs (start n σ) (tabulate-length (2 ^ n * 2 ^ n) 0 _, tt);
+  square = branches-square n σ gs;
   bits = branches-bits n σ gs bits;
   narrow = narrow;
   small = small;

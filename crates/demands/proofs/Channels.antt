@@ -1,6 +1,6 @@
 -- The channel that an accepted circuit delivers, as it is read back: its stores along the chain, its blocks and its effects.
 use mathlib.Core.Path.{_≡_, refl, sym, ap, _∙_, subst}
-use mathlib.Core.Bool.{Bool, _||_}
+use mathlib.Core.Bool.{Bool, true, false, _||_}
 use mathlib.Core.List.{List, [], _∷_, _++_, map, map-map}
 use Prim.Native.Nat.{ℕ, _+_, _*_, _/_, _%_, _^_, _<_, _≤_}
 use native.Mathlib.Omega.{arith}
@@ -11,24 +11,30 @@ use lib.ListN.{length, getD}
 use lib.IntN.{ℤ, natAbs}
 use Rattle.algebra.specs.Lists.{All, some}
 use Rattle.algebra.specs.Words.{fromBits}
+use Rattle.algebra.proofs.Tests.{all-at}
+use Rattle.algebra.proofs.Lists.{filter-all, filter-true}
 use Rattle.algebra.proofs.Sum.{sum-same}
 use Rattle.algebra.proofs.Trace.{same, join, all-back, some-of}
 use Rattle.algebra.proofs.Perm.{Perm, perm-path, map-of, gather}
-use Rattle.exact.specs.Exact.{Exact, exact, conj}
+use Rattle.exact.specs.Exact.{Exact, exact, conj, isZero}
 use Rattle.exact.proofs.Exact.{exacts}
-use Rattle.gate.specs.Gate.{Gate}
+use Rattle.gate.specs.Gate.{Gate, maxWeight}
 use Rattle.gate.proofs.Bits.{Word}
 use Rattle.kraus.specs.Branch.{Store, Branch, branches}
-use Rattle.kraus.specs.Blocks.{survivors, stores, block}
+use Rattle.kraus.specs.Blocks.{alive, survivors, stores, block}
 use Rattle.kraus.proofs.Hermitian as hermitian
+use Rattle.kraus.proofs.Limits.{exponentOf, circuit-whole}
 use Rattle.kraus.proofs.Effect.{effect, probabilities}
 use Rattle.store.specs.Store.{bits}
 use Rattle.channel.specs.Layout.{Block, side, effectOf, readBack}
+use Rattle.channel.specs.WellFormed.{allZero, someZero, hasZeroBlock}
+use Rattle.collect.proofs.Held.{branches-square}
 use Rattle.store.proofs.Bytes.{bits-word}
 use Rattle.judge.specs.Delivered.{circuitWords}
 use Rattle.demands.specs.Demands.{IsChannel}
 use Rattle.demands.proofs.Reading.{SameBlock, SameBlocks, range-map, back, chained, chained-perm, read-blocks}
 use Rattle.demands.proofs.Stores.{some-stores}
+use Rattle.demands.proofs.Positive.{blocks-not-zero}
 use Rattle.judge.proofs.Accepted.{Sound, store-words, writable}
 
 -- ---- what is read back, where it agrees with blocks of a list of stores
@@ -96,9 +102,33 @@ module _ {n m : ℕ} {σ : List ℕ} {gs : List Gate} {result work : ℕ} (s : S
   effect-is : (r c : ℕ) → r < d → c < d → (a : Block) (τ : Store) → SameBlock w a (blockOf τ) → effectOf (2 ^ n) (a .entry) r c ≡ effect (2 ^ n) bs τ r c
   effect-is r c p q a τ g = sum-same exacts d _ _ (λ o h. entry-is a τ g (o * d + r) (o * d + c) (digits-lt h p) (digits-lt h q))
 
+  -- no block is zero: its diagonal is not
+  not-zero : All (λ (τ : Store). ((i : ℕ) → i < w → isZero (block bs τ i i .num) ≡ true) → ⊥) along
+  not-zero =
+      all-back _ along-perm
+      (blocks-not-zero (exponentOf maxWeight) w bs
+      (filter-all _ alive (branches n σ gs) (circuit-whole maxWeight n m σ gs (s .valid-gates) (s .light) .fits))
+      (filter-all _ alive (branches n σ gs) (branches-square n σ gs))
+      (filter-true alive (branches n σ gs)))
+
+  pub none-zero : hasZeroBlock (circuitWords n m σ gs ++ rest) ≡ false
+  none-zero = go (readBack l) (agrees-all w blockOf (λ (a : Block). allZero (w * w) (a .entry) ≡ false) _ one (readBack l) along not-zero along-blocks)
+    where
+      one : (a : Block) (τ : Store) → (((i : ℕ) → i < w → isZero (block bs τ i i .num) ≡ true) → ⊥) → SameBlock w a (blockOf τ) → allZero (w * w) (a .entry) ≡ false
+      one a τ h g = by (allZero (w * w) (a .entry)) refl
+        where
+          by : (b : Bool) → allZero (w * w) (a .entry) ≡ b → allZero (w * w) (a .entry) ≡ false
+          by false e = e
+          by true e = absurd (h (λ i p. ap (λ (x : Exact). isZero (x .num)) (sym (entry-is a τ g i i p p)) ∙ all-at (w * w) (λ (k : ℕ). isZero (a .entry k .num)) e (i * w + i) (digits-lt p p)))
+
+      go : (xs : List Block) → All (λ (a : Block). allZero (w * w) (a .entry) ≡ false) xs → someZero w xs ≡ false
+      go [] h = refl
+      go (x ∷ xs) h = λ i. h .0 i || go xs (h .1) i
+
   pub is-channel : IsChannel n m (survivors (branches n σ gs)) (circuitWords n m σ gs ++ rest)
   is-channel = record {
     formed = back (writable s) rest .right;
+    full = none-zero;
     dim = refl;
     bitCount = refl;
     count = refl;

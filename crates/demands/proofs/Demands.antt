@@ -28,6 +28,7 @@ use Rattle.circuit.specs.Footprint.{footprintOf}
 use Rattle.verdict.specs.Verdict.{accepted}
 use Rattle.circuit.specs.Questions.{channelQuestions, channelVerdict}
 use Rattle.channel.specs.Layout.{side, readBack}
+use Rattle.channel.specs.Claims as claims
 use Rattle.collect.specs.Delivered.{overwritten}
 use Rattle.judge.specs.Delivered.{circuitWords}
 use Rattle.judge.specs.Call.{worked, accepts, resultAfter}
@@ -39,7 +40,7 @@ use Rattle.demands.proofs.Verdicts.{Matching, same-accepts, same-fault,
 use Rattle.demands.proofs.Reading.{SameBlocks, blocks-sym, blocks-stores, blocks-at, compare-same, back, read-alike}
 use Rattle.demands.proofs.Stores.{covers, stores-perm}
 use Rattle.judge.proofs.Accepted.{Sound, sound, enough, block-fine, writable, channel-room}
-use Rattle.demands.proofs.Channels.{is-channel}
+use Rattle.demands.proofs.Channels.{none-zero, is-channel}
 
 -- ---- demand 1
 abbrev zeros : ℕ → List ℤ
@@ -112,13 +113,19 @@ module _ {n m : ℕ} {σ : List ℕ} {gs hs : List Gate} {rg wg rh wh : ℕ} (s 
   alike : SameBlocks (side (2 ^ n)) (readBack left) (readBack right)
   alike = read-alike (writable s) (writable t) after behind (covers (2 ^ n) (perm-sym p)) (stores-perm (2 ^ n) (perm-sym p))
 
+  sound-left : claims.Sound (circuitWords n m σ gs ++ after)
+  sound-left = record { right = back (writable s) after .right; full = none-zero s after }
+
+  sound-right : claims.Sound (circuitWords n m σ hs ++ behind)
+  sound-right = record { right = back (writable t) behind .right; full = none-zero t behind }
+
   same-channel : SameChannel (circuitWords n m σ gs ++ after) (circuitWords n m σ hs ++ behind)
   same-channel = record {
     count = sym (length-of (stores-of p));
     stores = blocks-stores (side (2 ^ n)) (readBack left) (readBack right) alike;
     entries = λ j row col h k. blocks-at (side (2 ^ n)) (readBack left) (readBack right) noBlock alike j (row * side (2 ^ n) + col) (digits-lt h k);
-    compared = compare-same left right (record { left = back (writable s) after .right; right = back (writable t) behind .right; dims = refl; bits = refl }) alike;
-    comparedBack = compare-same right left (record { left = back (writable t) behind .right; right = back (writable s) after .right; dims = refl; bits = refl }) (blocks-sym (side (2 ^ n)) (readBack left) (readBack right) alike);
+    compared = compare-same left right (record { left = sound-left; right = sound-right; dims = refl; bits = refl }) alike;
+    comparedBack = compare-same right left (record { left = sound-right; right = sound-left; dims = refl; bits = refl }) (blocks-sym (side (2 ^ n)) (readBack left) (readBack right) alike);
   }
 
 pub demand3 : Demand3

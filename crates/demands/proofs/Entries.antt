@@ -14,7 +14,6 @@ use Rattle.algebra.specs.Lists.{All, some, filterBy}
 use Rattle.algebra.specs.Words.{fromBits}
 use Rattle.algebra.proofs.Tests.{and-split, or-no}
 use Rattle.algebra.proofs.Bits.{bits-below}
-use Rattle.verdict.specs.declared.Verdict.the-variants.{Accepted, Malformed}
 use Rattle.exact.specs.Exact.{Exact, exact}
 use Rattle.scalar.specs.Calls.{scalarOf}
 use Rattle.gate.proofs.Bits.{Word, same-true}
@@ -26,9 +25,9 @@ use Rattle.channel.specs.declared.compare.Place.{Place}
 use Rattle.channel.specs.declared.compare.Found.the-variants.{Same, Dimensions, Entry}
 use Rattle.channel.specs.declared.compare.Difference.{Difference}
 use Rattle.channel.specs.Layout.{Block, side, dimAt, bitsAt, readBack}
-use Rattle.channel.specs.WellFormed.{wellFormed}
+use Rattle.channel.specs.WellFormed.{verdictBy}
 use Rattle.channel.specs.Compare.{plain, unless, first, merge, compareOf}
-use Rattle.channel.specs.Claims.{look, entryOf, earlier, Comparable, FirstAt}
+use Rattle.channel.specs.Claims.{look, entryOf, earlier, Sound, Comparable, FirstAt}
 use Rattle.channel.proofs.Claims.{same-exactly, first-entry}
 use Rattle.channel.proofs.Sorted.{sorted, merge-sorted}
 use Rattle.channel.proofs.First.{Compared, alike, differs, compared}
@@ -37,7 +36,7 @@ use Rattle.demands.proofs.Stores.{some-stores}
 
 -- ---- one channel: n qubits, m bits, and f for its entries at each store, row and column
 pub record Reads (n m : ℕ) (f : ℕ → ℕ → ℕ → Exact) (l : List ℤ) : Type 0 where
-  pub formed : wellFormed l ≡ true
+  pub sound : Sound l
   pub dim : dimAt l ≡ 2 ^ n
   pub bitCount : bitsAt l ≡ m
   pub within : (s i j : ℕ) → s < 2 ^ m → i < side (2 ^ n) → j < side (2 ^ n) → entryOf l s (i * side (2 ^ n) + j) ≡ f s i j
@@ -89,7 +88,7 @@ module _ {n m : ℕ} {bs : List Branch} {l : List ℤ} (c : IsChannel n m bs l) 
 
   pub reads : Reads n m (λ s i j. block bs (bits m s) i j) l
   reads = record {
-    formed = c .formed;
+    sound = record { right = c .formed; full = c .full };
     dim = c .dim;
     bitCount = c .bitCount;
     within = λ s i j h p q. entry-is s i j p q ∙ inside s i j h (has s) refl;
@@ -127,7 +126,7 @@ module _ {n m : ℕ} {f g : ℕ → ℕ → ℕ → Exact} {l r : List ℤ} (a :
   d = compareOf l r
 
   comparable : Comparable l r
-  comparable = record { left = a .formed; right = b .formed; dims = a .dim ∙ sym (b .dim); bits = a .bitCount ∙ sym (b .bitCount) }
+  comparable = record { left = a .sound; right = b .sound; dims = a .dim ∙ sym (b .dim); bits = a .bitCount ∙ sym (b .bitCount) }
 
   -- the first unequal entry, with k for the dimension
   record FirstWith (p : Place) (k : ℕ) : Type 0 where
@@ -161,7 +160,7 @@ module _ {n m : ℕ} {f g : ℕ → ℕ → ℕ → Exact} {l r : List ℤ} (a :
               absurd (h .unequal (a .beyond (p .store) (p .row) (p .col) k (h .row) (h .col) ∙ sym (b .beyond (p .store) (p .row) (p .col) k (h .row) (h .col))))
 
   found : compareOf l r ≡ first (side (dimAt l)) (merge (readBack l) (readBack r)) → Finds n m n m f g (compareOf l r)
-  found is = go (compared (side (dimAt l)) (merge (readBack l) (readBack r)) (merge-sorted (readBack l) (readBack r) (sorted l (a .formed)) (sorted r (b .formed))))
+  found is = go (compared (side (dimAt l)) (merge (readBack l) (readBack r)) (merge-sorted (readBack l) (readBack r) (sorted l (a .sound .right)) (sorted r (b .sound .right))))
     where
       equal-at : compareOf l r .found ≡ Same → (s i j : ℕ) → s < 2 ^ m → i < side (2 ^ n) → j < side (2 ^ n) → f s i j ≡ g s i j
       equal-at e s i j u v w = sym (a .within s i j u v w) ∙ same-exactly l r comparable .0 e s (i * side (2 ^ n) + j) below ∙ b .within s i j u v w
@@ -191,7 +190,7 @@ module _ {n m n′ m′ : ℕ} {f g : ℕ → ℕ → ℕ → Exact} {l r : List
   scanned = first (side (dimAt l)) (merge (readBack l) (readBack r))
 
   compare-is : compareOf l r ≡ cond counts scanned (plain Dimensions)
-  compare-is = λ i. unless (cond (a .formed i) Accepted Malformed) (unless (cond (b .formed i) Accepted Malformed) (cond counts scanned (plain Dimensions)))
+  compare-is = λ i. unless (verdictBy (a .sound .right i) (a .sound .full i)) (unless (verdictBy (b .sound .right i) (b .sound .full i)) (cond counts scanned (plain Dimensions)))
 
   pub finds : Finds n m n′ m′ f g (compareOf l r)
   finds = go counts refl

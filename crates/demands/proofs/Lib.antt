@@ -2,6 +2,7 @@ pub mod Parts
 pub mod Verdicts
 pub mod Reading
 pub mod Stores
+pub mod Positive
 pub mod Channels
 pub mod Entries
 pub mod Demands

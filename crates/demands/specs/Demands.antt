@@ -22,7 +22,7 @@ use Rattle.circuit.specs.declared.limits.Limits.{Limits}
 use Rattle.channel.specs.declared.compare.Found.the-variants.{Same}
 use Rattle.store.specs.Store.{bits}
 use Rattle.channel.specs.Layout.{Block, side, effectOf, dimAt, bitsAt, countAt, readBack}
-use Rattle.channel.specs.WellFormed.{wellFormed}
+use Rattle.channel.specs.WellFormed.{wellFormed, hasZeroBlock}
 use Rattle.channel.specs.Compare.{plain, compareOf}
 use Rattle.judge.specs.Delivered.{circuitWords}
 use Rattle.judge.specs.Call.{worked, asked, verdictOf, accepts, resultAfter, workAfter}
@@ -51,10 +51,11 @@ abbrev pub Demand1 : Type 0
 Demand1 = (n m : ℕ) (σ : List ℕ) (l : Limits) (ws : List ℕ) (r w : List ℤ) → Judges n m σ l ws r w
 
 -- ---- demand 2: the channel delivered is that of the definitions, whatever the result held
--- of the result of an accepted call; bs are the surviving branches. The stores along the chain are theirs, each with its block, which is Hermitian;
+-- of the result of an accepted call; bs are the surviving branches. The stores along the chain are theirs, each with its block, which is Hermitian and not zero;
 -- the effects add up to the identity
 pub record IsChannel (n m : ℕ) (bs : List Branch) (l : List ℤ) : Type 0 where
   pub formed : wellFormed l ≡ true
+  pub full : hasZeroBlock l ≡ false
   pub dim : dimAt l ≡ 2 ^ n
   pub bitCount : bitsAt l ≡ m
   pub count : countAt l ≡ length (stores bs)

@@ -12,27 +12,28 @@ use Rattle.verdict.specs.declared.Verdict.the-variants.{Accepted, ShortBuffer, 
 use Rattle.verdict.specs.Verdict.{accepted}
 use Rattle.channel.specs.declared.Shape.{Shape}
 use Rattle.channel.specs.Layout.{headerSize, recordSize, word, dimAt, countAt}
-use Rattle.channel.specs.WellFormed.{wellFormed}
-use Rattle.channel.specs.Inner.Shapes.{shapeAt, noShape, shapeBy}
-use Rattle.channel.proofs.Judging.{verdictBy}
+use Rattle.channel.specs.WellFormed.{formVerdict}
+use Rattle.channel.specs.Inner.Shapes.{shapeAt, shapeOf, noShape, shapeBy}
+use Rattle.channel.proofs.Judging.{form-right, shape-verdict}
 use Rattle.effects.specs.Effects.{sumsFit, effectsVerdict}
 use Rattle.effects.specs.Inner.Readable.{Linked, Records, Ready}
 use Rattle.effects.proofs.Records.{first-linked, records-of}
 
-abbrev pub by : Bool → Bool → Bool → Verdict
-by p q s = cond (accepted (verdictBy p)) (cond q (cond s Accepted TooLarge) ShortBuffer) (verdictBy p)
+module _ (l : List ℤ) where
+  abbrev pub by : Bool → Bool → Bool → Verdict
+  by p q s = cond p (cond q (cond s Accepted TooLarge) ShortBuffer) (formVerdict l)
 
-by-tests : (p q s : Bool) → accepted (by p q s) ≡ true → (p ≡ true) × ((q ≡ true) × (s ≡ true))
-by-tests true true true e = (refl, (refl, refl))
-by-tests true true false e = absurd (true≢false (sym e))
-by-tests true false s e = absurd (true≢false (sym e))
-by-tests false q s e = absurd (true≢false (sym e))
+  by-tests : (p q s : Bool) → accepted (formVerdict l) ≡ p → accepted (by p q s) ≡ true → (p ≡ true) × ((q ≡ true) × (s ≡ true))
+  by-tests true true true f e = (refl, (refl, refl))
+  by-tests true true false f e = absurd (true≢false (sym e))
+  by-tests true false s f e = absurd (true≢false (sym e))
+  by-tests false q s f e = absurd (true≢false (sym e ∙ f))
 
-by-shape : (l : List ℤ) (p q s : Bool) → shapeBy (by p q s) l .verdict ≡ by p q s
-by-shape l true true true = refl
-by-shape l true true false = refl
-by-shape l true false s = refl
-by-shape l false q s = refl
+  by-shape : (p q s : Bool) → shapeBy (by p q s) l .verdict ≡ by p q s
+  by-shape true true true = refl
+  by-shape true true false = refl
+  by-shape true false s = refl
+  by-shape false q s = shape-verdict l (shapeOf l) refl
 
 -- the words that the result needs
 abbrev pub needed : List ℤ → ℕ
@@ -40,7 +41,7 @@ needed l = headerSize + countAt l * recordSize (dimAt l)
 
 module _ (l res : List ℤ) (h : Shape) (e : h ≡ shapeBy (effectsVerdict l res) l) where
   pub answer-verdict : h .verdict ≡ effectsVerdict l res
-  answer-verdict = ap (λ (g : Shape). g .verdict) e ∙ by-shape l (wellFormed l) (leb (needed l) (length res)) (sumsFit l (dimAt l) (countAt l))
+  answer-verdict = ap (λ (g : Shape). g .verdict) e ∙ by-shape l (accepted (formVerdict l)) (leb (needed l) (length res)) (sumsFit l (dimAt l) (countAt l))
 
   module _ (t : accepted (h .verdict) ≡ true) where
     pub accepts : accepted (effectsVerdict l res) ≡ true
@@ -51,9 +52,9 @@ module _ (l res : List ℤ) (h : Shape) (e : h ≡ shapeBy (effectsVerdict l res
 
     pub ready : Ready l res (h .dim) (h .count)
     ready =
-        let s = by-tests (wellFormed l) (leb (needed l) (length res)) (sumsFit l (dimAt l) (countAt l)) accepts in
+        let s = by-tests l (accepted (formVerdict l)) (leb (needed l) (length res)) (sumsFit l (dimAt l) (countAt l)) refl accepts in
         record {
-          form = s .0;
+          form = form-right l (s .0);
           room = leb-true _ _ (s .1 .0);
           fit = s .1 .1;
           dim = ap (λ (g : Shape). g .dim) answer-shape;

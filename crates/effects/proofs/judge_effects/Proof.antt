@@ -10,12 +10,13 @@ use lib.ListN.{length}
 use lib.IntN.{ℤ}
 use borrow.Author.Tests.{not-true, not-false, le-leb, lt-leb}
 use Rattle.verdict.specs.declared.Verdict.{Verdict}
-use Rattle.verdict.specs.declared.Verdict.the-variants.{Accepted, Malformed, ShortBuffer, TooLarge}
+use Rattle.verdict.specs.declared.Verdict.the-variants.{Accepted, ShortBuffer, TooLarge}
+use Rattle.verdict.specs.Verdict.{accepted}
 use Rattle.channel.specs.declared.Shape.{Shape}
 use Rattle.channel.specs.Layout.{headerSize, recordSize, dimAt, countAt}
-use Rattle.channel.specs.WellFormed.{wellFormed}
+use Rattle.channel.specs.WellFormed.{wellFormed, formVerdict}
 use Rattle.channel.specs.Inner.Shapes.{shapeAt, shapeBy}
-use Rattle.channel.proofs.Judging.{shape-test, shape-is, shape-no}
+use Rattle.channel.proofs.Judging.{form-right, shape-test, shape-is}
 use Rattle.effects.specs.Effects.{sumsFit, effectsVerdict}
 use Rattle.effects.specs.Inner.Readable.{Dim, Records}
 use Rattle.effects.proofs.Records.{shorter, dim-of, records-of}
@@ -37,18 +38,21 @@ words c = start c .args .channel .now
 abbrev shape : tie.After-is-accepted → Shape
 shape c = c .before .judge .result
 
-tested : (c : tie.After-is-accepted) → c .is-accepted .result ≡ wellFormed (words c)
-tested c = c .is-accepted .ensures ∙ shape-test (words c) (wellFormed (words c)) (shape c) (c .before .judge .ensures)
+tested : (c : tie.After-is-accepted) → c .is-accepted .result ≡ accepted (formVerdict (words c))
+tested c = c .is-accepted .ensures ∙ shape-test (words c) (formVerdict (words c)) (shape c) (c .before .judge .ensures)
 
 module _ (c : tie.Else1) where
   abbrev known : tie.After-is-accepted
   known = c .before
 
+  passed : accepted (formVerdict (words known)) ≡ true
+  passed = sym (tested known) ∙ not-false _ (c .if1 .left)
+
   right : wellFormed (words known) ≡ true
-  right = sym (tested known) ∙ not-false _ (c .if1 .left)
+  right = form-right (words known) passed
 
   is : shape known ≡ shapeAt (words known)
-  is = shape-is (words known) (wellFormed (words known)) (shape known) (known .before .judge .ensures) (sym (known .is-accepted .ensures) ∙ not-false _ (c .if1 .left))
+  is = shape-is (words known) (formVerdict (words known)) (shape known) (known .before .judge .ensures) (sym (known .is-accepted .ensures) ∙ not-false _ (c .if1 .left))
 
   dim : Dim (shape known .dim)
   dim = subst (λ (h : Shape). Dim (h .dim)) (sym is) (dim-of (words known) right)
@@ -82,10 +86,9 @@ returns : tie.Need-returns
 returns c =
     let k = c .before in
     let s = start k .args in
-    let no = not-true _ (c .if1 .taken) in
-    answered (words k) (s .result .now) (shape k) Malformed
-    (ap (λ (p : Bool). by p (leb (needed (words k)) (length (s .result .now))) (sumsFit (words k) (dimAt (words k)) (countAt (words k)))) (sym (tested k) ∙ no))
-    (shape-no (words k) (wellFormed (words k)) (shape k) (k .before .judge .ensures) (sym (k .is-accepted .ensures) ∙ no))
+    answered (words k) (s .result .now) (shape k) (formVerdict (words k))
+    (ap (λ (p : Bool). by (words k) p (leb (needed (words k)) (length (s .result .now))) (sumsFit (words k) (dimAt (words k)) (countAt (words k)))) (sym (tested k) ∙ not-true _ (c .if1 .taken)))
+    (k .before .judge .ensures)
 
 record-size-requires : tie.Need-record-size-requires
 record-size-requires c κs = let q = dim c .small in omega arith
@@ -106,7 +109,7 @@ returns-2 c =
     let k = known e in
     let s = start k .args in
     let short : leb (needed (words k)) (length (s .result .now)) ≡ false = lt-leb _ _ (subst (λ (n : ℕ). length (s .result .now) < n) (need-is r) (c .before .if2 .taken)) in
-    answered (words k) (s .result .now) _ ShortBuffer (λ i. by (right e i) (short i) (sumsFit (words k) (dimAt (words k)) (countAt (words k)))) (c .no-shape .ensures)
+    answered (words k) (s .result .now) _ ShortBuffer (λ i. by (words k) (passed e i) (short i) (sumsFit (words k) (dimAt (words k)) (countAt (words k)))) (c .no-shape .ensures)
 
 sums-fit-requires : tie.Need-sums-fit-requires
 sums-fit-requires c κs = records (c .before .before)
@@ -121,7 +124,7 @@ returns-3 c =
     let e = t .before .before in
     let k = known e in
     let s = start k .args in
-    answered (words k) (s .result .now) _ TooLarge (λ i. by (right e i) (room t i) ((sym (sums f) ∙ not-true _ (c .before .if3 .taken)) i)) (c .no-shape2 .ensures)
+    answered (words k) (s .result .now) _ TooLarge (λ i. by (words k) (passed e i) (room t i) ((sym (sums f) ∙ not-true _ (c .before .if3 .taken)) i)) (c .no-shape2 .ensures)
 
 returns-4 : tie.Need-returns-4
 returns-4 c =
@@ -130,7 +133,7 @@ returns-4 c =
     let e = t .before .before in
     let k = known e in
     let s = start k .args in
-    answered (words k) (s .result .now) (shape k) Accepted (λ i. by (right e i) (room t i) ((sym (sums f) ∙ not-false _ (c .if3 .left)) i)) (is e)
+    answered (words k) (s .result .now) (shape k) Accepted (λ i. by (words k) (passed e i) (room t i) ((sym (sums f) ∙ not-false _ (c .if3 .left)) i)) (is e)
 
 pub judge-effects-spec : {M : Type 1} → statement M
 judge-effects-spec =
