@@ -444,7 +444,17 @@ fn damaged(i: u64, rng: &mut Rng) -> Case {
         _ => (),
     }
     let cut = if i % 5 == 0 { 1 + rng.below(3) } else { 0 };
-    Case::Damaged { left, right, sets, cut, store, short: if rng.one_in(4) { 1 + rng.below(3) } else { 0 } }
+    // blocks of zeros on either side, in any place, alone or beside other faults
+    let mut blanks = Vec::new();
+    if rng.one_in(3) {
+        for _ in 0..1 + rng.below(2) {
+            blanks.push((rng.one_in(2), rng.next() >> 1));
+        }
+        if rng.one_in(2) {
+            sets.clear();
+        }
+    }
+    Case::Damaged { left, right, blanks, sets, cut, store, short: if rng.one_in(4) { 1 + rng.below(3) } else { 0 } }
 }
 
 // ---- layers
@@ -775,7 +785,7 @@ pub fn sets() -> Vec<Set> {
         Set { name: "compare", about: "pairs of circuits, both orders", count: 12000, quick: 300, case: comparison },
         Set { name: "layers", about: "layered circuits, in order and shuffled", count: 20000, quick: 500, case: layers },
         Set { name: "schedules", about: "schedules, sound and spoilt", count: 20000, quick: 500, case: schedules },
-        Set { name: "damaged", about: "channels with words damaged", count: 20000, quick: 600, case: damaged },
+        Set { name: "damaged", about: "channels with words damaged and blocks of zeros", count: 20000, quick: 600, case: damaged },
         Set { name: "phases", about: "phase tests, both orders", count: 8000, quick: 300, case: phases },
         Set { name: "scalars", about: "scalar calls at the ranges' ends", count: 100000, quick: 3000, case: scalars },
     ]

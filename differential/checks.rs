@@ -76,8 +76,8 @@ pub enum Case {
     Schedule { words: Words, new: Vec<u32>, table: Vec<u32> },
     /// The channels of two circuits, compared in both orders.
     Compare { left: Words, right: Words },
-    /// compare (both orders), classical_blocks and lookup on words of any kind: those of two circuits' channels with words set to values.
-    Damaged { left: Words, right: Words, sets: Vec<(bool, u64, i64)>, cut: u64, store: Vec<u8>, short: u64 },
+    /// compare (both orders), classical_blocks and lookup on words of any kind: those of two circuits' channels with blocks set to zero and words set to values.
+    Damaged { left: Words, right: Words, blanks: Vec<(bool, u64)>, sets: Vec<(bool, u64, i64)>, cut: u64, store: Vec<u8>, short: u64 },
     /// The phase test on the unitaries of two circuits, the right one times a scalar, with words set to values.
     Phase { left: Words, right: Words, scale: [i64; 5], sets: Vec<(bool, u64, i64)>, dims: (usize, usize), cut: u64 },
     Scalar(Operation),
@@ -417,7 +417,7 @@ fn layers(w: &Words, ends: &[u32], limits: &[u64; 6], extra: (i64, i64), shuffle
 /// Two channels are the same, whichever is on the left.
 fn same_channel(what: &str, x: (&Reply, &Channel), y: (&Reply, &Channel), counts: &mut Counts) -> Fault {
     for (l, r) in [(x, y), (y, x)] {
-        compare(&l.0.result, &r.0.result, Some((l.1, r.1)), counts)?;
+        compare(&l.0.result, &r.0.result, Ok((l.1, r.1)), counts)?;
         same(what, compare_call(&ARCHIVE, &l.0.result, &r.0.result)?.0, 100, "the schedule rule")?;
     }
     Ok(())
@@ -503,19 +503,19 @@ fn compare_call(calls: &Calls, left: &[i64], right: &[i64]) -> Result<(u32, [u64
     Ok(reply)
 }
 
-/// compare against the Rust's answer on both channels, or None where a side is malformed.
-fn compare(left: &[i64], right: &[i64], rust: Option<(&Channel, &Channel)>, counts: &mut Counts) -> Fault {
+/// compare against the Rust's answer on both channels, or the refusal of the first that is refused.
+fn compare(left: &[i64], right: &[i64], rust: Result<(&Channel, &Channel), u32>, counts: &mut Counts) -> Fault {
     let got = compare_call(&ARCHIVE, left, right)?;
     same("compare", got, compare_call(&PLAIN, left, right)?, "plain C")?;
-    counts.add("compare", rust.is_some(), got.0);
+    counts.add("compare", rust.is_ok(), got.0);
     match rust {
-        Some((x, y)) => same("compare", got, rust::compared(x, y), "the Rust"),
-        None => same("compare", got, (10, [0; 3], [0; 10]), "document 01"),
+        Ok((x, y)) => same("compare", got, rust::compared(x, y), "the Rust"),
+        Err(v) => same("compare", got, (v, [0; 3], [0; 10]), "the documents"),
     }
 }
 
 /// classical_blocks with `short` words too few, or enough.
-fn effects(words: &[i64], rust: Option<&Channel>, short: usize, counts: &mut Counts) -> Fault {
+fn effects(words: &[i64], rust: Result<&Channel, u32>, short: usize, counts: &mut Counts) -> Fault {
     let count = words.get(2).map_or(0, |c| (*c).clamp(0, 64) as usize);
     let d = words.first().map_or(1, |d| (*d).clamp(0, 16) as usize);
     let need = 4 + count * (3 + 5 * d * d);
@@ -535,9 +535,10 @@ fn effects(words: &[i64], rust: Option<&Channel>, short: usize, counts: &mut Cou
     }
     same("classical_blocks", replies[0].0, replies[1].0, "plain C")?;
     same_words("effects", &replies[0].1, &replies[1].1, "plain C")?;
-    counts.add("classical_blocks", rust.is_some() && replies[0].0 == 0, replies[0].0);
-    let Some(c) = rust else {
-        return same("classical_blocks", replies[0].0, 10, "document 01");
+    counts.add("classical_blocks", rust.is_ok() && replies[0].0 == 0, replies[0].0);
+    let c = match rust {
+        Ok(c) => c,
+        Err(v) => return same("classical_blocks", replies[0].0, v, "the documents"),
     };
     if short > 0 {
         return same("classical_blocks", replies[0].0, 8, "document 01");
@@ -567,7 +568,7 @@ fn sums_fit(c: &Channel) -> bool {
     })
 }
 
-fn lookup(words: &[i64], store: &[u8], rust: Option<&Channel>, counts: &mut Counts) -> Fault {
+fn lookup(words: &[i64], store: &[u8], rust: Result<&Channel, u32>, counts: &mut Counts) -> Fault {
     let mut replies = Vec::new();
     for calls in [&ARCHIVE, &PLAIN] {
         let mut rng = Rng(words.len() as u64);
@@ -579,11 +580,11 @@ fn lookup(words: &[i64], store: &[u8], rust: Option<&Channel>, counts: &mut Coun
         replies.push(at);
     }
     same("lookup", replies[0], replies[1], "plain C")?;
-    let asked = rust.filter(|c| store.len() == c.num_cbits && store.iter().all(|b| *b <= 1));
+    let asked = rust.ok().filter(|c| store.len() == c.num_cbits && store.iter().all(|b| *b <= 1));
     counts.add("lookup", asked.is_some(), if replies[0] == 0 { "none" } else { "found" });
     let key: Vec<bool> = store.iter().map(|b| *b == 1).collect();
     match asked.and_then(|c| c.blocks.get(&key)) {
-        None => same("lookup", replies[0], 0, if asked.is_some() { "the Rust" } else { "document 01" }),
+        None => same("lookup", replies[0], 0, if asked.is_some() { "the Rust" } else { "the documents" }),
         Some(block) => {
             let at = replies[0];
             let want = rust::cells(block).ok_or("a block out of range")?;
@@ -632,6 +633,30 @@ fn read(words: &[i64]) -> Option<Channel> {
         at = words[record];
     }
     if at != 0 { None } else { Some(Channel { quantum_dim: d, num_cbits: bits, blocks }) }
+}
+
+/// The Rust's channel of some words, or their refusal: 10 where they are malformed, then 16 where a block has no entry but zeros.
+fn judged(words: &[i64]) -> Result<Channel, u32> {
+    let c = read(words).ok_or(10u32)?;
+    let block = 5 * c.quantum_dim.pow(4);
+    let zero = words[4..].chunks_exact(3 + block).take(words[2] as usize).any(|r| r[3..].chunks_exact(5).all(|x| x[..4] == [0; 4]));
+    if zero { Err(16) } else { Ok(c) }
+}
+
+/// Two channels, or the refusal of the left one, or of the right one.
+fn both<'a>(x: &'a Result<Channel, u32>, y: &'a Result<Channel, u32>) -> Result<(&'a Channel, &'a Channel), u32> {
+    let (a, b) = (x.as_ref().map_err(|v| *v)?, y.as_ref().map_err(|v| *v)?);
+    Ok((a, b))
+}
+
+/// All entries of a record set to zero, on one side.
+fn blank(words: &mut [i64], blanks: &[(bool, u64)], side: bool) {
+    let (Some(d), Some(count)) = (words.first().map(|d| *d as usize), words.get(2).map(|c| *c as u64)) else { return };
+    for (_, j) in blanks.iter().filter(|b| b.0 == side && count > 0) {
+        let size = 3 + 5 * d.pow(4);
+        let at = 4 + (j % count) as usize * size;
+        words[at + 3..at + size].fill(0);
+    }
 }
 
 fn plain_channel(w: &Words) -> Vec<i64> {
@@ -735,14 +760,14 @@ pub fn check(case: &Case, counts: &mut Counts) -> Fault {
     match case {
         Case::Channel { words, limits, extra } => {
             let Some((got, c)) = channel(words, limits, *extra, counts)? else { return Ok(()) };
-            effects(&got, Some(&c), 0, counts)?;
-            effects(&got, Some(&c), 1, counts)?;
-            compare(&got, &got, Some((&c, &c)), counts)?;
+            effects(&got, Ok(&c), 0, counts)?;
+            effects(&got, Ok(&c), 1, counts)?;
+            compare(&got, &got, Ok((&c, &c)), counts)?;
             let start: Vec<u8> = words.store.clone();
-            lookup(&got, &start, Some(&c), counts)?;
+            lookup(&got, &start, Ok(&c), counts)?;
             if let Some(store) = c.blocks.keys().last() {
                 let store: Vec<u8> = store.iter().map(|b| *b as u8).collect();
-                lookup(&got, &store, Some(&c), counts)?;
+                lookup(&got, &store, Ok(&c), counts)?;
             }
             Ok(())
         }
@@ -752,20 +777,22 @@ pub fn check(case: &Case, counts: &mut Counts) -> Fault {
         Case::Compare { left, right } => {
             let (x, y) = (channel(left, &CEILINGS, (0, 0), counts)?, channel(right, &CEILINGS, (0, 0), counts)?);
             let (Some((x, a)), Some((y, b))) = (x, y) else { return Ok(()) };
-            compare(&x, &y, Some((&a, &b)), counts)?;
-            compare(&y, &x, Some((&b, &a)), counts)
+            compare(&x, &y, Ok((&a, &b)), counts)?;
+            compare(&y, &x, Ok((&b, &a)), counts)
         }
-        Case::Damaged { left, right, sets, cut, store, short } => {
+        Case::Damaged { left, right, blanks, sets, cut, store, short } => {
             let (mut x, mut y) = (plain_channel(left), plain_channel(right));
+            blank(&mut x, blanks, false);
+            blank(&mut y, blanks, true);
             set_words(&mut x, sets, false);
             set_words(&mut y, sets, true);
             x.truncate(x.len().saturating_sub(*cut as usize));
-            let (a, b) = (read(&x), read(&y));
-            let pair = a.as_ref().zip(b.as_ref());
-            compare(&x, &y, pair, counts)?;
-            compare(&y, &x, pair.map(|(a, b)| (b, a)), counts)?;
-            effects(&x, a.as_ref(), *short as usize, counts)?;
-            lookup(&x, store, a.as_ref(), counts)
+            let (a, b) = (judged(&x), judged(&y));
+            compare(&x, &y, both(&a, &b), counts)?;
+            compare(&y, &x, both(&b, &a), counts)?;
+            let left = a.as_ref().map_err(|v| *v);
+            effects(&x, left, *short as usize, counts)?;
+            lookup(&x, store, left, counts)
         }
         Case::Phase { left, right, scale, sets, dims, cut } => {
             let of = |w: &Words| circuit_call(&ARCHIVE, Ask::Unitary, w, &CEILINGS, (0, 0)).map(|r| r.result).unwrap_or_default();
@@ -911,19 +938,24 @@ fn smaller(case: &Case) -> Vec<Case> {
             let rights = smaller_words(right).into_iter().map(|right| Case::Compare { left: left.clone(), right });
             lefts.chain(rights).collect()
         }
-        Case::Damaged { left, right, sets, cut, store, short } => {
-            let with = |left: &Words, right: &Words, sets: Vec<(bool, u64, i64)>, cut: u64| Case::Damaged {
-                left: left.clone(), right: right.clone(), sets, cut, store: store.clone(), short: *short,
+        Case::Damaged { left, right, blanks, sets, cut, store, short } => {
+            let with = |left: &Words, right: &Words, blanks: &[(bool, u64)], sets: Vec<(bool, u64, i64)>, cut: u64| Case::Damaged {
+                left: left.clone(), right: right.clone(), blanks: blanks.to_vec(), sets, cut, store: store.clone(), short: *short,
             };
-            let mut out: Vec<Case> = smaller_words(left).iter().map(|l| with(l, right, sets.clone(), *cut)).collect();
-            out.extend(smaller_words(right).iter().map(|r| with(left, r, sets.clone(), *cut)));
+            let mut out: Vec<Case> = smaller_words(left).iter().map(|l| with(l, right, blanks, sets.clone(), *cut)).collect();
+            out.extend(smaller_words(right).iter().map(|r| with(left, r, blanks, sets.clone(), *cut)));
             for i in 0..sets.len() {
                 let mut fewer = sets.clone();
                 fewer.remove(i);
-                out.push(with(left, right, fewer, *cut));
+                out.push(with(left, right, blanks, fewer, *cut));
+            }
+            for i in 0..blanks.len() {
+                let mut fewer = blanks.clone();
+                fewer.remove(i);
+                out.push(with(left, right, &fewer, sets.clone(), *cut));
             }
             if *cut > 0 {
-                out.push(with(left, right, sets.clone(), 0));
+                out.push(with(left, right, blanks, sets.clone(), 0));
             }
             out
         }

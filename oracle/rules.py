@@ -381,6 +381,15 @@ def block_at(words, dim, at):
     return {(j // width, j % width): s for j, s in cells if s != ZERO}
 
 
+def words_verdict(words):
+    """10 where the words are malformed, then 16 where a block has no entry but zeros, else 0."""
+    channel = read_channel(words)
+    if channel is None:
+        return 10
+    dim, _, chain = channel
+    return 0 if all(block_at(words, dim, at) for _, at in chain) else 16
+
+
 def effects_fit(dim, block):
     """Whether every partial sum of classical_blocks is in range."""
     for r in range(dim):

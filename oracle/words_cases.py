@@ -10,7 +10,7 @@ import sys
 
 from ask import ask, blocks
 from circuits import text
-from rules import MAX_NUMERATOR, ONE, ZERO, block_at, channel_words, checksum, effects_fit, lowest, read_channel
+from rules import MAX_NUMERATOR, ONE, ZERO, block_at, words_verdict, channel_words, checksum, effects_fit, lowest, read_channel
 
 SEED = 4096
 CASES = 320
@@ -27,7 +27,7 @@ def scalar(rng):
 
 
 def random_block(rng, width):
-    if rng.random() < 0.1:
+    if rng.random() < 0.03:
         return {}
     out = {}
     for _ in range(rng.randint(1, 4)):
@@ -111,19 +111,20 @@ def lookup(rng, words, store=None):
         bits = rng.choice([0, 1, 2])
         return [rng.randrange(2) for _ in range(bits)], []
     dim, bits, chain = sound
+    refused = words_verdict(words) != 0
     if store is None:
         store = list(rng.choice(chain)[0]) if chain and rng.random() < 0.7 else [rng.randrange(2) for _ in range(bits)]
         if rng.random() < 0.15:
             store = rng.choice([store + [0], store[:-1], [2] + store[1:], [255] * len(store)])
     for s, at in chain:
-        if list(s) == store:
+        if list(s) == store and not refused:
             return store, words[at + 3:at + 3 + 5 * dim**4]
     return store, []
 
 
 def one_record(bits, chain, low=0, high=0, count=1, spare=()):
-    """A channel of dimension 1 with one record, whose entry is 0."""
-    return [1, bits, count, chain, 0, low, high, 0, 0, 0, 0, 0, *spare]
+    """A channel of dimension 1 with one record, whose entry is 1."""
+    return [1, bits, count, chain, 0, low, high, *ONE, *spare]
 
 
 def edges():
@@ -154,6 +155,42 @@ def edges():
         yield there, here, store
 
 
+def zero_blocks():
+    """Pairs of channels with blocks of zeros, in each place of the chain and on each side, alone and beside other faults before and behind them; and a store to look for."""
+    stores = [(0, 0), (1, 0), (1, 1)]
+    size = {1: 8, 2: 83}
+
+    def channel(dim, zeros):
+        """Records in another order than the chain's, those at the places `zeros` of the chain with no entry."""
+        blocks = {s: {} if j in zeros else {(0, 0): ONE, (dim - 1, dim - 1): ONE} for j, s in enumerate(stores)}
+        return channel_words(dim, 2, stores[1:] + stores[:1], blocks, dim * dim)
+
+    def spoilt(words, at, value):
+        return [*words[:at], value, *words[at + 1:]]
+
+    for dim in (1, 2):
+        sound = channel(dim, ())
+        for zeros in ((0,), (1,), (2,), (0, 2), (0, 1, 2)):
+            blank = channel(dim, zeros)
+            for pair in ((blank, sound), (sound, blank), (blank, blank), (blank, channel(3 - dim, ())), (channel(3 - dim, ()), blank)):
+                yield *pair, list(stores[zeros[0]])
+            # the last word of a record, a store, a chain that goes on, a header: beside the zero blocks, on their side and on the other
+            records = [4 + j * size[dim] for j in range(3)]
+            for at, value in (*((r + size[dim] - 1, 61) for r in records), *((r + 2, 1) for r in records), (records[1], records[2]), (2, 4)):
+                faulty = spoilt(blank, at, value)
+                yield faulty, sound, list(stores[0])
+                yield sound, faulty, list(stores[0])
+                if at == records[2] + size[dim] - 1:
+                    yield faulty, blank, list(stores[0])
+                    yield blank, faulty, list(stores[0])
+        for store in stores:  # an entry that is not 0 in a numerator other than the first
+            for part in range(4):
+                words = channel(dim, (0, 1, 2))
+                for r in range(3):
+                    words = spoilt(words, 4 + r * size[dim] + size[dim] - 5 + part, 1)
+                yield words, words, list(store)
+
+
 def sparse(words):
     marks = [(i, w) for i, w in enumerate(words) if w]
     return [len(words), len(marks), *(x for m in marks for x in m)]
@@ -168,26 +205,28 @@ def main():
         if j % 2:
             left, right = rng.choice([(damage(rng, left), right), (left, damage(rng, right)), (damage(rng, left), damage(rng, right))])
         todo.append((left, right))
-    wanted = [store for *_, store in edges()]
-    todo += [(left, right) for left, right, _ in edges()]
-    sound = [read_channel(a) is not None and read_channel(b) is not None for a, b in todo]
+    given = [*edges(), *zero_blocks()]
+    wanted = [store for *_, store in given]
+    todo += [(left, right) for left, right, _ in given]
+    refusals = [words_verdict(a) or words_verdict(b) for a, b in todo]
+    sound = [v == 0 for v in refusals]
     compared = ask([f"cmpw {for_rust(a)} {for_rust(b)}" if ok else "unit 0 0" for ok, (a, b) in zip(sound, todo)])
-    traced = ask([f"effw {for_rust(a)}" if read_channel(a) is not None else "unit 0 0" for a, _ in todo])
+    traced = ask([f"effw {for_rust(a)}" if words_verdict(a) == 0 else "unit 0 0" for a, _ in todo])
     lines, verdicts, effect_verdicts = [], {}, {}
     for j, (ok, (left, right), answer, effect) in enumerate(zip(sound, todo, compared, traced)):
-        verdict, kind, place = (0 if ok else 10), 0, [0] * 14
+        verdict, kind, place = refusals[j], 0, [0] * 14
         if ok:
             words = answer[0].split()
             kind = ["same", "dimensions", "entry"].index(words[0])
             if kind == 2:
                 bits = [] if words[1] == "-" else [int(b) for b in words[1]]
                 place = [*(sum(b << j for j, b in enumerate(half)) for half in (bits[:32], bits[32:])), *map(int, words[2:])]
-        channel = read_channel(left)
-        if channel is None:
+        refused = words_verdict(left)
+        if refused:
             length = rng.choice([0, 4, 40])
-            effects = [length, 10, checksum(pattern(length))]
+            effects = [length, refused, checksum(pattern(length))]
         else:
-            dim, bits, chain = channel
+            dim, bits, chain = read_channel(left)
             by_place = sorted(chain, key=lambda x: x[1])
             want = 4 + len(chain) * (3 + 5 * dim * dim)
             length = want + rng.choice([0, 0, 0, 2, -1])
