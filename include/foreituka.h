@@ -56,6 +56,7 @@ enum {
     FOREITUKA_NAME = 14,            /* another word where a gate's name or a register is due; its position is given. Or, from write_qasm, a gate
                                        whose kind has no name; its index is given */
     FOREITUKA_SCHEDULE = 15,        /* a list and its table are no schedule of another list; the first position at fault is given, 0 where lengths differ */
+    FOREITUKA_ZERO_BLOCK = 16,      /* a well-formed channel with a block that has no entry but zeros */
     FOREITUKA_SAME = 100,           /* compare, judge_texts: no entry differs */
     FOREITUKA_DIMENSIONS = 101,     /* compare, judge_texts: dimensions or bit counts differ */
     FOREITUKA_ENTRY = 102,          /* compare, judge_texts: an entry differs; place or numbers, and scalars, say which */
@@ -163,16 +164,17 @@ uint32_t foreituka_circuit_unitary(uint32_t qubits, const uint32_t *gates, size_
 
 /* Whether two channels, as circuit_channel leaves them, are the same map; a missing block is zero. FOREITUKA_ENTRY comes with the first
  * unequal entry, by rising stores, then rows, then columns: place is its store (bit j weighs 2^j), row and column, scalars the left one's five
- * words and the right one's. They are zero otherwise. left and right may be one buffer. Replies: 10, 100, 101, 102. */
+ * words and the right one's. They are zero otherwise. left and right may be one buffer. Replies: 10, 16, 100, 101, 102; asked are 10 and 16 of
+ * left, then 10 and 16 of right, then the dimensions. FOREITUKA_SAME says that both have the same stores too. */
 uint32_t foreituka_compare(const int64_t *left, size_t left_words, const int64_t *right, size_t right_words, uint64_t place[3],
                            int64_t scalars[10]);
 
 /* Each store's effect, transposed: entry (r, c) sums block entry (o·d + r, o·d + c) over o. result: FOREITUKA_EFFECTS_WORDS words or more, in
- * the layout of a channel with d² scalars in a record. Replies: 0, 8, 9, 10. */
+ * the layout of a channel with d² scalars in a record. Replies: 0, 8, 9, 10, 16; asked are 10, 16, 8, 9. */
 uint32_t foreituka_classical_blocks(const int64_t *channel, size_t channel_words, int64_t *result, size_t result_words);
 
-/* The index in `channel` of the first word of a store's block (d^4 scalars from there on). 0: a malformed channel, a store of the wrong length
- * or with a byte above 1, or no such block. */
+/* The index in `channel` of the first word of a store's block (d^4 scalars from there on). 0: a channel that is malformed or has a block of
+ * zeros, a store of the wrong length or with a byte above 1, or no such block. */
 size_t foreituka_lookup(const int64_t *channel, size_t channel_words, const uint8_t *store, size_t store_bytes);
 
 /* Whether two matrices (5·dim² words, row by row; dim 1, 2, 4, 8, 16 or 32) are equal up to a factor of modulus 1. Replies: 9 (an entry is not
