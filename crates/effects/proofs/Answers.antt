@@ -39,6 +39,11 @@ module _ (l : List ℤ) where
 abbrev pub needed : List ℤ → ℕ
 needed l = headerSize + countAt l * recordSize (dimAt l)
 
+pub accepted-ready : (l res : List ℤ) → accepted (effectsVerdict l res) ≡ true → Ready l res (dimAt l) (countAt l)
+accepted-ready l res e =
+    let s = by-tests l (accepted (formVerdict l)) (leb (needed l) (length res)) (sumsFit l (dimAt l) (countAt l)) refl e in
+    record { form = form-right l (s .0); room = leb-true _ _ (s .1 .0); fit = s .1 .1; dim = refl; count = refl }
+
 module _ (l res : List ℤ) (h : Shape) (e : h ≡ shapeBy (effectsVerdict l res) l) where
   pub answer-verdict : h .verdict ≡ effectsVerdict l res
   answer-verdict = ap (λ (g : Shape). g .verdict) e ∙ by-shape l (accepted (formVerdict l)) (leb (needed l) (length res)) (sumsFit l (dimAt l) (countAt l))
@@ -51,15 +56,7 @@ module _ (l res : List ℤ) (h : Shape) (e : h ≡ shapeBy (effectsVerdict l res
     answer-shape = e ∙ ap (λ (b : Bool). cond b (shapeAt l) (noShape (effectsVerdict l res))) accepts
 
     pub ready : Ready l res (h .dim) (h .count)
-    ready =
-        let s = by-tests l (accepted (formVerdict l)) (leb (needed l) (length res)) (sumsFit l (dimAt l) (countAt l)) refl accepts in
-        record {
-          form = form-right l (s .0);
-          room = leb-true _ _ (s .1 .0);
-          fit = s .1 .1;
-          dim = ap (λ (g : Shape). g .dim) answer-shape;
-          count = ap (λ (g : Shape). g .count) answer-shape;
-        }
+    ready = subst (λ (g : Shape). Ready l res (g .dim) (g .count)) (sym answer-shape) (accepted-ready l res accepts)
 
 -- ---- what the writing calls ask of an accepted channel and result
 module _ (l res : List ℤ) (d n : ℕ) (r : Ready l res d n) where

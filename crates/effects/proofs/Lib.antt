@@ -3,3 +3,5 @@ pub mod Linking
 pub mod Strides
 pub mod Records
 pub mod Answers
+pub mod Reading
+pub mod Claims

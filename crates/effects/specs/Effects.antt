@@ -1,4 +1,4 @@
--- The effects of a channel, its transposed POVM elements: the Choi block of each store summed over the outputs, in words of the same layout.
+-- The effects of a channel, its POVM elements: the Choi block of each store summed over the outputs, in words of the same layout; transposed, and as the textbook has them.
 use mathlib.Core.Bool.{Bool, cond}
 use mathlib.Core.List.{List, [], _∷_}
 use Prim.Native.Nat.{ℕ, zero, suc, _+_, _*_, _-_, _/_, _%_}
@@ -22,9 +22,13 @@ use Rattle.channel.specs.WellFormed.{formVerdict}
 abbrev pub term : List ℤ → ℕ → ℕ → ℕ → ℕ → Exact
 term l at d i o = entryAt l at (effectPlace d (i / d) (i % d) o)
 
--- entry i, row · d + column, of the effect
+-- entry i, row · d + column, of the transposed effect
 abbrev pub effectAt : List ℤ → ℕ → ℕ → ℕ → Exact
 effectAt l at d i = effectOf d (entryAt l at) (i / d) (i % d)
+
+-- entry i of the textbook's effect: its entry (r, c) is entry (c, r) of the transposed one
+abbrev pub povmAt : List ℤ → ℕ → ℕ → ℕ → Exact
+povmAt l at d i = effectOf d (entryAt l at) (i % d) (i / d)
 
 -- the first n partial sums from 0 up are in range
 abbrev pub partialsFit : ℕ → (ℕ → Exact) → Bool
@@ -63,7 +67,7 @@ module _ (entry : List ℤ → ℕ → ℕ → ℕ → Exact) where
   abbrev pub resultBy : Verdict → List ℤ → List ℤ → List ℤ
   resultBy v l res = cond (accepted v) (effectsWords l res) res
 
--- ---- the call's answer, and what it leaves in the result
+-- ---- the answer of both calls, and what each leaves in the result
 abbrev pub effectsVerdict : List ℤ → List ℤ → Verdict
 effectsVerdict l res =
     cond (accepted (formVerdict l))
@@ -72,3 +76,6 @@ effectsVerdict l res =
 
 abbrev pub resultOf : List ℤ → List ℤ → List ℤ
 resultOf l res = resultBy effectAt (effectsVerdict l res) l res
+
+abbrev pub povmOf : List ℤ → List ℤ → List ℤ
+povmOf l res = resultBy povmAt (effectsVerdict l res) l res

@@ -1,4 +1,4 @@
-// The effects of a channel's blocks. The sums are tried before the first word is written, so that a refusal leaves the result as it was.
+// The effects of a channel's blocks, transposed and as the textbook has them. The sums are tried before the first word is written, so that a refusal leaves the result as it was.
 use cells::write_cell;
 use channel::Shape;
 use channel::layout::ENTRY;
@@ -24,9 +24,9 @@ ghost use Rattle.verdict.specs.declared.Verdict.the-variants.{TooLarge};
 ghost use Rattle.cells.specs.Cells.{fill};
 ghost use Rattle.channel.specs.Layout.{headerSize, blockSize, recordSize, effectPlace, word};
 ghost use Rattle.channel.specs.Inner.Shapes.{shapeBy};
-ghost use Rattle.effects.specs.Effects.{term, effectAt, partialsFit, recordFits, sumsFit, relink, effectHeader, effectRecord, withRecords, effectsWords, effectsVerdict, resultOf};
+ghost use Rattle.effects.specs.Effects.{term, effectAt, partialsFit, recordFits, sumsFit, relink, effectHeader, effectRecord, withRecords, effectsWords, resultBy, effectsVerdict, resultOf, povmOf};
 ghost use Rattle.effects.specs.Inner.Readable.{Dim, Readable, Records, Linked, Ready};
-ghost use Rattle.effects.specs.Inner.Strides.{strided, stridedAt, Strides};
+ghost use Rattle.effects.specs.Inner.Strides.{strided, stridedAt, Strides, formAt};
 
 // The place in a block of its entry (o·d + r, o·d + c).
 fn term_place(d: usize, r: usize, c: usize, o: usize) -> usize
@@ -232,11 +232,20 @@ fn write_effects(s: &[i64], d: usize, n: usize, rows: usize, cols: usize, result
     write_records(s, d, n, rows, cols, result);
 }
 
-// The effect of each store's block, d² entries each, in the channel's own order: entry (r, c) sums block entry (o·d + r, o·d + c)
-// over o from 0 up. A refusal leaves the result as it was.
-pub fn classical_blocks(channel: &[i64], result: &mut [i64]) -> Verdict
+// The stride of one of an entry's two digits: that of a row, or of a column.
+fn stride(d: usize, row: bool) -> usize
+    ensures { λ r. ⌜ r ≡ cond row d 1 ⌝ }
+{
+    if row {
+        return d;
+    }
+    1
+}
+
+// Write the effect of each store's block, transposed or as the textbook has it. A refusal leaves the result as it was.
+fn effects_in(channel: &[i64], textbook: bool, result: &mut [i64]) -> Verdict
     ensures verdict { λ r. ⌜ r ≡ effectsVerdict (now (channel .entry)) (now (result .entry)) ⌝ }
-    ensures words { λ r. ⌜ now (result .exit) ≡ resultOf (now (channel .entry)) (now (result .entry)) ⌝ }
+    ensures words { λ r. ⌜ now (result .exit) ≡ resultBy (formAt textbook) (effectsVerdict (now (channel .entry)) (now (result .entry))) (now (channel .entry)) (now (result .entry)) ⌝ }
 {
     let h = judge_effects(channel, result);
     let v = h.verdict;
@@ -244,6 +253,26 @@ pub fn classical_blocks(channel: &[i64], result: &mut [i64]) -> Verdict
         return v;
     }
     let d = h.dim;
-    write_effects(channel, d, h.count, d, 1, result);
+    let rows = stride(d, !textbook);
+    let cols = stride(d, textbook);
+    write_effects(channel, d, h.count, rows, cols, result);
     v
+}
+
+// The transposed effect of each store's block, d² entries each, in the channel's own order: entry (r, c) sums block entry (o·d + r, o·d + c)
+// over o from 0 up. A refusal leaves the result as it was.
+pub fn classical_blocks(channel: &[i64], result: &mut [i64]) -> Verdict
+    ensures verdict { λ r. ⌜ r ≡ effectsVerdict (now (channel .entry)) (now (result .entry)) ⌝ }
+    ensures words { λ r. ⌜ now (result .exit) ≡ resultOf (now (channel .entry)) (now (result .entry)) ⌝ }
+{
+    effects_in(channel, false, result)
+}
+
+// The effect of each store's block as the textbook has it, the POVM element: entry (r, c) is entry (c, r) of the transposed effect.
+// All else is as in classical_blocks.
+pub fn povm_effects(channel: &[i64], result: &mut [i64]) -> Verdict
+    ensures verdict { λ r. ⌜ r ≡ effectsVerdict (now (channel .entry)) (now (result .entry)) ⌝ }
+    ensures words { λ r. ⌜ now (result .exit) ≡ povmOf (now (channel .entry)) (now (result .entry)) ⌝ }
+{
+    effects_in(channel, true, result)
 }

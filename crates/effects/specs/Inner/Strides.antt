@@ -1,9 +1,10 @@
 -- Where an entry that is written is read: entry (r, c) of the result is entry r · rows + c · cols of the transposed effect.
+use mathlib.Core.Bool.{Bool, cond}
 use mathlib.Core.List.{List}
 use Prim.Native.Nat.{ℕ, _+_, _*_, _/_, _%_, _<_}
 use lib.IntN.{ℤ}
 use Rattle.exact.specs.Exact.{Exact}
-use Rattle.effects.specs.Effects.{effectAt}
+use Rattle.effects.specs.Effects.{effectAt, povmAt}
 use Rattle.effects.specs.Inner.Readable.{Dim}
 
 -- for i = r · d + c
@@ -18,3 +19,7 @@ stridedAt rows cols l at d i = effectAt l at d (strided d rows cols i)
 pub record Strides (d rows cols : ℕ) : Type 0 where
   pub dim : Dim d
   pub below : (r c : ℕ) → r < d → c < d → r * rows + c * cols < d * d
+
+-- entry i in the form that is asked for, the textbook's or the transposed
+abbrev pub formAt : Bool → List ℤ → ℕ → ℕ → ℕ → Exact
+formAt textbook l at d i = cond textbook (povmAt l at d i) (effectAt l at d i)
