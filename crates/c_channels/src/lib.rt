@@ -11,7 +11,7 @@ ghost use mathlib.Core.Path.{_≡_};
 ghost use Rattle.verdict.specs.Verdict.{verdictNumber};
 ghost use Rattle.channel.specs.Compare.{compareOf};
 ghost use Rattle.channel.specs.Lookup.{lookupOf, spanOf};
-ghost use Rattle.effects.specs.Effects.{effectsVerdict, resultOf};
+ghost use Rattle.effects.specs.Effects.{effectsVerdict, resultOf, povmOf};
 ghost use Rattle.c_channels.specs.Channels.{findingNumber, placeWords, twoScalars};
 
 // The reply for what a comparison found.
@@ -68,12 +68,21 @@ pub fn compare(
     finding_number(f)
 }
 
-// The effects of a channel's blocks: the verdict's number.
+// The transposed effects of a channel's blocks: the verdict's number.
 pub fn classical_blocks(channel: &[i64], result: &mut [i64]) -> u32
     ensures { λ r. ⌜ r ≡ verdictNumber (effectsVerdict (now (channel .entry)) (now (result .entry))) ⌝ }
     ensures { λ _. ⌜ now (result .exit) ≡ resultOf (now (channel .entry)) (now (result .entry)) ⌝ }
 {
     let v = effects::classical_blocks(channel, result);
+    v.number()
+}
+
+// The effects of a channel's blocks as the textbook has them: the verdict's number.
+pub fn povm_effects(channel: &[i64], result: &mut [i64]) -> u32
+    ensures { λ r. ⌜ r ≡ verdictNumber (effectsVerdict (now (channel .entry)) (now (result .entry))) ⌝ }
+    ensures { λ _. ⌜ now (result .exit) ≡ povmOf (now (channel .entry)) (now (result .entry)) ⌝ }
+{
+    let v = effects::povm_effects(channel, result);
     v.number()
 }
 

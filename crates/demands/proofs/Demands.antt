@@ -50,7 +50,7 @@ module _ (n m : ℕ) (σ : List ℕ) (l : Limits) (ws : List ℕ) (r w : List �
   is-sound : Sound n m σ (gatesOf ws) (length r) (length w)
   is-sound = sound n m σ l ws r w e
 
-  result-is : resultAfter n m σ l ws r w ≡ overwritten (circuitWords n m σ (gatesOf ws)) r
+  pub result-is : resultAfter n m σ l ws r w ≡ overwritten (circuitWords n m σ (gatesOf ws)) r
   result-is = ap (λ (b : Bool). cond b (overwritten (circuitWords n m σ (gatesOf ws)) r) r) e
 
   delivers : Delivers n m σ l ws r w

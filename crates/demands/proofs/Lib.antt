@@ -3,9 +3,13 @@ pub mod Verdicts
 pub mod Reading
 pub mod Stores
 pub mod Positive
+pub mod Agreeing
+pub mod Along
+pub mod Effects
 pub mod Channels
 pub mod Entries
 pub mod Demands
+pub mod Probabilities
 pub mod Layers
 pub mod Schedules
 pub mod Texts

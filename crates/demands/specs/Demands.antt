@@ -16,7 +16,8 @@ use Rattle.exact.specs.Exact as scalar
 use Rattle.exact.specs.Exact.{Exact, exact, conj, narrow}
 use Rattle.gate.specs.Gate.{gate, gateSize, gatesOf, elem, share}
 use Rattle.kraus.specs.Branch.{Store, Branch, branches}
-use Rattle.kraus.specs.Blocks.{survivors, stores, block}
+use Rattle.kraus.specs.Blocks.{survivors, stores, block, povm}
+use Rattle.verdict.specs.Verdict.{accepted}
 use Rattle.verdict.specs.Questions.{Question, firstNo, decidedBy}
 use Rattle.circuit.specs.declared.limits.Limits.{Limits}
 use Rattle.channel.specs.declared.compare.Found.the-variants.{Same}
@@ -24,6 +25,7 @@ use Rattle.store.specs.Store.{bits}
 use Rattle.channel.specs.Layout.{Block, side, effectOf, dimAt, bitsAt, countAt, readBack}
 use Rattle.channel.specs.WellFormed.{wellFormed, hasZeroBlock}
 use Rattle.channel.specs.Compare.{plain, compareOf}
+use Rattle.effects.specs.Effects.{effectsVerdict, resultOf, povmOf}
 use Rattle.judge.specs.Delivered.{circuitWords}
 use Rattle.judge.specs.Call.{worked, asked, verdictOf, accepts, resultAfter, workAfter}
 
@@ -51,8 +53,15 @@ abbrev pub Demand1 : Type 0
 Demand1 = (n m : ℕ) (σ : List ℕ) (l : Limits) (ws : List ℕ) (r w : List ℤ) → Judges n m σ l ws r w
 
 -- ---- demand 2: the channel delivered is that of the definitions, whatever the result held
+-- e are words of effects of the channel l, as they are read back: its stores along the chain, and for each store τ the entry (r, c) that x τ r c is
+pub record AreEffects (n m : ℕ) (l e : List ℤ) (x : Store → ℕ → ℕ → Exact) : Type 0 where
+  pub dim : dimAt e ≡ 2 ^ n
+  pub bitCount : bitsAt e ≡ m
+  pub stores : map (λ (a : Block). a .store) (readBack e) ≡ map (λ (a : Block). a .store) (readBack l)
+  pub entries : All (λ (a : Block). (r c : ℕ) → r < 2 ^ n → c < 2 ^ n → a .entry (r * 2 ^ n + c) ≡ x (bits m (a .store)) r c) (readBack e)
+
 -- of the result of an accepted call; bs are the surviving branches. The stores along the chain are theirs, each with its block, which is Hermitian and not zero;
--- the effects add up to the identity
+-- the effects add up to the identity; what povm_effects leaves where it accepts is each store's Σ K†K, and what classical_blocks leaves its transpose
 pub record IsChannel (n m : ℕ) (bs : List Branch) (l : List ℤ) : Type 0 where
   pub formed : wellFormed l ≡ true
   pub full : hasZeroBlock l ≡ false
@@ -64,6 +73,8 @@ pub record IsChannel (n m : ℕ) (bs : List Branch) (l : List ℤ) : Type 0 wher
   pub entries : All (λ (a : Block). (i j : ℕ) → i < side (2 ^ n) → j < side (2 ^ n) → a .entry (i * side (2 ^ n) + j) ≡ block bs (bits m (a .store)) i j) (readBack l)
   pub hermitian : All (λ (a : Block). (i j : ℕ) → i < side (2 ^ n) → j < side (2 ^ n) → a .entry (i * side (2 ^ n) + j) ≡ conj (a .entry (j * side (2 ^ n) + i))) (readBack l)
   pub effects : (r c : ℕ) → r < 2 ^ n → c < 2 ^ n → foldl (λ (x : Exact) (a : Block). exact ._⊕_ x (effectOf (2 ^ n) (a .entry) r c)) (exact .𝟘) (readBack l) ≡ δ exact r c
+  pub textbook : (res : List ℤ) → accepted (effectsVerdict l res) ≡ true → AreEffects n m l (povmOf l res) (λ (τ : Store) (r c : ℕ). povm (2 ^ n) bs τ r c)
+  pub transposed : (res : List ℤ) → accepted (effectsVerdict l res) ≡ true → AreEffects n m l (resultOf l res) (λ (τ : Store) (r c : ℕ). povm (2 ^ n) bs τ c r)
 
 abbrev pub Demand2 : Type 0
 Demand2 = (n m : ℕ) (σ : List ℕ) (l : Limits) (ws : List ℕ) (r w : List ℤ) → accepts n m σ l ws r w ≡ true

@@ -15,7 +15,7 @@ use Rattle.channel.specs.Layout.{headerSize, recordSize, word, dimAt, countAt}
 use Rattle.channel.specs.WellFormed.{formVerdict}
 use Rattle.channel.specs.Inner.Shapes.{shapeAt, shapeOf, noShape, shapeBy}
 use Rattle.channel.proofs.Judging.{form-right, shape-verdict}
-use Rattle.effects.specs.Effects.{sumsFit, effectsVerdict}
+use Rattle.effects.specs.Effects.{effectsSize, sumsFit, effectsVerdict}
 use Rattle.effects.specs.Inner.Readable.{Linked, Records, Ready}
 use Rattle.effects.proofs.Records.{first-linked, records-of}
 
@@ -35,18 +35,14 @@ module _ (l : List ℤ) where
   by-shape true false s = refl
   by-shape false q s = shape-verdict l (shapeOf l) refl
 
--- the words that the result needs
-abbrev pub needed : List ℤ → ℕ
-needed l = headerSize + countAt l * recordSize (dimAt l)
-
 pub accepted-ready : (l res : List ℤ) → accepted (effectsVerdict l res) ≡ true → Ready l res (dimAt l) (countAt l)
 accepted-ready l res e =
-    let s = by-tests l (accepted (formVerdict l)) (leb (needed l) (length res)) (sumsFit l (dimAt l) (countAt l)) refl e in
+    let s = by-tests l (accepted (formVerdict l)) (leb (effectsSize l) (length res)) (sumsFit l (dimAt l) (countAt l)) refl e in
     record { form = form-right l (s .0); room = leb-true _ _ (s .1 .0); fit = s .1 .1; dim = refl; count = refl }
 
 module _ (l res : List ℤ) (h : Shape) (e : h ≡ shapeBy (effectsVerdict l res) l) where
   pub answer-verdict : h .verdict ≡ effectsVerdict l res
-  answer-verdict = ap (λ (g : Shape). g .verdict) e ∙ by-shape l (accepted (formVerdict l)) (leb (needed l) (length res)) (sumsFit l (dimAt l) (countAt l))
+  answer-verdict = ap (λ (g : Shape). g .verdict) e ∙ by-shape l (accepted (formVerdict l)) (leb (effectsSize l) (length res)) (sumsFit l (dimAt l) (countAt l))
 
   module _ (t : accepted (h .verdict) ≡ true) where
     pub accepts : accepted (effectsVerdict l res) ≡ true
@@ -72,5 +68,5 @@ module _ (l res : List ℤ) (d n : ℕ) (r : Ready l res d n) where
   pub ready-room : headerSize + n * recordSize d ≤ length res
   ready-room = subst (λ (k : ℕ). k ≤ length res) (sym size) (r .room)
     where
-      size : headerSize + n * recordSize d ≡ needed l
+      size : headerSize + n * recordSize d ≡ effectsSize l
       size = λ i. headerSize + r .count i * recordSize (r .dim i)

@@ -1,7 +1,7 @@
 -- What is read of the effects' words: the header, the head of each record and its entries; along their chain, the effects of the blocks along the channel's.
 use mathlib.Core.Path.{_≡_, refl, sym, ap, _∙_, subst}
 use mathlib.Core.Logic.{inl}
-use mathlib.Core.List.{List, [], _∷_}
+use mathlib.Core.List.{List, [], _∷_, map}
 use Prim.Native.Nat.{ℕ, zero, suc, _+_, _*_, _-_, _/_, _≤_, _<_}
 use native.Mathlib.Omega.{arith}
 use lib.Arith.{digits-div}
@@ -102,6 +102,12 @@ module _ (entry : List ℤ → ℕ → ℕ → ℕ → Exact) (l res : List ℤ)
 pub record EffectOf (form : ℕ → (ℕ → Exact) → ℕ → Exact) (d : ℕ) (a b : Block) : Type 0 where
   pub store : a .store ≡ b .store
   pub entries : (k : ℕ) → k < d * d → a .entry k ≡ form d (b .entry) k
+
+pub effect-stores : (form : ℕ → (ℕ → Exact) → ℕ → Exact) (d : ℕ) (xs ys : List Block) → Matched (EffectOf form d) xs ys → map (λ (b : Block). b .store) xs ≡ map (λ (b : Block). b .store) ys
+effect-stores form d [] [] h = refl
+effect-stores form d [] (y ∷ ys) h = absurd h
+effect-stores form d (x ∷ xs) [] h = absurd h
+effect-stores form d (x ∷ xs) (y ∷ ys) h = λ i. h .0 .store i ∷ effect-stores form d xs ys (h .1) i
 
 module _ (form : ℕ → (ℕ → Exact) → ℕ → Exact) (l res : List ℤ) (r : Ready l res (dimAt l) (countAt l)) where
   abbrev entry : List ℤ → ℕ → ℕ → ℕ → Exact

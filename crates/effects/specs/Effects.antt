@@ -41,6 +41,10 @@ abbrev pub sumsFit : List ℤ → ℕ → ℕ → Bool
 sumsFit l d n = allBelow n (λ (j : ℕ). recordFits l (recordAt (side d) j) d)
 
 -- ---- the words
+-- how many there are
+abbrev pub effectsSize : List ℤ → ℕ
+effectsSize l = headerSize + countAt l * recordSize (dimAt l)
+
 -- the index among the effects' records that matches an index z of the channel's chain
 abbrev pub relink : ℕ → ℤ → ℤ
 relink d (pos zero) = pos 0
@@ -71,7 +75,7 @@ module _ (entry : List ℤ → ℕ → ℕ → ℕ → Exact) where
 abbrev pub effectsVerdict : List ℤ → List ℤ → Verdict
 effectsVerdict l res =
     cond (accepted (formVerdict l))
-    (cond (leb (headerSize + countAt l * recordSize (dimAt l)) (length res)) (cond (sumsFit l (dimAt l) (countAt l)) Accepted TooLarge) ShortBuffer)
+    (cond (leb (effectsSize l) (length res)) (cond (sumsFit l (dimAt l) (countAt l)) Accepted TooLarge) ShortBuffer)
     (formVerdict l)
 
 abbrev pub resultOf : List ℤ → List ℤ → List ℤ

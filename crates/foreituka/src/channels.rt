@@ -1,10 +1,10 @@
-// compare, classical_blocks and lookup.
+// compare, classical_blocks, povm_effects and lookup.
 use cells::CELL;
 ghost use mathlib.Core.Path.{_≡_};
 ghost use Rattle.verdict.specs.Verdict.{verdictNumber};
 ghost use Rattle.channel.specs.Compare.{compareOf};
 ghost use Rattle.channel.specs.Lookup.{lookupOf, spanOf};
-ghost use Rattle.effects.specs.Effects.{effectsVerdict, resultOf};
+ghost use Rattle.effects.specs.Effects.{effectsVerdict, resultOf, povmOf};
 ghost use Rattle.c_channels.specs.Channels.{findingNumber, placeWords, twoScalars};
 
 // Compare two channels: what was found, the store, row and column of the first unequal entry in `place`, and its two scalars in `scalars`.
@@ -22,13 +22,22 @@ pub extern "C" fn foreituka_compare(
     c_channels::compare(left, right, place, scalars)
 }
 
-// The effects of a channel's blocks: the verdict's number.
+// The transposed effects of a channel's blocks: the verdict's number.
 #[no_mangle]
 pub extern "C" fn foreituka_classical_blocks(channel: &[i64], result: &mut [i64]) -> u32
     ensures { λ r. ⌜ r ≡ verdictNumber (effectsVerdict (now (channel .entry)) (now (result .entry))) ⌝ }
     ensures { λ _. ⌜ now (result .exit) ≡ resultOf (now (channel .entry)) (now (result .entry)) ⌝ }
 {
     c_channels::classical_blocks(channel, result)
+}
+
+// The effects of a channel's blocks as the textbook has them: the verdict's number.
+#[no_mangle]
+pub extern "C" fn foreituka_povm_effects(channel: &[i64], result: &mut [i64]) -> u32
+    ensures { λ r. ⌜ r ≡ verdictNumber (effectsVerdict (now (channel .entry)) (now (result .entry))) ⌝ }
+    ensures { λ _. ⌜ now (result .exit) ≡ povmOf (now (channel .entry)) (now (result .entry)) ⌝ }
+{
+    c_channels::povm_effects(channel, result)
 }
 
 // The index of the first entry of a store's block, or 0 where there is none.

@@ -11,7 +11,7 @@ use Rattle.algebra.proofs.Tests.{and-split, or-right}
 use Rattle.algebra.proofs.Semi.{Semi, zero-zero}
 use Rattle.algebra.proofs.Sum.{sum-same, sum-zero, listSum-all, listSum-same, sum-listSum, foldl-listSum, listSum-filter, listSum-swap}
 use Rattle.algebra.proofs.Perm.{Perm, gather, gather-of}
-use Rattle.algebra.proofs.Adjoint.{dot, δ-turn}
+use Rattle.algebra.proofs.Adjoint.{δ-turn}
 use Rattle.algebra.proofs.Quadratic.{ℤ√2i}
 use Rattle.algebra.proofs.Ring.{mul-zero}
 use Rattle.algebra.proofs.Dyadic.{low-zero}
@@ -22,10 +22,8 @@ use Rattle.gate.specs.Gate.{Gate}
 use Rattle.gate.specs.Operators.{sameBits}
 use Rattle.gate.specs.Inner.Entries.{valid}
 use Rattle.gate.proofs.Bits.{same-true, same-refl}
-use Rattle.gate.proofs.Complete.{conjugation}
-use Rattle.kraus.specs.Dense.{cell}
 use Rattle.kraus.specs.Branch.{Store, Branch, branches}
-use Rattle.kraus.specs.Blocks.{alive, survivors, having, overlap, block, stores}
+use Rattle.kraus.specs.Blocks.{alive, survivors, having, overlap, block, squared, povm, stores}
 use Rattle.kraus.proofs.Stores.{Distinct, stores-distinct, stores-some}
 use Rattle.kraus.proofs.Complete.{completeness}
 
@@ -102,9 +100,18 @@ module _ (d : ℕ) where
   one-branch : ℕ → ℕ → Branch → Exact
   one-branch r c b = sum exact d (λ (o : ℕ). overlap (o * d + r) (o * d + c) b)
 
-  turned : (r c : ℕ) (b : Branch) → one-branch r c b ≡ dot exacts conjugation d (cell exact d (b .matrix)) c r
+  turned : (r c : ℕ) (b : Branch) → one-branch r c b ≡ squared d c r b
   unfolding one-branch
   turned r c b = sum-same exacts d _ _ (λ o l. exacts .mul-comm (getD (b .matrix) (o * d + r) (exact .𝟘)) (conj (getD (b .matrix) (o * d + c) (exact .𝟘))))
+
+  -- a store's effect, summed over the outputs of its block, is its POVM element, transposed
+  pub effect-povm : (bs : List Branch) (τ : Store) (r c : ℕ) → effect bs τ r c ≡ povm d bs τ c r
+  unfolding one-branch
+  effect-povm bs τ r c =
+      sum-same exacts d _ _ (λ o h. foldl-listSum exacts (overlap (o * d + r) (o * d + c)) (filterBy (having τ) bs))
+      ∙ sum-listSum exacts d (λ (o : ℕ) (b : Branch). overlap (o * d + r) (o * d + c) b) (filterBy (having τ) bs)
+      ∙ listSum-same exacts _ _ (filterBy (having τ) bs) (turned r c)
+      ∙ sym (foldl-listSum exacts (squared d c r) (filterBy (having τ) bs))
 
 module _ (n m : ℕ) (σ : Store) (gs : List Gate) (ok : every (valid n m) gs ≡ true) where
   abbrev d : ℕ

@@ -12,7 +12,7 @@ use Rattle.verdict.specs.Verdict.{verdictNumber, verdictIndex}
 use Rattle.channel.specs.declared.compare.Difference.{Difference}
 use Rattle.channel.specs.declared.compare.Found.{Found}
 use Rattle.channel.specs.declared.compare.Found.the-variants.{Refused, Same, Dimensions, Entry}
-use Rattle.effects.specs.Effects.{effectsVerdict, resultOf}
+use Rattle.effects.specs.Effects.{effectsVerdict, resultOf, povmOf}
 use Rattle.replay.specs.declared.record.Record.{Record}
 use Rattle.replay.specs.Record.{withNumber, withNumbers, withScalar}
 use Rattle.replay.specs.Checksum.{checksumOf}
@@ -33,12 +33,15 @@ withPhase t r a = withNumber t (withNumber t r (verdictNumber (a .verdict))) (ph
 abbrev pub withCall : List ℕ → Record → Verdict → List ℤ → List ℤ → Record
 withCall t r v result work = withNumbers t r (verdictNumber v ∷ verdictIndex v ∷ checksumOf result ∷ checksumOf work ∷ [])
 
--- ---- classical_blocks: the verdict, the checksum of the result
+-- ---- classical_blocks and povm_effects: the verdict, the checksum of the result
 abbrev pub withEffects : List ℕ → Record → Verdict → List ℤ → Record
 withEffects t r v result = withNumber t (withNumber t r (verdictNumber v)) (checksumOf result)
 
 abbrev pub withBlocks : List ℕ → Record → List ℤ → List ℤ → Record
 withBlocks t r channel result = withEffects t r (effectsVerdict channel result) (resultOf channel result)
+
+abbrev pub withPovm : List ℕ → Record → List ℤ → List ℤ → Record
+withPovm t r channel result = withEffects t r (effectsVerdict channel result) (povmOf channel result)
 
 -- ---- compare: document 01's verdict; 0 same, 1 dimensions, 2 an entry; the store's two words, row and column of the entry
 abbrev pub findingNumbers : Found → List ℕ

@@ -51,7 +51,7 @@ pub fn check_call(seen: Record, text: &[u8], v: Verdict, result: &[i64], work: &
     seen.numbers(text, &numbers)
 }
 
-// The verdict of classical_blocks, and the checksum of what it left in the result.
+// The verdict of a call on effects, and the checksum of what it left in the result.
 pub fn check_effects(seen: Record, text: &[u8], v: Verdict, result: &[i64]) -> Record
     ensures { λ r. ⌜ r ≡ withEffects (now (text .entry)) seen v (now (result .entry)) ⌝ }
 {

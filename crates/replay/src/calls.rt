@@ -5,9 +5,10 @@ use crate::record::Record;
 use crate::words::mark;
 use channel::compare::compare;
 use effects::classical_blocks;
+use effects::povm_effects;
 ghost use mathlib.Core.Path.{_≡_};
 ghost use Rattle.channel.specs.Compare.{compareOf};
-ghost use Rattle.replay.specs.Answers.{withDifference, withBlocks};
+ghost use Rattle.replay.specs.Answers.{withDifference, withBlocks, withPovm};
 ghost use Rattle.replay.specs.Words.{marked};
 
 // compare of two channels.
@@ -24,5 +25,14 @@ pub fn effects_call(seen: Record, text: &[u8], channel: &[i64], result: &mut [i6
 {
     mark(result);
     let v = classical_blocks(channel, result);
+    check_effects(seen, text, v, result)
+}
+
+// povm_effects on a marked result.
+pub fn povm_call(seen: Record, text: &[u8], channel: &[i64], result: &mut [i64]) -> Record
+    ensures { λ r. ⌜ r ≡ withPovm (now (text .entry)) seen (now (channel .entry)) (marked (now (result .entry))) ⌝ }
+{
+    mark(result);
+    let v = povm_effects(channel, result);
     check_effects(seen, text, v, result)
 }

@@ -15,7 +15,7 @@ use Rattle.channel.specs.Lookup.{lookupOf, partOf}
 use Rattle.replay.specs.declared.record.Record.{Record}
 use Rattle.replay.specs.Numerals.{wordAt, wordNo}
 use Rattle.replay.specs.Record.{scalarAt, begun}
-use Rattle.replay.specs.Answers.{withAnswer, withPhase, withDifference, withBlocks, withPart}
+use Rattle.replay.specs.Answers.{withAnswer, withPhase, withDifference, withBlocks, withPovm, withPart}
 use Rattle.replay.specs.Words.{marked, placedAt, placedPart, numbersAt, numbersPart}
 use Rattle.replay_words.specs.Schedules.{scheduleCase}
 
@@ -61,10 +61,10 @@ phaseCase t at =
     let e = wordAt t (behind 5120 t (d .next)) in
     withPhase t (begun (behind 5120 t (e .next))) (phaseAnswer (d .size) (wordsAt 5120 t (d .next)) (e .size) (wordsAt 5120 t (e .next)))
 
--- ---- two channels, the effects of the left one in room for some words, and its block of a store
-abbrev pub withThree : List ℕ → Record → List ℤ → List ℤ → List ℕ → List ℤ → Record
-withThree t s left right store effects =
-    withPart t (withBlocks t (withDifference t s (compareOf left right)) left (marked effects)) (partOf left (lookupOf left store))
+-- ---- two channels, the effects of the left one in room for some words, transposed and as the textbook has them, and its block of a store
+abbrev pub withFour : List ℕ → Record → List ℤ → List ℤ → List ℕ → List ℤ → List ℤ → Record
+withFour t s left right store effects povm =
+    withPart t (withPovm t (withBlocks t (withDifference t s (compareOf left right)) left (marked effects)) left (marked povm)) (partOf left (lookupOf left store))
 
 abbrev pub wordsCase : List ℕ → ℕ → Record
 wordsCase t at =
@@ -72,7 +72,7 @@ wordsCase t at =
     let count = wordAt t (behind 1300 t right) in
     let part = numbersPart 256 t (count .next) (replicate 65 0) in
     let store = take (part .len) (numbersAt 256 t (count .next) (replicate 65 0) .words) in
-    withThree t (begun (part .next)) (wordsAt 1300 t at) (wordsAt 1300 t right) store (take (count .size) (room 100))
+    withFour t (begun (part .next)) (wordsAt 1300 t at) (wordsAt 1300 t right) store (take (count .size) (room 100)) (take (count .size) (room 100))
 
 -- ---- by the kind: 0 a scalar call, 1 the phase test, 10 a schedule, else channels
 abbrev pub caseOf : ℕ → List ℕ → ℕ → Record

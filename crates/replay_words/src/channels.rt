@@ -1,8 +1,9 @@
-// Cases of channels that are given by their words: compare, classical_blocks and the lookup.
+// Cases of channels that are given by their words: compare, classical_blocks, povm_effects and the lookup.
 use channel::lookup::lookup;
 use replay::answers::check_part;
 use replay::calls::compare_call;
 use replay::calls::effects_call;
+use replay::calls::povm_call;
 use replay::numeral::read;
 use replay::record::Record;
 use replay::words::fitting;
@@ -10,7 +11,7 @@ use replay::words::read_bytes;
 use replay::words::read_words;
 ghost use mathlib.Core.Path.{_≡_};
 ghost use Rattle.replay.specs.Record.{begun};
-ghost use Rattle.replay_words.specs.Cases.{withThree, wordsCase};
+ghost use Rattle.replay_words.specs.Cases.{withFour, wordsCase};
 
 // Room for the words of a channel, for those of its effects, and for a store.
 const CHANNEL: usize = 1300;
@@ -19,7 +20,7 @@ const EFFECTS: usize = 100;
 
 const STORE: usize = 65;
 
-// The three calls.
+// The four calls.
 fn called(
     text: &[u8],
     at: usize,
@@ -27,21 +28,24 @@ fn called(
     right: &[i64],
     store: &[u8],
     effects: &mut [i64],
+    povm: &mut [i64],
 ) -> Record
-    ensures { λ r. ⌜ r ≡ withThree (now (text .entry)) (begun at) (now (left .entry)) (now (right .entry)) (now (store .entry)) (now (effects .entry)) ⌝ }
+    ensures { λ r. ⌜ r ≡ withFour (now (text .entry)) (begun at) (now (left .entry)) (now (right .entry)) (now (store .entry)) (now (effects .entry)) (now (povm .entry)) ⌝ }
 {
     let compared = compare_call(Record::begin(at), text, left, right);
     let traced = effects_call(compared, text, left, effects);
-    check_part(traced, text, lookup(left, store))
+    let measured = povm_call(traced, text, left, povm);
+    check_part(measured, text, lookup(left, store))
 }
 
-// Left and right words, the length of the effects' buffer, the store to look for; the answers of the three calls.
+// Left and right words, the length of the effects' buffers, the store to look for; the answers of the four calls.
 pub fn words_case(text: &[u8], at: usize) -> Record
     ensures { λ r. ⌜ r ≡ wordsCase (now (text .entry)) at ⌝ }
 {
     let mut left = [0i64; CHANNEL];
     let mut right = [0i64; CHANNEL];
     let mut effects = [0i64; EFFECTS];
+    let mut povm = [0i64; EFFECTS];
     let mut store = [0u8; STORE];
     let l = read_words(text, at, &mut left);
     let r = read_words(text, l.next, &mut right);
@@ -58,5 +62,6 @@ pub fn words_case(text: &[u8], at: usize) -> Record
         &right[..n],
         &store[..s],
         &mut effects[..e],
+        &mut povm[..e],
     )
 }

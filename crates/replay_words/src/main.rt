@@ -1,4 +1,4 @@
-// Replays the recorded answers of calls that are given words: the scalar calls, the phase test, compare, classical_blocks and the lookup of channels, and
+// Replays the recorded answers of calls that are given words: the scalar calls, the phase test, compare, classical_blocks, povm_effects and the lookup of channels, and
 // judge_schedule.
 // The text: how many cases there are, then the cases; a case is its kind, its source (0 the Rust, 1 document 01), what the calls are given, and what they
 // answered.

@@ -17,10 +17,10 @@ use Rattle.channel.specs.Layout.{headerSize, recordSize, dimAt, countAt}
 use Rattle.channel.specs.WellFormed.{wellFormed, formVerdict}
 use Rattle.channel.specs.Inner.Shapes.{shapeAt, shapeBy}
 use Rattle.channel.proofs.Judging.{form-right, shape-test, shape-is}
-use Rattle.effects.specs.Effects.{sumsFit, effectsVerdict}
+use Rattle.effects.specs.Effects.{effectsSize, sumsFit, effectsVerdict}
 use Rattle.effects.specs.Inner.Readable.{Dim, Records}
 use Rattle.effects.proofs.Records.{shorter, dim-of, records-of}
-use Rattle.effects.proofs.Answers.{by, needed}
+use Rattle.effects.proofs.Answers.{by}
 use borrow.Author.Needs.{needs}
 use Rattle.effects.proofs.judge_effects.Statement.{statement}
 use Rattle.effects.proofs.judge_effects.Tie as tie
@@ -64,13 +64,13 @@ module _ (c : tie.After-record-size) where
   size : headerSize + shape (known (c .before)) .count * c .record-size .result ≡ headerSize + shape (known (c .before)) .count * recordSize (shape (known (c .before)) .dim)
   size = ap (λ (r : ℕ). headerSize + shape (known (c .before)) .count * r) (c .record-size .ensures)
 
-  need-is : headerSize + shape (known (c .before)) .count * c .record-size .result ≡ needed (words (known (c .before)))
+  need-is : headerSize + shape (known (c .before)) .count * c .record-size .result ≡ effectsSize (words (known (c .before)))
   need-is = size ∙ ap (λ (h : Shape). headerSize + h .count * recordSize (h .dim)) (is (c .before))
 
   inside : headerSize + shape (known (c .before)) .count * c .record-size .result ≤ length (words (known (c .before)))
   inside = subst (λ (n : ℕ). n ≤ length (words (known (c .before)))) (sym size) (le-trans (shorter (dim (c .before)) (shape (known (c .before)) .count)) (records (c .before) .inside))
 
-room : (c : tie.Else2) → leb (needed (words (known (c .before .before)))) (length (start (known (c .before .before)) .args .result .now)) ≡ true
+room : (c : tie.Else2) → leb (effectsSize (words (known (c .before .before)))) (length (start (known (c .before .before)) .args .result .now)) ≡ true
 room c = le-leb _ _ (subst (λ (n : ℕ). n ≤ length (start (known (c .before .before)) .args .result .now)) (need-is (c .before)) (c .if2 .left))
 
 sums : (c : tie.After-sums-fit) → (let l = words (known (c .before .before .before)) in c .sums-fit .result ≡ sumsFit l (dimAt l) (countAt l))
@@ -87,7 +87,7 @@ returns c =
     let k = c .before in
     let s = start k .args in
     answered (words k) (s .result .now) (shape k) (formVerdict (words k))
-    (ap (λ (p : Bool). by (words k) p (leb (needed (words k)) (length (s .result .now))) (sumsFit (words k) (dimAt (words k)) (countAt (words k)))) (sym (tested k) ∙ not-true _ (c .if1 .taken)))
+    (ap (λ (p : Bool). by (words k) p (leb (effectsSize (words k)) (length (s .result .now))) (sumsFit (words k) (dimAt (words k)) (countAt (words k)))) (sym (tested k) ∙ not-true _ (c .if1 .taken)))
     (k .before .judge .ensures)
 
 record-size-requires : tie.Need-record-size-requires
@@ -108,7 +108,7 @@ returns-2 c =
     let e = r .before in
     let k = known e in
     let s = start k .args in
-    let short : leb (needed (words k)) (length (s .result .now)) ≡ false = lt-leb _ _ (subst (λ (n : ℕ). length (s .result .now) < n) (need-is r) (c .before .if2 .taken)) in
+    let short : leb (effectsSize (words k)) (length (s .result .now)) ≡ false = lt-leb _ _ (subst (λ (n : ℕ). length (s .result .now) < n) (need-is r) (c .before .if2 .taken)) in
     answered (words k) (s .result .now) _ ShortBuffer (λ i. by (words k) (passed e i) (short i) (sumsFit (words k) (dimAt (words k)) (countAt (words k)))) (c .no-shape .ensures)
 
 sums-fit-requires : tie.Need-sums-fit-requires

@@ -8,7 +8,7 @@ use lib.IntN.{ℤ, pos, natAbs}
 use Rattle.cells.specs.Cells.{wellFormedAt}
 use Rattle.channel.specs.Layout.{headerSize, recordSize, recordAt, entryPlace, side, word, dimAt, countAt}
 use Rattle.channel.specs.WellFormed.{wellFormed}
-use Rattle.effects.specs.Effects.{sumsFit}
+use Rattle.effects.specs.Effects.{effectsSize, sumsFit}
 
 -- a dimension
 pub record Dim (d : ℕ) : Type 0 where
@@ -37,7 +37,7 @@ pub record Records (l : List ℤ) (d n : ℕ) : Type 0 where
 -- a channel of dimension d with n blocks, and a result, that the call accepts
 pub record Ready (l res : List ℤ) (d n : ℕ) : Type 0 where
   pub form : wellFormed l ≡ true
-  pub room : headerSize + countAt l * recordSize (dimAt l) ≤ length res
+  pub room : effectsSize l ≤ length res
   pub fit : sumsFit l (dimAt l) (countAt l) ≡ true
   pub dim : d ≡ dimAt l
   pub count : n ≡ countAt l

@@ -9,7 +9,7 @@ use Rattle.replay.specs.Numerals.{wordAt}
 use Rattle.replay.specs.Record.{begun}
 use Rattle.replay.specs.Words.{placedAt, placedPart, numbersAt, numbersPart}
 use Rattle.replay.proofs.Parts.{take-fitting}
-use Rattle.replay_words.specs.Cases.{room, withThree}
+use Rattle.replay_words.specs.Cases.{room, withFour}
 use Rattle.replay_words.proofs.channels.words_case.Statement.{statement}
 use Rattle.replay_words.proofs.channels.words_case.Tie as tie
 
@@ -32,7 +32,7 @@ returns c =
     let vb = bytes .read-bytes .ensures .1 .1 ∙ (λ i. numbersAt 256 t (n i .next) (replicate 65 0) .words) in
     let fits = f .fitting .ensures ∙ ap (min (count .read .result .size)) (sym (length-replicate {A = ℤ} 100 (pos 0))) in
     let effects = take-fitting (f .fitting .result) (count .read .result .size) (room 100) fits ∙ (λ i. take (n i .size) (room 100)) in
-    k .called .ensures ∙ (λ i. withThree t (begun (pb i .next)) (take (pl i .len) (vl i)) (take (pr i .len) (vr i)) (take (pb i .len) (vb i)) (effects i))
+    k .called .ensures ∙ (λ i. withFour t (begun (pb i .next)) (take (pl i .len) (vl i)) (take (pr i .len) (vr i)) (take (pb i .len) (vb i)) (effects i) (effects i))
 
 pub words-case-spec : {M : Type 1} → statement M
 words-case-spec =
