@@ -71,6 +71,7 @@ static void unitary(void) {
 }
 static void compare(void) { reply = foreituka_compare(left, WORDS(left), right, WORDS(right), place, scalars); }
 static void blocks(void) { reply = foreituka_classical_blocks(left, WORDS(left), effects, WORDS(effects)); }
+static void povm(void) { reply = foreituka_povm_effects(left, WORDS(left), effects, WORDS(effects)); }
 static void lookup(void) { reply = (uint32_t)foreituka_lookup(left, WORDS(left), store, bits); }
 static void phase(void) {
     size_t d = (size_t)1 << qubits;
@@ -182,7 +183,9 @@ static int exact(void) {
                     if (less) continue;
                     size_t effect_words = FOREITUKA_EFFECTS_WORDS(n, left[2]);
                     if (foreituka_classical_blocks(left, words, effects, effect_words) != FOREITUKA_ACCEPTED ||
-                        foreituka_classical_blocks(left, words, effects, effect_words - 1) != FOREITUKA_SHORT)
+                        foreituka_classical_blocks(left, words, effects, effect_words - 1) != FOREITUKA_SHORT ||
+                        foreituka_povm_effects(left, words, effects, effect_words) != FOREITUKA_ACCEPTED ||
+                        foreituka_povm_effects(left, words, effects, effect_words - 1) != FOREITUKA_SHORT)
                         return 1;
                 }
             }
@@ -191,7 +194,7 @@ static int exact(void) {
 }
 
 /* in the order of the table */
-enum { CHANNEL, LAYERED, SCHEDULE, UNITARY, COMPARE, BLOCKS, LOOKUP, PHASE, SCALARS, CALLS };
+enum { CHANNEL, LAYERED, SCHEDULE, UNITARY, COMPARE, BLOCKS, POVM, LOOKUP, PHASE, SCALARS, CALLS };
 
 int main(void) {
     if (exact()) return fprintf(stderr, "memory: a size of the header is not what the calls ask for; reply %u\n", reply), 1;
@@ -209,6 +212,7 @@ int main(void) {
             right[7 + 5 * ((size_t)1 << 4 * n) - 1] ^= 1; /* the last word of the first block: malformed or different */
             of[COMPARE] = most(of[COMPARE], used_by(compare));
             of[BLOCKS] = most(of[BLOCKS], used_by(blocks));
+            of[POVM] = most(of[POVM], used_by(povm));
             of[LOOKUP] = most(of[LOOKUP], used_by(lookup));
         }
     for (uint32_t n = 0; n <= FOREITUKA_MAX_QUBITS; n++) {
@@ -225,7 +229,7 @@ int main(void) {
     for (uint32_t i = 0; i < 1024; i++) gate(FOREITUKA_GATE_CCX, 3 * i, 3 * i + 1, 3 * i + 2);
     of[SCHEDULE] = used_by(schedule);
     if (reply != FOREITUKA_ACCEPTED) return fprintf(stderr, "memory: schedule refused %u\n", reply), 1;
-    static const char *names[CALLS] = {"circuit_channel", "layered_channel", "judge_schedule", "circuit_unitary", "compare", "classical_blocks", "lookup",
+    static const char *names[CALLS] = {"circuit_channel", "layered_channel", "judge_schedule", "circuit_unitary", "compare", "classical_blocks", "povm_effects", "lookup",
                                        "equivalent_up_to_global_phase", "scalar calls"};
     sizes();
     printf("\n| call | stack, bytes |\n|---|---|\n");

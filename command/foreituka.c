@@ -360,8 +360,8 @@ static void put_ket_bra(size_t dim, size_t a, size_t b)
     putchar('|');
 }
 
-/* Prints the records of a channel, or of its effects: a channel's entry (row, column), an effect's term |row⟩⟨column|. The effects of the
- * archive are transposed: here the two are exchanged again, so that the textbook's are printed, of which tr(E ρ) is the store's probability. */
+/* Prints the records of a channel, or of its effects: a channel's entry (row, column), an effect's term |row⟩⟨column|. The effects are the
+ * textbook's, of which tr(E ρ) is the store's probability. */
 static void put_records(const int64_t *channel, int is_effects, const char *name)
 {
     const size_t dim = (size_t)channel[0], side = is_effects ? dim : dim * dim;
@@ -382,7 +382,7 @@ static void put_records(const int64_t *channel, int is_effects, const char *name
         comma = "";
         for (size_t i = 0; i < side * side; i++) {
             size_t row = i / side, column = i % side;
-            const int64_t *x = channel + at + 3 + 5 * (is_effects ? column * side + row : i);
+            const int64_t *x = channel + at + 3 + 5 * i;
             if (!x[0] && !x[1] && !x[2] && !x[3]) continue;
             if (json) {
                 printf("%s\n{\"row\":%zu,\"column\":%zu,\"exact\":", comma, row, column);
@@ -437,7 +437,7 @@ static int one_circuit(const char *name, int is_effects)
         }
         return TROUBLE;
     }
-    if (is_effects && foreituka_classical_blocks(first, COUNT(first), effects, COUNT(effects)) != FOREITUKA_ACCEPTED) {
+    if (is_effects && foreituka_povm_effects(first, COUNT(first), effects, COUNT(effects)) != FOREITUKA_ACCEPTED) {
         fprintf(stderr, "foreituka: %s: its effects have a number that is too large\n", shown_name(name));
         return TROUBLE;
     }

@@ -58,6 +58,8 @@ calls! {
         foreituka_compare, plain_compare;
     classical_blocks(channel: *const i64, channel_words: usize, result: *mut i64, result_words: usize) -> u32,
         foreituka_classical_blocks, plain_classical_blocks;
+    povm_effects(channel: *const i64, channel_words: usize, result: *mut i64, result_words: usize) -> u32,
+        foreituka_povm_effects, plain_povm_effects;
     lookup(channel: *const i64, channel_words: usize, store: *const u8, store_bytes: usize) -> usize,
         foreituka_lookup, plain_lookup;
     equivalent_up_to_global_phase(left_dim: usize, left: *const i64, left_words: usize, right_dim: usize, right: *const i64,

@@ -67,7 +67,7 @@ pub enum Operation {
 /// An input. `more` and `less` are words lent beyond what is asked for, or fewer, as pairs for result and work.
 #[derive(Clone, Debug, PartialEq)]
 pub enum Case {
-    /// circuit_channel, then classical_blocks, lookup and compare with itself on what it left.
+    /// circuit_channel, then classical_blocks, povm_effects, lookup and compare with itself on what it left.
     Channel { words: Words, limits: [u64; 6], extra: (i64, i64) },
     Unitary { words: Words, limits: [u64; 6], extra: (i64, i64) },
     /// layered_channel and its verdict alone, beside circuit_channel on the gate list; then the same with the gates of each layer shuffled, by a seed, and compare of the two.
@@ -76,7 +76,7 @@ pub enum Case {
     Schedule { words: Words, new: Vec<u32>, table: Vec<u32> },
     /// The channels of two circuits, compared in both orders.
     Compare { left: Words, right: Words },
-    /// compare (both orders), classical_blocks and lookup on words of any kind: those of two circuits' channels with blocks set to zero and words set to values.
+    /// compare (both orders), classical_blocks, povm_effects and lookup on words of any kind: those of two circuits' channels with blocks set to zero and words set to values.
     Damaged { left: Words, right: Words, blanks: Vec<(bool, u64)>, sets: Vec<(bool, u64, i64)>, cut: u64, store: Vec<u8>, short: u64 },
     /// The phase test on the unitaries of two circuits, the right one times a scalar, with words set to values.
     Phase { left: Words, right: Words, scale: [i64; 5], sets: Vec<(bool, u64, i64)>, dims: (usize, usize), cut: u64 },
@@ -514,44 +514,60 @@ fn compare(left: &[i64], right: &[i64], rust: Result<(&Channel, &Channel), u32>,
     }
 }
 
-/// classical_blocks with `short` words too few, or enough.
+/// classical_blocks and povm_effects with `short` words too few, or enough. The Rust has the transposed effects: for povm_effects its rows and columns are exchanged.
 fn effects(words: &[i64], rust: Result<&Channel, u32>, short: usize, counts: &mut Counts) -> Fault {
     let count = words.get(2).map_or(0, |c| (*c).clamp(0, 64) as usize);
     let d = words.first().map_or(1, |d| (*d).clamp(0, 16) as usize);
     let need = 4 + count * (3 + 5 * d * d);
-    let mut replies = Vec::new();
-    for calls in [&ARCHIVE, &PLAIN] {
-        let mut rng = Rng(words.len() as u64);
-        let channel = Lent::holding(&mut rng, words);
-        let mut result = Lent::<i64>::noise(&mut rng, (need + 3).saturating_sub(if short > 0 { short + 3 } else { 0 }));
-        let verdict = unsafe { (calls.classical_blocks)(channel.ptr(), channel.len(), result.mut_ptr(), result.len()) };
-        if !(channel.kept() && result.edges_kept()) || (verdict != 0 && !result.kept()) {
-            return Err(format!("{}: classical_blocks changed other words than its result's", calls.name));
+    for (call, textbook) in [("classical_blocks", false), ("povm_effects", true)] {
+        let mut replies = Vec::new();
+        for calls in [&ARCHIVE, &PLAIN] {
+            let mut rng = Rng(words.len() as u64);
+            let channel = Lent::holding(&mut rng, words);
+            let mut result = Lent::<i64>::noise(&mut rng, (need + 3).saturating_sub(if short > 0 { short + 3 } else { 0 }));
+            let asked = if textbook { calls.povm_effects } else { calls.classical_blocks };
+            let verdict = unsafe { asked(channel.ptr(), channel.len(), result.mut_ptr(), result.len()) };
+            if !(channel.kept() && result.edges_kept()) || (verdict != 0 && !result.kept()) {
+                return Err(format!("{}: {call} changed other words than its result's", calls.name));
+            }
+            if verdict == 0 && (result.len() < need || result.words()[need..] != result.words_before()[need..]) {
+                return Err(format!("{}: {call} changed words behind the effects", calls.name));
+            }
+            replies.push((verdict, if verdict == 0 { result.words()[..need].to_vec() } else { Vec::new() }));
         }
-        if verdict == 0 && (result.len() < need || result.words()[need..] != result.words_before()[need..]) {
-            return Err(format!("{}: words behind the effects have changed", calls.name));
+        same(call, replies[0].0, replies[1].0, "plain C")?;
+        same_words(call, &replies[0].1, &replies[1].1, "plain C")?;
+        counts.add(call, rust.is_ok() && replies[0].0 == 0, replies[0].0);
+        let c = match rust {
+            Ok(c) if short == 0 && sums_fit(c) => c,
+            refused => {
+                let number = refused.map_or_else(|v| v, |_| if short > 0 { 8 } else { 9 });
+                same(call, replies[0].0, number, "the documents")?;
+                continue;
+            }
+        };
+        same(call, replies[0].0, 0, "the Rust")?;
+        let size = 3 + 5 * d.pow(4);
+        let order: Vec<u64> = (0..count).map(|j| store_at(words, 4 + j * size)).collect();
+        let blocks = c.classical_blocks();
+        let mut want = rust::layout(d, c.num_cbits, &order, blocks.iter()).ok_or("the Rust has other effects")?;
+        if textbook {
+            exchange(&mut want, d);
         }
-        replies.push((verdict, if verdict == 0 { result.words()[..need].to_vec() } else { Vec::new() }));
+        same_words(call, &replies[0].1, &want, "the Rust")?;
     }
-    same("classical_blocks", replies[0].0, replies[1].0, "plain C")?;
-    same_words("effects", &replies[0].1, &replies[1].1, "plain C")?;
-    counts.add("classical_blocks", rust.is_ok() && replies[0].0 == 0, replies[0].0);
-    let c = match rust {
-        Ok(c) => c,
-        Err(v) => return same("classical_blocks", replies[0].0, v, "the documents"),
-    };
-    if short > 0 {
-        return same("classical_blocks", replies[0].0, 8, "document 01");
+    Ok(())
+}
+
+/// Exchanges rows and columns in each record of effects of dimension d.
+fn exchange(effects: &mut [i64], d: usize) {
+    for record in effects[4..].chunks_exact_mut(3 + 5 * d * d) {
+        for (r, c) in (0..d).flat_map(|r| (0..r).map(move |c| (r, c))) {
+            for i in 0..5 {
+                record.swap(3 + 5 * (r * d + c) + i, 3 + 5 * (c * d + r) + i);
+            }
+        }
     }
-    if !sums_fit(c) {
-        return same("classical_blocks", replies[0].0, 9, "document 01");
-    }
-    same("classical_blocks", replies[0].0, 0, "the Rust")?;
-    let size = 3 + 5 * d.pow(4);
-    let order: Vec<u64> = (0..count).map(|j| store_at(words, 4 + j * size)).collect();
-    let blocks = c.classical_blocks();
-    let want = rust::layout(d, c.num_cbits, &order, blocks.iter()).ok_or("the Rust has other effects")?;
-    same_words("effects", &replies[0].1, &want, "the Rust")
 }
 
 /// Whether every partial sum of the Rust's effects is in range.

@@ -173,6 +173,10 @@ uint32_t foreituka_compare(const int64_t *left, size_t left_words, const int64_t
  * the layout of a channel with d² scalars in a record. Replies: 0, 8, 9, 10, 16; asked are 10, 16, 8, 9. */
 uint32_t foreituka_classical_blocks(const int64_t *channel, size_t channel_words, int64_t *result, size_t result_words);
 
+/* Each store's effect as the textbook has it, the POVM element E = Σ K†K: tr(E ρ) is the probability that a circuit leaves the store when it is given
+ * ρ. Entry (r, c) is entry (c, r) of the transposed effect; all else is as in classical_blocks. */
+uint32_t foreituka_povm_effects(const int64_t *channel, size_t channel_words, int64_t *result, size_t result_words);
+
 /* The index in `channel` of the first word of a store's block (d^4 scalars from there on). 0: a channel that is malformed or has a block of
  * zeros, a store of the wrong length or with a byte above 1, or no such block. */
 size_t foreituka_lookup(const int64_t *channel, size_t channel_words, const uint8_t *store, size_t store_bytes);

@@ -1,9 +1,10 @@
-"""Cases of compare, classical_blocks and the lookup on channels given by their words, sound and damaged.
+"""Cases of compare, classical_blocks, povm_effects and the lookup on channels given by their words, sound and damaged.
 
-A line: kind 5, source; the left and the right words, each as length, number of words that are not 0, place and value of these; the length of the effects' buffer; the
+A line: kind 5, source; the left and the right words, each as length, number of words that are not 0, place and value of these; the length of the effects' buffers; the
 store to look for, its length and bytes. Then the answers: compare's verdict, 0 same, 1 dimensions, 2 an entry, the store's two words, row, column, both
-scalars; the verdict of classical_blocks of the left and the checksum of its buffer (whose words hold their place mod 997, plus 1, before the call); length
-and checksum of the part that the lookup in the left hands back. Source 0: compare's answer and the effects are the Rust's; 1: document 01 refuses.
+scalars; the verdict of classical_blocks of the left and the checksum of its buffer (whose words hold their place mod 997, plus 1, before the call), the same of
+povm_effects; length and checksum of the part that the lookup in the left hands back. Source 0: compare's answer and the effects are the Rust's, for povm_effects
+with rows and columns exchanged; 1: document 01 refuses.
 """
 import random
 import sys
@@ -224,28 +225,30 @@ def main():
         refused = words_verdict(left)
         if refused:
             length = rng.choice([0, 4, 40])
-            effects = [length, refused, checksum(pattern(length))]
+            effects = [length, refused, *[checksum(pattern(length))] * 2]
         else:
             dim, bits, chain = read_channel(left)
             by_place = sorted(chain, key=lambda x: x[1])
             want = 4 + len(chain) * (3 + 5 * dim * dim)
             length = want + rng.choice([0, 0, 0, 2, -1])
-            after = []
+            after = turned = []
             if length < want:
                 number = 8
             elif not all(effects_fit(dim, block_at(left, dim, at)) for _, at in chain):
                 number = 9
             else:
                 number = 0
-                after = channel_words(dim, bits, [s for s, _ in by_place], blocks(effect)[2], dim)
-            effects = [length, number, checksum(after + pattern(length)[len(after):])]
+                order, transposed = [s for s, _ in by_place], blocks(effect)[2]
+                after = channel_words(dim, bits, order, transposed, dim)
+                turned = channel_words(dim, bits, order, {s: {(c, r): x for (r, c), x in e.items()} for s, e in transposed.items()}, dim)
+            effects = [length, number, *(checksum(w + pattern(length)[len(w):]) for w in (after, turned))]
         store, part = lookup(rng, left, wanted[j - CASES] if j >= CASES else None)
         verdicts[verdict, kind] = verdicts.get((verdict, kind), 0) + 1
         effect_verdicts[effects[1]] = effect_verdicts.get(effects[1], 0) + 1
         of_rust = ok and effects[1] == 0
-        lines.append(text([0 if of_rust else 1, *sparse(left), *sparse(right), effects[0], len(store), *store, verdict, kind, *place, *effects[1:], len(part), checksum(part)]))
+        lines.append(text([0 if of_rust else 1, *sparse(left), *sparse(right), effects[0], len(store), *store, verdict, kind, *place, effects[1], effects[2], effects[1], effects[3], len(part), checksum(part)]))
     print(len(lines), *(f"5 {line}" for line in lines), sep="\n")
-    print(f"seed {SEED}: {len(lines)} cases, compare {dict(sorted(verdicts.items()))}, classical_blocks {dict(sorted(effect_verdicts.items()))}", file=sys.stderr)
+    print(f"seed {SEED}: {len(lines)} cases, compare {dict(sorted(verdicts.items()))}, effects {dict(sorted(effect_verdicts.items()))}", file=sys.stderr)
 
 
 main()

@@ -82,8 +82,8 @@ pub fn povm_effects(channel: &[i64], result: &mut [i64]) -> u32
     ensures { λ r. ⌜ r ≡ verdictNumber (effectsVerdict (now (channel .entry)) (now (result .entry))) ⌝ }
     ensures { λ _. ⌜ now (result .exit) ≡ povmOf (now (channel .entry)) (now (result .entry)) ⌝ }
 {
-    let v = effects::povm_effects(channel, result);
-    v.number()
+    let answer = effects::povm_effects(channel, result);
+    answer.number()
 }
 
 // The index of the first entry of a store's block, or 0 where there is none.

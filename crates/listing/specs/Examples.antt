@@ -1,14 +1,19 @@
--- Document 01's examples that are marked P, with more at the edges, as rows of one list, and the claim that all of them hold. Scalar calls and verdicts are listed
--- where their definitions are; the others are texts, with the whole answer of the program.
+-- Document 01's examples that are marked P, with more at the edges and document 02's of effects, as rows of one list, and the claim that all of them hold. Scalar
+-- calls and verdicts are listed where their definitions are; the others are effects, and texts with the whole answer of the program.
 use mathlib.Core.Path.{_≡_}
-use mathlib.Core.Bool.{Bool, true}
+use mathlib.Core.Bool.{Bool, true, _&&_}
 use mathlib.Core.List.{List, [], _∷_, _++_, map}
-use Prim.Native.Nat.{ℕ}
+use Prim.Native.Nat.{ℕ, _+_, _*_}
 use lib.ListN.{replicate}
 use lib.IntN.{ℤ, pos}
 use Rattle.algebra.specs.Lists.{every}
+use Rattle.exact.specs.Exact.{Exact, exact, half, imaginary, equal}
 use Rattle.scalar.specs.Claims as scalars
+use Rattle.circuit.specs.Limits.{ceilings}
 use Rattle.circuit.specs.Claims as circuits
+use Rattle.channel.specs.Claims.{entryOf}
+use Rattle.effects.specs.Effects.{resultOf, povmOf}
+use Rattle.judge.specs.Call.{resultAfter}
 use Rattle.gate.specs.Operators.{sameBits}
 use Rattle.text.specs.Ascii.{ascii}
 use Rattle.listing.specs.Answer.{answerOf}
@@ -18,15 +23,22 @@ pub data Row : Type 0 where
   verdict : circuits.Row → Row
   -- a text and its answer
   listing : List ℕ → List ℕ → Row
+  -- a circuit of one qubit and one bit, a store, a row and a column: the entry that classical_blocks leaves of its channel's effect, and the one that povm_effects leaves
+  effect : List ℕ → ℕ → ℕ → ℕ → Exact → Exact → Row
 
 -- the buffers that the program lends
 abbrev pub words : ℕ → List ℤ
 words n = replicate n (pos 0)
 
+-- the channel that circuit_channel leaves of one qubit and one bit that starts as 0
+abbrev pub channelOf : List ℕ → List ℤ
+channelOf ws = resultAfter 1 1 (0 ∷ []) ceilings ws (words 200) (words 200)
+
 abbrev pub holds : Row → Bool
 holds (scalar r) = scalars.holds r
 holds (verdict r) = circuits.holds r
 holds (listing t a) = sameBits (answerOf t (words 5200) (words 2000)) a
+holds (effect ws s r c old new) = equal (entryOf (resultOf (channelOf ws) (words 100)) s (r * 2 + c)) old && equal (entryOf (povmOf (channelOf ws) (words 100)) s (r * 2 + c)) new
 
 abbrev pub listings : List Row
 listings =
@@ -41,8 +53,20 @@ listings =
     ++ ascii "store 1\n2 2 1 0 0 0 1\n2 3 -1 0 0 0 1\n3 2 -1 0 0 0 1\n3 3 1 0 0 0 1\n")
     ∷ []
 
+-- sdg, h, then measure
+abbrev pub inY : List ℕ
+inY = circuits.gates 1 4 0 0 ++ circuits.gates 1 0 0 0 ++ circuits.gates 1 12 0 0
+
+abbrev pub effects : List Row
+effects =
+    effect inY 0 0 1 (half imaginary) (exact .neg (half imaginary))
+    ∷ effect inY 0 1 0 (exact .neg (half imaginary)) (half imaginary)
+    ∷ effect inY 1 0 1 (exact .neg (half imaginary)) (half imaginary)
+    ∷ effect inY 1 0 0 (half (exact .𝟙)) (half (exact .𝟙))
+    ∷ []
+
 abbrev pub rows : List Row
-rows = map scalar scalars.rows ++ map verdict circuits.rows ++ listings
+rows = map scalar scalars.rows ++ map verdict circuits.rows ++ listings ++ effects
 
 abbrev pub Examples : Type 0
 Examples = every holds rows ≡ true
