@@ -4,10 +4,11 @@ use mathlib.Core.Bool.{Bool, true, false, not, cond, _&&_, _||_, true≢false}
 use mathlib.Core.List.{List, [], _∷_}
 use Prim.Native.Nat.{ℕ, zero, suc, _+_, _*_, _<_, _≤_}
 use native.Mathlib.Omega.{arith}
+use lib.Dec.{eqb}
 use lib.ListN.{length, getD}
 use lib.IntN.{ℤ, pos, natAbs, _+ℤ_}
 use borrow.Author.Tests.{eq-eqb}
-use Rattle.algebra.specs.Dyadic.{frac, low}
+use Rattle.algebra.specs.Dyadic.{low, power}
 use Rattle.algebra.specs.Lists.{All, every, some, total, filterBy}
 use Rattle.algebra.proofs.Tests.{or-right}
 use Rattle.algebra.proofs.Lists.{all-imp, all-both, all-turn, filter-all}
@@ -37,12 +38,14 @@ no-square (suc a) h = absurd (omega arith)
 form-zero : (z : Number) → form z ≤ 0 → z ≡ numbers .𝟘
 form-zero z h = zero-is z (λ i. ((none 0 i && none 1 i) && none 2 i) && none 3 i)
   where
-    none : (i : ℕ) → _
+    none : (i : ℕ) → eqb (size i z) 0 ≡ true
     none i = eq-eqb (size i z) 0 (no-square (size i z) (omega (arith, h, size-square i z)))
 
 -- the value over 2^e of a number is zero only where the number is
 low-no : (z : Number) (e : ℕ) → low numberHalves z e .num ≡ numbers .𝟘 → z ≡ numbers .𝟘
-low-no z e h = let (k, p, q) = lowest-is ℤ√2i exactHalving z e in p ∙ ℤ√2i .mul-comm _ _ ∙ ap (numbers ._⊗_ _) h ∙ mul-zero ℤ√2i _
+low-no z e h =
+    let (k, p, q) = lowest-is ℤ√2i exactHalving z e in
+    p ∙ ℤ√2i .mul-comm (low numberHalves z e .num) (power numbers k) ∙ ap (λ (y : Number). numbers ._⊗_ (power numbers k) y) h ∙ mul-zero ℤ√2i (power numbers k)
 
 -- ---- a diagonal entry of a block: x b is the entry of the branch b
 module _ (E : ℕ) (x : Branch → Exact) where
@@ -73,7 +76,9 @@ module _ (E : ℕ) (x : Branch → Exact) where
           (ap (λ (y : Exact). y .num) (sym (block-value ℤ√2i exactHalving conjugation measure E x x xs fits fits)) ∙ zero-is _ e)
 
       none : total (λ (b : Branch). form (at b)) xs ≡ 0
-      none = ap natAbs (sym (gather-form xs (numbers .𝟘) 0 refl) ∙ ap (λ (z : Number). z .re .re) whole)
+      none =
+          let e : 0 + total (λ (b : Branch). form (at b)) xs ≡ 0 = ap natAbs (sym (gather-form xs (numbers .𝟘) 0 refl) ∙ ap (λ (z : Number). z .re .re) whole) in
+          omega arith
 
       one : (b : Branch) → Fit E (x b) → form (at b) ≤ total (λ (b : Branch). form (at b)) xs → isZero (x b .num) ≡ true
       one b f h =
