@@ -42,13 +42,16 @@ abbrev pub roomFor : Sizes → ℕ → ℕ → Bool
 roomFor s result work = leb (resultWords (s .stores) (s .rows)) result && leb (workWords (s .branches) (s .rows)) work
 
 -- ---- circuit_channel: n qubits, m classical bits, the initial store σ, the limits l, the gates' words ws, the lengths of the buffers
--- of the words
-abbrev pub wordQuestions : ℕ → ℕ → Limits → List ℕ → List Question
-wordQuestions n m l ws =
+-- of the limits and of the list's length
+abbrev pub lengthQuestions : Limits → List ℕ → List Question
+lengthQuestions l ws =
     question 1 (matrixCeilings l && branchCeilings l) OverCeiling
     ∷ question 2 (eqb (length ws % gateSize) 0) (MalformedAt 0)
-    ∷ question 3 (leb (length ws / gateSize) (l .«max_operations»)) OverLimit
-    ∷ gatesQuestions (Channel m) n 0 (gatesOf ws)
+    ∷ question 3 (leb (length ws / gateSize) (l .«max_operations»)) OverLimit ∷ []
+
+-- of the words
+abbrev pub wordQuestions : ℕ → ℕ → Limits → List ℕ → List Question
+wordQuestions n m l ws = lengthQuestions l ws ++ gatesQuestions (Channel m) n 0 (gatesOf ws)
 
 -- of the store, the footprint f and numbers
 abbrev pub numberQuestions : Footprint → ℕ → ℕ → List ℕ → Limits → ℕ → ℕ → List Question

@@ -28,7 +28,7 @@ ghost use Rattle.circuit.specs.Inner.Small.{maxRows};
 const MAX_WEIGHT: u64 = 56;
 
 // Questions 1 to 6.
-fn judge_words(n: u32, bits: u32, l: Limits, words: &[u32]) -> Verdict
+pub fn judge_words(n: u32, bits: u32, l: Limits, words: &[u32]) -> Verdict
     ensures { λ r. ⌜ r ≡ firstNo (wordQuestions n bits l (now (words .entry))) ⌝ }
 {
     let matrix = l.are_matrix_limits_low();

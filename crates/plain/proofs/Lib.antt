@@ -1,3 +1,5 @@
 pub mod Sides
 pub mod Values
 pub mod Entries
+pub mod Asked
+pub mod Claims
