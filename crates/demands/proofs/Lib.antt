@@ -13,3 +13,4 @@ pub mod Probabilities
 pub mod Layers
 pub mod Schedules
 pub mod Texts
+pub mod Plain
