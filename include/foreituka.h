@@ -57,6 +57,7 @@ enum {
                                        whose kind has no name; its index is given */
     FOREITUKA_SCHEDULE = 15,        /* a list and its table are no schedule of another list; the first position at fault is given, 0 where lengths differ */
     FOREITUKA_ZERO_BLOCK = 16,      /* a well-formed channel with a block that has no entry but zeros */
+    FOREITUKA_PLAIN = 23,           /* a gate outside the plain-gate profile; its index is given */
     FOREITUKA_SAME = 100,           /* compare, judge_texts: no entry differs */
     FOREITUKA_DIMENSIONS = 101,     /* compare, judge_texts: dimensions or bit counts differ */
     FOREITUKA_ENTRY = 102,          /* compare, judge_texts: an entry differs; place or numbers, and scalars, say which */
@@ -149,6 +150,17 @@ uint32_t foreituka_layered_channel(uint32_t qubits, uint32_t bits, const uint8_t
 uint32_t foreituka_layered_verdict(uint32_t qubits, uint32_t bits, const uint8_t *store, size_t store_bytes, const uint32_t *gates,
                                    size_t gate_words, const uint32_t *ends, size_t end_count, const uint64_t limits[6], size_t result_words,
                                    size_t work_words, uint64_t *index);
+
+/* The channel of a circuit of the plain-gate profile: h, x, y, z, s, sdg, sx, cnot, cz, cy, swap, measure, reset, and rz with k 0, 2, 4 or 6. It is
+ * left in both buffers as circuit_channel leaves it, and no entry of it has a √2 part: n1 and n3 are 0. A gate outside the profile is refused (23)
+ * right after its own questions (5, 3, 2); all other questions are those of circuit_channel. Replies: 0 to 8, 23. */
+uint32_t foreituka_plain_channel(uint32_t qubits, uint32_t bits, const uint8_t *store, size_t store_bytes, const uint32_t *gates,
+                                 size_t gate_words, const uint64_t limits[6], int64_t *result, size_t result_words, int64_t *work,
+                                 size_t work_words, uint64_t *index);
+
+/* The reply and index of the call above, from the lengths of its buffers alone: nothing is run, and no buffer is lent. */
+uint32_t foreituka_plain_verdict(uint32_t qubits, uint32_t bits, const uint8_t *store, size_t store_bytes, const uint32_t *gates,
+                                 size_t gate_words, const uint64_t limits[6], size_t result_words, size_t work_words, uint64_t *index);
 
 /* Whether a reordered gate list is a schedule of another: table has for each new gate its old position. Accepted exactly when both lists are well
  * formed and placed on the qubits and bits (5, 3, the old list first; unsupported gates pass), the table is a permutation, the gates match, and

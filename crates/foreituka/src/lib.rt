@@ -3,6 +3,7 @@ pub mod answering;
 pub mod channels;
 pub mod circuits;
 pub mod matrices;
+pub mod profile;
 pub mod scalars;
 pub mod schedules;
 pub mod texts;
