@@ -48,6 +48,12 @@ calls! {
     layered_verdict(qubits: u32, bits: u32, store: *const u8, store_bytes: usize, gates: *const u32, gate_words: usize, ends: *const u32,
         end_count: usize, limits: *const u64, result_words: usize, work_words: usize, index: *mut u64) -> u32,
         foreituka_layered_verdict, plain_layered_verdict;
+    plain_channel(qubits: u32, bits: u32, store: *const u8, store_bytes: usize, gates: *const u32, gate_words: usize,
+        limits: *const u64, result: *mut i64, result_words: usize, work: *mut i64, work_words: usize, index: *mut u64) -> u32,
+        foreituka_plain_channel, plain_plain_channel;
+    plain_verdict(qubits: u32, bits: u32, store: *const u8, store_bytes: usize, gates: *const u32, gate_words: usize,
+        limits: *const u64, result_words: usize, work_words: usize, index: *mut u64) -> u32,
+        foreituka_plain_verdict, plain_plain_verdict;
     judge_schedule(qubits: u32, bits: u32, old: *const u32, old_words: usize, new: *const u32, new_words: usize, table: *const u32,
         entries: usize, index: *mut u64) -> u32,
         foreituka_judge_schedule, plain_judge_schedule;

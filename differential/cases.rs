@@ -579,6 +579,54 @@ fn layers(i: u64, rng: &mut Rng) -> Case {
     Case::Layers { words, ends, limits, extra, shuffle: rng.next() }
 }
 
+// ---- the plain-gate profile
+
+/// A gate of the profile in place of one that is none, on the same qubits; none for a gate on three.
+fn admitted(g: &[u32]) -> Option<[u32; 5]> {
+    let mut out: [u32; 5] = g.try_into().unwrap();
+    match g[0] {
+        5 | 6 => out[0] -= 2,
+        25 => out[0] = 20,
+        7 => out[4] -= out[4] % 2,
+        10 | 11 | 26 => return None,
+        _ => (),
+    }
+    Some(out)
+}
+
+fn profiles(i: u64, rng: &mut Rng) -> Case {
+    // every gate on one and on two qubits by itself
+    let (one, two) = (one_qubit_gates(), two_qubit_gates());
+    if let Some(g) = one.iter().map(|g| (1, g)).chain(two.iter().map(|g| (2, g))).nth(i as usize) {
+        let words = Words { qubits: g.0, bits: 2, store: vec![0, 1], gates: g.1.to_vec() };
+        return Case::Plain { words, limits: CEILINGS, extra: (0, 0) };
+    }
+    let n = *rng.pick(&[0, 1, 1, 1, 2, 2, 2, 3]);
+    let bits = some_bits(rng);
+    let mut words = circuit(rng, n, bits, if n == 3 { 7 } else { 12 }, 3);
+    // all gates in the profile, or all but one, or any
+    let spared = rng.below(words.gates.len() as u64 / 5 + 1) as usize;
+    let mode = rng.below(4);
+    if mode > 0 {
+        let kept = |(i, g): (usize, &[u32])| if mode == 1 && i == spared { Some(g.try_into().unwrap()) } else { admitted(g) };
+        let gates: Vec<[u32; 5]> = words.gates.chunks_exact(5).enumerate().filter_map(kept).collect();
+        words.gates = gates.concat();
+    }
+    if n > 0 && rng.one_in(40) {
+        words.gates.extend((0..=MAX_WEIGHT).flat_map(|_| [H, 0, 0, 0, 0]));
+    }
+    if rng.one_in(5) {
+        spoil(rng, &mut words);
+    }
+    let mut limits = CEILINGS;
+    if rng.one_in(10) {
+        let k = rng.below(6) as usize;
+        limits[k] = *rng.pick(&[0, 1, 2, 3, 4, CEILINGS[k] + 1, u64::MAX]);
+    }
+    let extra = if rng.one_in(4) { extra(rng) } else { (0, 0) };
+    Case::Plain { words, limits, extra }
+}
+
 // ---- schedules
 
 /// A schedule at random: of the gates whose forerunners are all placed, one after another.
@@ -784,6 +832,7 @@ pub fn sets() -> Vec<Set> {
         Set { name: "short", about: "short buffers", count: 3000, quick: 200, case: short_buffers },
         Set { name: "compare", about: "pairs of circuits, both orders", count: 12000, quick: 300, case: comparison },
         Set { name: "layers", about: "layered circuits, in order and shuffled", count: 20000, quick: 500, case: layers },
+        Set { name: "plain", about: "the plain-gate profile, its circuits and others", count: 20000, quick: 500, case: profiles },
         Set { name: "schedules", about: "schedules, sound and spoilt", count: 20000, quick: 500, case: schedules },
         Set { name: "damaged", about: "channels with words damaged and blocks of zeros", count: 20000, quick: 600, case: damaged },
         Set { name: "phases", about: "phase tests, both orders", count: 8000, quick: 300, case: phases },

@@ -72,6 +72,8 @@ pub enum Case {
     Unitary { words: Words, limits: [u64; 6], extra: (i64, i64) },
     /// layered_channel and its verdict alone, beside circuit_channel on the gate list; then the same with the gates of each layer shuffled, by a seed, and compare of the two.
     Layers { words: Words, ends: Vec<u32>, limits: [u64; 6], extra: (i64, i64), shuffle: u64 },
+    /// plain_channel and its verdict alone, beside circuit_channel.
+    Plain { words: Words, limits: [u64; 6], extra: (i64, i64) },
     /// judge_schedule; of a schedule that it accepts, both channels and their comparison in both orders.
     Schedule { words: Words, new: Vec<u32>, table: Vec<u32> },
     /// The channels of two circuits, compared in both orders.
@@ -168,6 +170,7 @@ fn need(w: &Words, unitary: bool) -> (usize, usize) {
 enum Ask<'a> {
     Channel,
     Layered(&'a [u32]),
+    Plain,
     Unitary,
 }
 
@@ -189,16 +192,22 @@ fn circuit_call(calls: &Calls, ask: Ask, w: &Words, limits: &[u64; 6], extra: (i
                 work.mut_ptr(), work.len(), index.mut_ptr()),
             Ask::Layered(_) => (calls.layered_channel)(w.qubits, w.bits, store.ptr(), store.len(), gates.ptr(), gates.len(), ends.ptr(), ends.len(),
                 lent_limits.ptr(), result.mut_ptr(), result.len(), work.mut_ptr(), work.len(), index.mut_ptr()),
+            Ask::Plain => (calls.plain_channel)(w.qubits, w.bits, store.ptr(), store.len(), gates.ptr(), gates.len(), lent_limits.ptr(),
+                result.mut_ptr(), result.len(), work.mut_ptr(), work.len(), index.mut_ptr()),
             Ask::Channel => (calls.circuit_channel)(w.qubits, w.bits, store.ptr(), store.len(), gates.ptr(), gates.len(), lent_limits.ptr(),
                 result.mut_ptr(), result.len(), work.mut_ptr(), work.len(), index.mut_ptr()),
         }
     };
-    if let Ask::Layered(_) = ask {
+    if matches!(ask, Ask::Layered(_) | Ask::Plain) {
         // the verdict alone, of buffers of these lengths
         let mut alone = Lent::<u64>::noise(&mut rng, 1);
         let number = unsafe {
-            (calls.layered_verdict)(w.qubits, w.bits, store.ptr(), store.len(), gates.ptr(), gates.len(), ends.ptr(), ends.len(), lent_limits.ptr(),
-                result_words, work_words, alone.mut_ptr())
+            match ask {
+                Ask::Plain => (calls.plain_verdict)(w.qubits, w.bits, store.ptr(), store.len(), gates.ptr(), gates.len(), lent_limits.ptr(), result_words,
+                    work_words, alone.mut_ptr()),
+                _ => (calls.layered_verdict)(w.qubits, w.bits, store.ptr(), store.len(), gates.ptr(), gates.len(), ends.ptr(), ends.len(),
+                    lent_limits.ptr(), result_words, work_words, alone.mut_ptr()),
+            }
         };
         if (number, alone.words()[0]) != (verdict, index.words()[0]) || !alone.edges_kept() {
             return Err(format!("{}: replies {verdict} at {}, and the verdict alone is {number} at {}", calls.name, index.words()[0], alone.words()[0]));
@@ -314,8 +323,13 @@ fn unitary(w: &Words, limits: &[u64; 6], extra: (i64, i64), counts: &mut Counts)
 
 // ---- layers
 
-/// Number and index of the first of questions 1 to 6 that is answered by no.
-fn words_due(w: &Words, limits: &[u64; 6]) -> Option<(u32, u64)> {
+/// The gates of the plain-gate profile, by their kinds, and the turns of rz.
+pub fn in_profile(g: &[u32]) -> bool {
+    matches!((g[0], g[4]), (0..=4 | 8 | 9 | 12 | 13 | 15 | 16 | 19 | 20, _) | (7, 0 | 2 | 4 | 6))
+}
+
+/// Number and index of the first of questions 1 to 6, and 23 where a profile is asked for, that is answered by no.
+fn words_due(w: &Words, limits: &[u64; 6], profile: bool) -> Option<(u32, u64)> {
     if limits.iter().zip(&CEILINGS).any(|(l, c)| l > c) {
         Some((6, 0))
     } else if w.gates.len() % 5 != 0 {
@@ -324,7 +338,10 @@ fn words_due(w: &Words, limits: &[u64; 6]) -> Option<(u32, u64)> {
         Some((1, 0))
     } else {
         let able = |g: &[u32]| !matches!(g[0], 14 | 17 | 18 | 21..=24) && !(g[0] == 7 && g[4] == 8);
-        w.gates.chunks_exact(5).zip(0..).find_map(|(g, i)| placing_due(g, w).or((!able(g)).then_some(2)).map(|v| (v, i)))
+        w.gates.chunks_exact(5).zip(0..).find_map(|(g, i)| {
+            let outside = profile && !in_profile(g);
+            placing_due(g, w).or((!able(g)).then_some(2)).or(outside.then_some(23)).map(|v| (v, i))
+        })
     }
 }
 
@@ -371,7 +388,7 @@ fn layers_due(gates: &[u32], ends: &[u32]) -> Option<(u32, u64)> {
 fn layered(w: &Words, ends: &[u32], limits: &[u64; 6], extra: (i64, i64), counts: &mut Counts) -> Result<(Reply, Option<Channel>), String> {
     let (list, c) = channel_reply(w, limits, extra, counts)?;
     let got = both(Ask::Layered(ends), w, limits, extra)?;
-    let words = words_due(w, limits);
+    let words = words_due(w, limits, false);
     if let Some(due) = words {
         same("circuit_channel", (list.verdict, list.index), due, "document 01")?;
     }
@@ -412,6 +429,28 @@ fn layers(w: &Words, ends: &[u32], limits: &[u64; 6], extra: (i64, i64), shuffle
     }
     let (Some(a), Some(b)) = (a, b) else { return Err("accepted, where the Rust has no channel".into()) };
     same_channel("compare of shuffled layers", (&x, &a), (&y, &b), counts)
+}
+
+// ---- the plain-gate profile
+
+/// The archive's reply to plain_channel: the first refusal that is due, or circuit_channel's, with its words, which have no √2 part.
+fn profile(w: &Words, limits: &[u64; 6], extra: (i64, i64), counts: &mut Counts) -> Fault {
+    let (list, _) = channel_reply(w, limits, extra, counts)?;
+    let got = both(Ask::Plain, w, limits, extra)?;
+    let due = words_due(w, limits, true).unwrap_or((list.verdict, list.index));
+    let rust = channel_askable(w, limits) && got.verdict <= 4;
+    counts.add("plain_channel", rust, got.verdict);
+    counts.add("plain_verdict", rust, got.verdict);
+    same("plain_channel", (got.verdict, got.index), due, "the rules of the profile")?;
+    if got.verdict == 0 {
+        same_words("plain channel", &got.result, &list.result, "circuit_channel")?;
+        let size = 3 + 5 * (1usize << (4 * w.qubits));
+        let entries = || got.result[4..].chunks_exact(size).flat_map(|record| record[3..].chunks_exact(5));
+        if entries().any(|e| e[1] != 0 || e[3] != 0) {
+            return Err("plain_channel: an entry has a √2 part".into());
+        }
+    }
+    Ok(())
 }
 
 /// Two channels are the same, whichever is on the left.
@@ -789,6 +828,7 @@ pub fn check(case: &Case, counts: &mut Counts) -> Fault {
         }
         Case::Unitary { words, limits, extra } => unitary(words, limits, *extra, counts),
         Case::Layers { words, ends, limits, extra, shuffle } => layers(words, ends, limits, *extra, *shuffle, counts),
+        Case::Plain { words, limits, extra } => profile(words, limits, *extra, counts),
         Case::Schedule { words, new, table } => schedule(words, new, table, counts),
         Case::Compare { left, right } => {
             let (x, y) = (channel(left, &CEILINGS, (0, 0), counts)?, channel(right, &CEILINGS, (0, 0), counts)?);
@@ -908,6 +948,7 @@ fn smaller(case: &Case) -> Vec<Case> {
     match case {
         Case::Channel { words, limits, extra } => smaller_call(words, *limits, *extra, |words, limits, extra| Case::Channel { words, limits, extra }),
         Case::Unitary { words, limits, extra } => smaller_call(words, *limits, *extra, |words, limits, extra| Case::Unitary { words, limits, extra }),
+        Case::Plain { words, limits, extra } => smaller_call(words, *limits, *extra, |words, limits, extra| Case::Plain { words, limits, extra }),
         Case::Layers { words, ends, limits, extra, shuffle } => {
             let with = |words: Words, ends: Vec<u32>| Case::Layers { words, ends, limits: *limits, extra: *extra, shuffle: *shuffle };
             let mut out: Vec<Case> = smaller_words(words).into_iter().map(|w| with(w, ends.clone())).collect();

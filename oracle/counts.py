@@ -31,6 +31,7 @@ RECORD = {
     4: lambda given: circuit(circuit(given)),
     5: lambda given: counted(words(words(given))[1:]),
     7: lambda given: counted(circuit(given[3:])),
+    23: lambda given: circuit(given[3:]),
     10: lambda given: counted(counted(counted(given[2:]))),
 }
 LISTING, READ, WRITTEN = 6, 8, 9

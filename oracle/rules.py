@@ -99,11 +99,20 @@ def unsupported(g, unitary=False):
     return g[0] in UNSUPPORTED or (g[0] == RZ and g[4] == 8) or (unitary and g[0] in (MEASURE, RESET))
 
 
+# the plain-gate profile, as document 02 lists it; rz by its k
+PROFILE = {X, Y, Z, H, S, SDG, SX, CNOT, CZ, CY, SWAP, MEASURE, RESET}
+
+
+def outside(g):
+    """Question 23."""
+    return g[0] not in PROFILE and (g[0] != RZ or g[4] not in (0, 2, 4, 6))
+
+
 def gates(words):
     return [tuple(words[i:i + 5]) for i in range(0, len(words) - len(words) % 5, 5)]
 
 
-def gate_faults(gs, n, bits, unitary):
+def gate_faults(gs, n, bits, unitary, plain=False):
     for i, g in enumerate(gs):
         if malformed(g):
             return (5, i)
@@ -111,6 +120,8 @@ def gate_faults(gs, n, bits, unitary):
             return (3, i)
         if unsupported(g, unitary):
             return (2, i)
+        if plain and outside(g):
+            return (23, i)
     return None
 
 
@@ -179,8 +190,8 @@ def schedule_verdict(n, bits, old, new, table):
     return (0, 0)
 
 
-def channel_verdict(limits, n, bits, store, words, result, work, ends=None):
-    """circuit_channel's ten questions, and with `ends` layered_channel's: (number, index)."""
+def channel_verdict(limits, n, bits, store, words, result, work, ends=None, plain=False):
+    """circuit_channel's ten questions, with `ends` layered_channel's, and those of plain_channel: (number, index)."""
     if any(a > b for a, b in zip(limits, CEILINGS)):
         return (6, 0)
     if len(words) % 5:
@@ -188,7 +199,7 @@ def channel_verdict(limits, n, bits, store, words, result, work, ends=None):
     gs = gates(words)
     if len(gs) > limits[3]:
         return (1, 0)
-    if fault := gate_faults(gs, n, bits, False) or (layer_faults(gs, ends) if ends is not None else None):
+    if fault := gate_faults(gs, n, bits, False, plain) or (layer_faults(gs, ends) if ends is not None else None):
         return fault
     if len(store) != bits or any(b > 1 for b in store):
         return (4, 0)

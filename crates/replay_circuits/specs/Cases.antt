@@ -10,6 +10,7 @@ use Rattle.channel.specs.Compare.{compareOf}
 use Rattle.unitary.specs.Unitary as unitary
 use Rattle.judge.specs.Call.{verdictOf, resultAfter, workAfter}
 use Rattle.judge.specs.Layered.{layeredVerdictOf, layeredResult, layeredWork}
+use Rattle.plain.specs.Call.{plainVerdictOf, plainResult, plainWork}
 use Rattle.text.specs.Page.{Page, page, write}
 use Rattle.listing.specs.Answer.{answerOf}
 use Rattle.replay.specs.declared.record.Record.{Record}
@@ -24,22 +25,28 @@ use Rattle.replay_circuits.specs.Given.{layered, endsPart, endsRead, noE
 abbrev pub room : ℕ → List ℤ
 room n = replicate n (pos 0)
 
--- ---- one circuit. The call of a kind: 2 circuit_unitary, 7 layered_channel, else circuit_channel
-unfoldable pub byKind : {A : Type 0} → ℕ → A → A → A → A
-byKind kind alone apart plain = cond (eqb kind 2) alone (cond (eqb kind layered) apart plain)
+-- ---- one circuit. The call of a kind: 2 circuit_unitary, 7 layered_channel, 23 plain_channel, else circuit_channel
+abbrev pub profiled : ℕ
+profiled = 23
+
+unfoldable pub byKind : {A : Type 0} → ℕ → A → A → A → A → A
+byKind kind alone apart inside full = cond (eqb kind 2) alone (cond (eqb kind layered) apart (cond (eqb kind profiled) inside full))
 
 module _ (kind : ℕ) (c : Circuit) (σ ws ends : List ℕ) (r w : List ℤ) where
   abbrev pub askedVerdict : Verdict
   askedVerdict =
-      byKind kind (unitary.verdictOf (c .n) (c .limits) ws r w) (layeredVerdictOf (c .n) (c .bits) σ (c .limits) ws ends r w) (verdictOf (c .n) (c .bits) σ (c .limits) ws r w)
+      byKind kind (unitary.verdictOf (c .n) (c .limits) ws r w) (layeredVerdictOf (c .n) (c .bits) σ (c .limits) ws ends r w)
+      (plainVerdictOf (c .n) (c .bits) σ (c .limits) ws r w) (verdictOf (c .n) (c .bits) σ (c .limits) ws r w)
 
   abbrev pub askedResult : List ℤ
   askedResult =
-      byKind kind (unitary.resultAfter (c .n) (c .limits) ws r w) (layeredResult (c .n) (c .bits) σ (c .limits) ws ends r w) (resultAfter (c .n) (c .bits) σ (c .limits) ws r w)
+      byKind kind (unitary.resultAfter (c .n) (c .limits) ws r w) (layeredResult (c .n) (c .bits) σ (c .limits) ws ends r w)
+      (plainResult (c .n) (c .bits) σ (c .limits) ws r w) (resultAfter (c .n) (c .bits) σ (c .limits) ws r w)
 
   abbrev pub askedWork : List ℤ
   askedWork =
-      byKind kind (unitary.workAfter (c .n) (c .limits) ws r w) (layeredWork (c .n) (c .bits) σ (c .limits) ws ends r w) (workAfter (c .n) (c .bits) σ (c .limits) ws r w)
+      byKind kind (unitary.workAfter (c .n) (c .limits) ws r w) (layeredWork (c .n) (c .bits) σ (c .limits) ws ends r w)
+      (plainWork (c .n) (c .bits) σ (c .limits) ws r w) (workAfter (c .n) (c .bits) σ (c .limits) ws r w)
 
 -- the call on the circuit at `at`, on marked buffers: what it leaves in the result, and its answer held against the record
 module _ (kind : ℕ) (t : List ℕ) (at : ℕ) (r w : List ℤ) where
@@ -58,9 +65,9 @@ module _ (kind : ℕ) (t : List ℕ) (at : ℕ) (r w : List ℤ) where
   abbrev pub called : Record
   called = withCall t (begun (endsPart kind t (given t at .next) noEnds .next)) calledVerdict calledResult calledWork
 
--- of a channel its effects, in a buffer of this length; of a unitary and of a layered circuit none are recorded
+-- of a channel its effects, in a buffer of this length; of a unitary, of a layered circuit and of one of the profile none are recorded
 abbrev pub traced : ℕ → Record → List ℕ → ℕ → List ℤ → Record
-traced kind s t n channel = cond (eqb kind 2 || eqb kind layered) s (withBlocks t s channel (marked (take n (room 2600))))
+traced kind s t n channel = cond (eqb kind 2 || (eqb kind layered || eqb kind profiled)) s (withBlocks t s channel (marked (take n (room 2600))))
 
 -- the lengths of three buffers, then the circuit
 unfoldable pub answered : ℕ → List ℕ → ℕ → List ℤ → List ℤ → Record

@@ -1,4 +1,4 @@
-// Cases of one circuit: circuit_unitary, circuit_channel with classical_blocks of its result, and layered_channel.
+// Cases of one circuit: circuit_unitary, circuit_channel with classical_blocks of its result, layered_channel and plain_channel.
 use crate::reading::Circuit;
 use crate::reading::ENDS;
 use crate::reading::GATES;
@@ -8,6 +8,7 @@ use crate::reading::read_circuit;
 use crate::reading::read_ends;
 use judge::call::circuit_channel;
 use judge::call::layered_channel;
+use plain::plain_channel;
 use replay::answers::check_call;
 use replay::calls::effects_call;
 use replay::numeral::read;
@@ -26,7 +27,10 @@ const WORK: usize = 167000;
 
 const EFFECTS: usize = 2600;
 
-// The call of this kind: 2 circuit_unitary, 7 layered_channel, else circuit_channel.
+// The kind of the cases of plain_channel.
+const PROFILED: u64 = 23;
+
+// The call of this kind: 2 circuit_unitary, 7 layered_channel, 23 plain_channel, else circuit_channel.
 fn asked(
     kind: u64,
     c: Circuit,
@@ -44,6 +48,7 @@ fn asked(
     match kind {
         2 => circuit_unitary(c.n, gates, limits, result, work),
         7 => layered_channel(c.n, c.bits, store, gates, ends, limits, result, work),
+        23 => plain_channel(c.n, c.bits, store, gates, limits, result, work),
         _ => circuit_channel(c.n, c.bits, store, gates, limits, result, work),
     }
 }
@@ -67,11 +72,11 @@ fn called(kind: u64, text: &[u8], at: usize, result: &mut [i64], work: &mut [i64
     check_call(Record::begin(layers.next), text, v, result, work)
 }
 
-// The effects of a channel, in a buffer of this length; of a unitary and of a layered circuit none are recorded.
+// The effects of a channel, in a buffer of this length; of a unitary, of a layered circuit and of one of the profile none are recorded.
 fn traced(kind: u64, seen: Record, text: &[u8], length: u64, channel: &[i64]) -> Record
     ensures { λ r. ⌜ r ≡ traced kind seen (now (text .entry)) length (now (channel .entry)) ⌝ }
 {
-    if (kind == 2) | (kind == LAYERED) {
+    if (kind == 2) | ((kind == LAYERED) | (kind == PROFILED)) {
         return seen;
     }
     let mut effects = [0i64; EFFECTS];

@@ -1,5 +1,5 @@
-// Replays the recorded answers of calls that are given circuits: circuit_unitary, circuit_channel with the effects of its result, layered_channel, compare of
-// two circuits' channels, and the listing of a text. The text: how many cases there are, then the cases; a case is its kind, its source (0 the Rust, 1 document 01), what
+// Replays the recorded answers of calls that are given circuits: circuit_unitary, circuit_channel with the effects of its result, layered_channel, plain_channel, compare
+// of two circuits' channels, and the listing of a text. The text: how many cases there are, then the cases; a case is its kind, its source (0 the Rust, 1 document 01), what
 // the calls are given, and what they answered.
 mod circuits;
 mod compared;
@@ -19,7 +19,7 @@ ghost use Rattle.replay.specs.Progress.{withNext, replayOf};
 ghost use Rattle.replay_circuits.specs.Cases.{caseOf};
 
 // Room for the text.
-const TEXT: usize = 520000;
+const TEXT: usize = 560000;
 
 // A case of this kind, behind its heading.
 fn case(kind: u64, text: &[u8], at: usize) -> Record
