@@ -19,7 +19,7 @@ one-more : (s : Bool) (k : ℕ) → 0 + k + 1 ≡ cond (not s) 1 0 + (k + cond s
 one-more true k = omega arith
 one-more false k = omega arith
 
-marks-nil : {A : Type 0} (f : A → ℕ → Bool) (m : ℕ) → marks m f [] ≡ 0
+pub marks-nil : {A : Type 0} (f : A → ℕ → Bool) (m : ℕ) → marks m f [] ≡ 0
 marks-nil f zero = refl
 marks-nil f (suc n) = ap (λ (k : ℕ). k + 0) (marks-nil f n)
 

@@ -11,17 +11,17 @@ pub struct Limits {
     pub max_classical_bits: u64,
 }
 
-const MAX_QUBITS: u64 = 5;
+pub const MAX_QUBITS: u64 = 5;
 
 const MAX_MATRIX_CELLS: u64 = 262144;
 
 const MAX_MULTIPLY_TERMS: u64 = 10000000;
 
-const MAX_OPERATIONS: u64 = 1024;
+pub const MAX_OPERATIONS: u64 = 1024;
 
 const MAX_BRANCHES: u64 = 64;
 
-const MAX_CLASSICAL_BITS: u64 = 64;
+pub const MAX_CLASSICAL_BITS: u64 = 64;
 
 impl Limits {
     // The defaults are the ceilings.

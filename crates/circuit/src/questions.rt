@@ -47,7 +47,7 @@ pub fn judge_words(n: u32, bits: u32, l: Limits, words: &[u32]) -> Verdict
 }
 
 // Questions 7 to 10, of limits that are low and of gates that are within them.
-fn judge_numbers(
+pub fn judge_numbers(
     f: Footprint,
     n: u32,
     bits: u32,
