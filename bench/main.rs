@@ -343,11 +343,12 @@ fn main() {
     let (most, rust_budget) = if quick { (3, Duration::from_millis(500)) } else { (11, Duration::from_millis(8000)) };
     let names = ["compare, two equal channels", "compare, two equal channels of two blocks"];
     let schedules = ["schedule of 1,024 x, in order", "schedule of 1,024 x, reversed"];
+    let kept = ["keystroke in a kept circuit of 1 gate", "keystroke in a kept circuit of 1,024 gates"];
     let omegas = "1,024 scalars by omega";
     // 1,024 gates on different qubits: kind, qubits of a gate
     let full = [("1,024 x in one layer, refused", X, 1), ("1,024 ccx in one layer, refused", CCX, 3)];
     if let Some(o) = &only {
-        if !rows().iter().map(|r| r.family).chain(names).chain([omegas]).chain(TEXTS).chain(full.map(|f| f.0)).chain(schedules).any(|n| n.contains(o.as_str())) {
+        if !rows().iter().map(|r| r.family).chain(names).chain([omegas]).chain(TEXTS).chain(full.map(|f| f.0)).chain(schedules).chain(kept).any(|n| n.contains(o.as_str())) {
             eprintln!("no circuit's name has the words {o:?}");
             std::process::exit(2);
         }
@@ -420,6 +421,40 @@ fn main() {
         line.print();
         lines.push(line);
     }
+    // the last gate replaced, removed and appended again, and the verdict asked after each
+    for (count, name) in [1, 1024].into_iter().zip(kept).filter(|k| only.as_ref().is_none_or(|o| k.1.contains(o.as_str()))) {
+        let begun = |calls: &Calls| {
+            let mut words = vec![0; 70 + 5 * count];
+            assert_eq!(unsafe { (calls.kept_start)(1, 1, words.as_mut_ptr(), words.len()) }, 0);
+            for _ in 0..count {
+                assert_eq!(unsafe { (calls.kept_append)(words.as_mut_ptr(), words.len(), [X, 0, 0, 0, 0].as_ptr(), &mut 0) }, 0);
+            }
+            words
+        };
+        let keystroke = |calls: &Calls, words: &mut [i64]| unsafe {
+            let (measure, x) = ([MEASURE, 0, 0, 0, 0], [X, 0, 0, 0, 0]);
+            let ask = |words: &[i64]| assert_eq!((calls.kept_verdict)(words.as_ptr(), words.len(), [0u8].as_ptr(), 1, CEILINGS.as_ptr(), 1 << 20, 1 << 20), 0);
+            assert_eq!((calls.kept_replace)(words.as_mut_ptr(), words.len(), count - 1, measure.as_ptr(), &mut 0), 0);
+            ask(words);
+            assert_eq!((calls.kept_remove)(words.as_mut_ptr(), words.len()), 0);
+            ask(words);
+            assert_eq!((calls.kept_append)(words.as_mut_ptr(), words.len(), x.as_ptr(), &mut 0), 0);
+            ask(words);
+        };
+        let (mut a, mut b) = (begun(&ARCHIVE), begun(&PLAIN));
+        assert!(a == b, "the archive and plain C keep other words");
+        let (source, mut copy) = (a.clone(), a[..70].to_vec());
+        let t = medians(samples, budget, &mut [
+            &mut || keystroke(&ARCHIVE, &mut a),
+            &mut || keystroke(&PLAIN, &mut b),
+            &mut || { black_box(black_box(&source[..70]).iter().fold(0, |a, w| a ^ w)); },
+            &mut || { black_box(&mut copy[..]).copy_from_slice(&source[..70]); black_box(&copy); },
+        ]);
+        assert!(a == b && a == source, "the archive and plain C leave other words");
+        let line = Line { name: format!("{name} | 1"), deep: false, rust: f64::NAN, archive: t[0], plain: t[1], floor: t[2], copy: t[3], zeroing: 0.0 };
+        line.print();
+        lines.push(line);
+    }
     for measures in [false, true] {
         let name = names[measures as usize];
         if only.as_ref().is_some_and(|o| !name.contains(o.as_str())) {
@@ -466,9 +501,9 @@ fn main() {
         let rust = rust_median(most, rust_budget, || (0..1024).for_each(|k| { black_box(power(k)); }));
         Line { name: format!("{omegas} | –"), deep: false, rust, archive: t[0], plain: t[1], floor: t[2], copy: t[3], zeroing: 0.0 }.print();
     }
-    println!("\nThe floor: writing the result's words once by memset; for compare, reading both channels' words once; for a refused layer, reading the gates' words once; for a schedule, those of both lists and the table.");
+    println!("\nThe floor: writing the result's words once by memset; for compare, reading both channels' words once; for a refused layer, reading the gates' words once; for a schedule, those of both lists and the table; for a keystroke, reading the counts once.");
     println!("Scalars by omega have no bar.");
-    println!("The Rust has no layers: beside them stands its channel of the gate list, and nothing beside a refusal or a schedule, which it does not have.");
+    println!("The Rust has no layers: beside them stands its channel of the gate list, and nothing beside a refusal, a schedule or a kept circuit, which it does not have.");
     println!("\nGrowth with n: the archive's time for each of the d^4·V entries of a channel, in ns. It is no worse than the work where it does not rise, or");
     println!("rises no faster than the floor's (a result that no longer fits a cache). A dash: no such row; six h and measure on 4 qubits are over the limits.\n");
     println!("| circuit | n = 1 | 2 | 3 | 4 |\n|---|---|---|---|---|");

@@ -57,6 +57,15 @@ calls! {
     judge_schedule(qubits: u32, bits: u32, old: *const u32, old_words: usize, new: *const u32, new_words: usize, table: *const u32,
         entries: usize, index: *mut u64) -> u32,
         foreituka_judge_schedule, plain_judge_schedule;
+    kept_start(qubits: u32, bits: u32, words: *mut i64, count: usize) -> u32, foreituka_kept_start, plain_kept_start;
+    kept_append(words: *mut i64, count: usize, gate: *const u32, index: *mut u64) -> u32, foreituka_kept_append, plain_kept_append;
+    kept_remove(words: *mut i64, count: usize) -> u32, foreituka_kept_remove, plain_kept_remove;
+    kept_replace(words: *mut i64, count: usize, position: usize, gate: *const u32, index: *mut u64) -> u32,
+        foreituka_kept_replace, plain_kept_replace;
+    kept_verdict(words: *const i64, count: usize, store: *const u8, store_bytes: usize, limits: *const u64, result_words: usize,
+        work_words: usize) -> u32,
+        foreituka_kept_verdict, plain_kept_verdict;
+    kept_gates(words: *const i64, count: usize, gates: *mut u32, gate_words: usize) -> u32, foreituka_kept_gates, plain_kept_gates;
     circuit_unitary(qubits: u32, gates: *const u32, gate_words: usize, limits: *const u64, result: *mut i64, result_words: usize,
         work: *mut i64, work_words: usize, index: *mut u64) -> u32,
         foreituka_circuit_unitary, plain_circuit_unitary;

@@ -1,7 +1,7 @@
 //! The cases: each set is a number of cases and a rule from a case's number and a seed to the case.
 use crate::calls::CEILINGS;
 use crate::calls::kind::{CH, CNOT, H, MEASURE, RESET, RZ, SX, T, X};
-use crate::checks::{Case, MAX_WEIGHT, NARROW, NARROW_EXPONENT, Operation, WIDEST, weight};
+use crate::checks::{Case, Damage, Edit, KEPT_HEAD, MAX_WEIGHT, NARROW, NARROW_EXPONENT, Operation, WIDEST, weight};
 use crate::lent::Rng;
 use crate::rust::Words;
 use std::sync::LazyLock;
@@ -729,6 +729,72 @@ fn schedules(i: u64, rng: &mut Rng) -> Case {
     Case::Schedule { words, new, table }
 }
 
+// ---- circuits kept with their counts
+
+/// A gate, sound for the most part.
+fn edit_gate(rng: &mut Rng, n: u32, bits: u32) -> [u32; 5] {
+    let mut kinds = PLAIN.to_vec();
+    kinds.extend([MEASURE, MEASURE, MEASURE, MEASURE, MEASURE, RESET, RESET]);
+    let mut g = gate(rng, n, bits, &kinds).unwrap_or([H, 0, 0, 0, 0]);
+    if rng.one_in(10) {
+        g[rng.below(5) as usize] = *rng.pick(&[0, 1, 4, 5, 7, 8, 12, 14, 24, 27, 63, 64, u32::MAX]);
+    } else if rng.one_in(20) {
+        let kind = *rng.pick(&UNSUPPORTED);
+        g = gate(rng, n, bits, &[kind]).unwrap_or(g);
+        g[4] = if g[0] == RZ { 8 } else { 0 };
+    }
+    g
+}
+
+fn kept(i: u64, rng: &mut Rng) -> Case {
+    let (n, bits) = (*rng.pick(&[0, 1, 1, 2, 2, 3, 4, 5, 5]), *rng.pick(&[0, 1, 1, 2, 2, 3, 3, 63, 64]));
+    let odd = rng.one_in(30);
+    let n = if odd { *rng.pick(&[6, 5, u32::MAX]) } else { n };
+    let bits = if odd { *rng.pick(&[64, 65, u32::MAX]) } else { bits };
+    let long = i % 200 == 199;
+    let places = if long { 1026 } else { *rng.pick(&[0, 1, 2, 3, 5, 8, 12, 20, 70]) };
+    let size = if rng.one_in(40) { *rng.pick(&[0, 1, 69, 70]) } else { KEPT_HEAD + 5 * places + rng.below(5) as usize };
+    let mut store: Vec<u8> = (0..bits.min(100)).map(|_| rng.below(2) as u8).collect();
+    if rng.one_in(15) {
+        store.push(2);
+    }
+    // heavy ones, up to a weight past the most
+    let heavy = i % 40 == 7;
+    let places = if heavy { 70 } else { places };
+    let size = if heavy { KEPT_HEAD + 5 * places } else { size };
+    let count = if heavy { 66 } else if long { 1040 } else { rng.below(30) };
+    let removal = if long || heavy { 40 } else { 4 };
+    let edits = (0..count).map(|_| {
+        if rng.one_in(removal) {
+            Edit::Remove
+        } else if !heavy && rng.one_in(3) {
+            Edit::Replace(rng.below(places as u64 + 2) as usize, edit_gate(rng, n.min(5), bits.min(64)))
+        } else if heavy {
+            Edit::Append([*rng.pick(&[H, H, SX]), 0, 0, 0, 0])
+        } else {
+            Edit::Append(edit_gate(rng, n.min(5), bits.min(64)))
+        }
+    });
+    let edits: Vec<Edit> = edits.collect();
+    let last = Edit::Replace(rng.below(places as u64 + 1) as usize, edit_gate(rng, n.min(5), bits.min(64)));
+    let mut limits = CEILINGS;
+    if rng.one_in(5) {
+        let k = rng.below(6) as usize;
+        limits[k] = *rng.pick(&[0, 1, 2, 3, 5, CEILINGS[k] - 1, CEILINGS[k] + 1, u64::MAX]);
+    }
+    let lent = (*rng.pick(&[0, 11, 12, 86, 87, 170, 1287, 1 << 20, 1 << 20]), *rng.pick(&[0, 27, 28, 88, 132, 328, 1 << 20, 1 << 20]));
+    // every count and every word of the first gates, one at a time, in a few cases; in the others some of them
+    let value = |rng: &mut Rng| *rng.pick(&[-1, 0, 1, 2, 3, 5, 6, 64, 65, 1024, 1025, 1 << 32, u32::MAX as i64, i64::MAX, i64::MIN]);
+    let mut damages: Vec<Damage> = (0..6).map(|_| Damage::Set(rng.below(size.max(1) as u64) as usize, value(rng))).collect();
+    damages.extend((0..6).map(|_| Damage::Set(rng.below(6) as usize, value(rng))));
+    damages.extend((0..4).map(|_| Damage::Set(6 + rng.below(bits.clamp(1, 64) as u64) as usize, value(rng))));
+    damages.extend([Damage::Cut(1 + rng.below(6) as usize), Damage::Cut(size.saturating_sub(*rng.pick(&[0, 1, 69, 70, 75])))]);
+    if i % 50 == 0 {
+        damages.extend((0..size.min(90)).flat_map(|at| [-1, 0, 1, 2, 70, 1 << 32].map(|v| Damage::Set(at, v))));
+    }
+    Case::Kept { words: Words { qubits: n, bits, store, gates: vec![] }, size, edits, limits, lent, damages, last }
+}
+
 // ---- phases and scalars
 
 fn cell(rng: &mut Rng, bounds: &[i64], exponents: &[i64]) -> [i64; 5] {
@@ -834,6 +900,7 @@ pub fn sets() -> Vec<Set> {
         Set { name: "layers", about: "layered circuits, in order and shuffled", count: 20000, quick: 500, case: layers },
         Set { name: "plain", about: "the plain-gate profile, its circuits and others", count: 20000, quick: 500, case: profiles },
         Set { name: "schedules", about: "schedules, sound and spoilt", count: 20000, quick: 500, case: schedules },
+        Set { name: "kept", about: "circuits kept with their counts: edits, verdicts, damaged words", count: 20000, quick: 500, case: kept },
         Set { name: "damaged", about: "channels with words damaged and blocks of zeros", count: 20000, quick: 600, case: damaged },
         Set { name: "phases", about: "phase tests, both orders", count: 8000, quick: 300, case: phases },
         Set { name: "scalars", about: "scalar calls at the ranges' ends", count: 100000, quick: 3000, case: scalars },

@@ -64,6 +64,21 @@ pub enum Operation {
     Mul([i64; 5], [i64; 5]),
 }
 
+/// An edit of a kept circuit.
+#[derive(Clone, Debug, PartialEq)]
+pub enum Edit {
+    Append([u32; 5]),
+    Remove,
+    Replace(usize, [u32; 5]),
+}
+
+/// A word of a kept circuit set to a value, or fewer words lent.
+#[derive(Clone, Debug, PartialEq)]
+pub enum Damage {
+    Set(usize, i64),
+    Cut(usize),
+}
+
 /// An input. `more` and `less` are words lent beyond what is asked for, or fewer, as pairs for result and work.
 #[derive(Clone, Debug, PartialEq)]
 pub enum Case {
@@ -76,6 +91,8 @@ pub enum Case {
     Plain { words: Words, limits: [u64; 6], extra: (i64, i64) },
     /// judge_schedule; of a schedule that it accepts, both channels and their comparison in both orders.
     Schedule { words: Words, new: Vec<u32>, table: Vec<u32> },
+    /// A circuit kept in so many words: started, edited, and after each edit counted afresh and judged; then each of the damages alone, followed by every call.
+    Kept { words: Words, size: usize, edits: Vec<Edit>, limits: [u64; 6], lent: (usize, usize), damages: Vec<Damage>, last: Edit },
     /// The channels of two circuits, compared in both orders.
     Compare { left: Words, right: Words },
     /// compare (both orders), classical_blocks, povm_effects and lookup on words of any kind: those of two circuits' channels with blocks set to zero and words set to values.
@@ -337,12 +354,17 @@ fn words_due(w: &Words, limits: &[u64; 6], profile: bool) -> Option<(u32, u64)> 
     } else if w.gates.len() as u64 / 5 > limits[3] {
         Some((1, 0))
     } else {
-        let able = |g: &[u32]| !matches!(g[0], 14 | 17 | 18 | 21..=24) && !(g[0] == 7 && g[4] == 8);
         w.gates.chunks_exact(5).zip(0..).find_map(|(g, i)| {
             let outside = profile && !in_profile(g);
-            placing_due(g, w).or((!able(g)).then_some(2)).or(outside.then_some(23)).map(|v| (v, i))
+            gate_due(g, w).or(outside.then_some(23)).map(|v| (v, i))
         })
     }
+}
+
+/// 5, 3 or 2, by questions 4 to 6 of a gate.
+fn gate_due(g: &[u32], w: &Words) -> Option<u32> {
+    let able = !matches!(g[0], 14 | 17 | 18 | 21..=24) && !(g[0] == 7 && g[4] == 8);
+    placing_due(g, w).or((!able).then_some(2))
 }
 
 /// 5 or 3, by questions 4 and 5 of a gate.
@@ -521,6 +543,170 @@ fn schedule(w: &Words, new: &[u32], table: &[u32], counts: &mut Counts) -> Fault
     }
     let (Some(a), Some(b)) = (a, b) else { return Err("accepted, where the Rust has no channel".into()) };
     same_channel("compare of a schedule", (&x, &a), (&y, &b), counts)
+}
+
+// ---- circuits kept with their counts
+
+pub const KEPT_HEAD: usize = 70;
+
+/// The words of a gate list, counted afresh.
+fn kept_words(w: &Words, gates: &[[u32; 5]], size: usize) -> Vec<i64> {
+    let mut out = vec![0; size];
+    let number = |p: &dyn Fn(&[u32; 5]) -> bool| gates.iter().filter(|g| p(g)).count() as i64;
+    (out[0], out[1], out[2]) = (w.qubits as i64, w.bits as i64, gates.len() as i64);
+    (out[3], out[4]) = (number(&|g| matches!(g[0], 0 | 16 | 25)), number(&|g| matches!(g[0], 12 | 13)));
+    for b in 0..64 {
+        out[6 + b as usize] = number(&|g| g[0] == 12 && g[2] == b);
+    }
+    out[5] = out[6..KEPT_HEAD].iter().filter(|n| **n != 0).count() as i64;
+    out[KEPT_HEAD..].iter_mut().zip(gates.concat()).for_each(|(x, g)| *x = g as i64);
+    out
+}
+
+/// The counts may be those of a circuit.
+fn kept_sound(l: &[i64]) -> bool {
+    let places = || (l.len() as i64 - KEPT_HEAD as i64) / 5;
+    let up_to = |x: i64, top: i64| (0..=top).contains(&x);
+    l.len() >= KEPT_HEAD && up_to(l[0], 5) && up_to(l[1], 64) && up_to(l[2], places().min(1024)) && l[3..KEPT_HEAD].iter().all(|n| up_to(*n, l[2]))
+}
+
+/// The reply that is due to an edit of any words, by the words of the request.
+fn edit_due(l: &[i64], edit: &Edit) -> (u32, u64) {
+    if !kept_sound(l) {
+        return (25, 0);
+    }
+    let w = Words { qubits: l[0] as u32, bits: l[1] as u32, store: vec![], gates: vec![] };
+    let count = l[2] as usize;
+    let judged = |g: &[u32], i: usize| gate_due(g, &w).map_or((0, 0), |v| (v, i as u64));
+    // 25 or 21, of the gate that is taken out
+    let taken = |i: usize| {
+        let Some(at) = (i < count).then_some(KEPT_HEAD + 5 * i) else { return Some((21, 0)) };
+        let g: Option<Vec<u32>> = l[at..at + 5].iter().map(|x| u32::try_from(*x).ok()).collect();
+        let less = |g: &[u32]| {
+            let bit = g[0] == 12;
+            let measures = if bit { l[6 + g[2] as usize] } else { 0 };
+            l[3] >= matches!(g[0], 0 | 16 | 25) as i64 && l[4] >= matches!(g[0], 12 | 13) as i64 && measures >= bit as i64 && l[5] >= (bit && measures == 1) as i64
+        };
+        (!g.is_some_and(|g| gate_due(&g, &w).is_none() && less(&g))).then_some((25, 0))
+    };
+    match edit {
+        Edit::Append(g) if count < 1024.min((l.len() - KEPT_HEAD) / 5) => judged(g, count),
+        Edit::Append(_) => (20, 0),
+        Edit::Remove => taken(count.saturating_sub(1)).unwrap_or((0, 0)),
+        Edit::Replace(i, g) => taken(*i).unwrap_or_else(|| judged(g, *i)),
+    }
+}
+
+/// The edit of a gate list.
+fn edited(gates: &mut Vec<[u32; 5]>, edit: &Edit) {
+    match edit {
+        Edit::Append(g) => gates.push(*g),
+        Edit::Remove => {
+            gates.pop();
+        }
+        Edit::Replace(i, g) => gates[*i] = *g,
+    }
+}
+
+fn edit_call(calls: &Calls, l: &[i64], edit: &Edit) -> Result<(u32, u64, Vec<i64>), String> {
+    let mut rng = Rng(l.len() as u64);
+    let mut words = Lent::holding(&mut rng, l);
+    let gate = Lent::<u32>::holding(&mut rng, &match edit {
+        Edit::Append(g) | Edit::Replace(_, g) => *g,
+        Edit::Remove => [0; 5],
+    });
+    let mut index = Lent::<u64>::holding(&mut rng, &[0]);
+    let verdict = unsafe {
+        match edit {
+            Edit::Append(_) => (calls.kept_append)(words.mut_ptr(), words.len(), gate.ptr(), index.mut_ptr()),
+            Edit::Remove => (calls.kept_remove)(words.mut_ptr(), words.len()),
+            Edit::Replace(i, _) => (calls.kept_replace)(words.mut_ptr(), words.len(), *i, gate.ptr(), index.mut_ptr()),
+        }
+    };
+    if !(words.edges_kept() && gate.kept() && index.edges_kept()) {
+        return Err(format!("{}: an edit changed other words than its own", calls.name));
+    }
+    if verdict != 0 && !words.kept() {
+        return Err(format!("{}: an edit refused with {verdict} changed words", calls.name));
+    }
+    Ok((verdict, index.words()[0], words.words().to_vec()))
+}
+
+/// The verdict, and the gates copied out into a buffer of so many words.
+fn kept_asked(calls: &Calls, l: &[i64], store: &[u8], limits: &[u64; 6], lent: (usize, usize), room: usize) -> Result<(u32, u32, Vec<u32>), String> {
+    let mut rng = Rng(l.len() as u64);
+    let (words, store, limits) = (Lent::holding(&mut rng, l), Lent::holding(&mut rng, store), Lent::holding(&mut rng, limits));
+    let mut out = Lent::<u32>::noise(&mut rng, room);
+    let verdict = unsafe { (calls.kept_verdict)(words.ptr(), words.len(), store.ptr(), store.len(), limits.ptr(), lent.0, lent.1) };
+    let copied = unsafe { (calls.kept_gates)(words.ptr(), words.len(), out.mut_ptr(), out.len()) };
+    if !(words.kept() && store.kept() && limits.kept() && out.edges_kept() && (copied == 0 || out.kept())) {
+        return Err(format!("{}: a question of a kept circuit changed other words than its reply's", calls.name));
+    }
+    Ok((verdict, copied, out.words().to_vec()))
+}
+
+fn kept(case: &Case, counts: &mut Counts) -> Fault {
+    let Case::Kept { words: w, size, edits, limits, lent, damages, last } = case else { unreachable!() };
+    let start = |calls: &Calls| {
+        let mut words = Lent::<i64>::noise(&mut Rng(*size as u64), *size);
+        let verdict = unsafe { (calls.kept_start)(w.qubits, w.bits, words.mut_ptr(), words.len()) };
+        if !words.edges_kept() || (verdict != 0 && !words.kept()) {
+            return Err(format!("{}: kept_start changed other words than its own", calls.name));
+        }
+        Ok((verdict, words.words().to_vec()))
+    };
+    let (began, mut l) = start(&ARCHIVE)?;
+    counts.add("kept_start", false, began);
+    same("kept_start", &(began, l.clone()), &start(&PLAIN)?, "plain C")?;
+    same("kept_start", began, if w.qubits > 5 || w.bits > 64 { 1 } else if *size < KEPT_HEAD { 8 } else { 0 }, "the request")?;
+    if began != 0 {
+        return Ok(());
+    }
+    same_words("kept_start", &l, &kept_words(w, &[], *size), "counting afresh")?;
+    let mut gates: Vec<[u32; 5]> = vec![];
+    for edit in edits {
+        let got = edit_call(&ARCHIVE, &l, edit)?;
+        counts.add("kept edits", false, got.0);
+        same("a kept edit", &got, &edit_call(&PLAIN, &l, edit)?, "plain C")?;
+        same("a kept edit", (got.0, got.1), edit_due(&l, edit), "the request")?;
+        if got.0 == 25 {
+            return Err("25, of words that the calls made".into());
+        }
+        if got.0 == 0 {
+            edited(&mut gates, edit);
+        }
+        same_words("a kept edit", &got.2, &kept_words(w, &gates, *size), "counting afresh")?;
+        l = got.2;
+        let (verdict, copied, out) = kept_asked(&ARCHIVE, &l, &w.store, limits, *lent, 5 * gates.len())?;
+        counts.add("kept_verdict", false, verdict);
+        same("kept_gates", (copied, out), (0, gates.concat()), "the gates")?;
+        // of the same gates, each a layer of its own
+        let (flat, ends) = (gates.concat(), (1..=gates.len() as u32).collect::<Vec<_>>());
+        let afresh = unsafe {
+            (ARCHIVE.layered_verdict)(w.qubits, w.bits, w.store.as_ptr(), w.store.len(), flat.as_ptr(), flat.len(), ends.as_ptr(), ends.len(), limits.as_ptr(), lent.0, lent.1, &mut 0)
+        };
+        same("kept_verdict", verdict, afresh, "the verdict of counting afresh")?;
+    }
+    for damage in damages {
+        let mut hurt = l.clone();
+        match damage {
+            Damage::Set(at, value) if *at < hurt.len() => hurt[*at] = *value,
+            Damage::Set(..) => {}
+            Damage::Cut(by) => hurt.truncate(hurt.len().saturating_sub(*by)),
+        }
+        for edit in [last, &Edit::Remove, &Edit::Append([1, 0, 0, 0, 0])] {
+            let got = edit_call(&ARCHIVE, &hurt, edit)?;
+            counts.add("kept edits, damaged words", false, got.0);
+            same("an edit of damaged words", (got.0, got.1), edit_due(&hurt, edit), "the request")?;
+            same("an edit of damaged words", got, edit_call(&PLAIN, &hurt, edit)?, "plain C")?;
+        }
+        let room = (5 * gates.len()).saturating_sub(hurt.len() % 2);
+        let got = kept_asked(&ARCHIVE, &hurt, &w.store, limits, *lent, room)?;
+        counts.add("kept_verdict, damaged words", false, got.0);
+        same("a question of damaged words", got.0 == 25, !kept_sound(&hurt), "the request")?;
+        same("a question of damaged words", got, kept_asked(&PLAIN, &hurt, &w.store, limits, *lent, room)?, "plain C")?;
+    }
+    Ok(())
 }
 
 fn compare_call(calls: &Calls, left: &[i64], right: &[i64]) -> Result<(u32, [u64; 3], [i64; 10]), String> {
@@ -830,6 +1016,7 @@ pub fn check(case: &Case, counts: &mut Counts) -> Fault {
         Case::Layers { words, ends, limits, extra, shuffle } => layers(words, ends, limits, *extra, *shuffle, counts),
         Case::Plain { words, limits, extra } => profile(words, limits, *extra, counts),
         Case::Schedule { words, new, table } => schedule(words, new, table, counts),
+        Case::Kept { .. } => kept(case, counts),
         Case::Compare { left, right } => {
             let (x, y) = (channel(left, &CEILINGS, (0, 0), counts)?, channel(right, &CEILINGS, (0, 0), counts)?);
             let (Some((x, a)), Some((y, b))) = (x, y) else { return Ok(()) };
@@ -988,6 +1175,15 @@ fn smaller(case: &Case) -> Vec<Case> {
                 entries.iter_mut().filter(|e| **e > k).for_each(|e| *e -= 1);
                 out.push(with(Words { gates: old, ..words.clone() }, rest, entries));
             }
+            out
+        }
+        Case::Kept { words, size, edits, limits, lent, damages, last } => {
+            let with = |edits: Vec<Edit>, damages: Vec<Damage>| Case::Kept { words: words.clone(), size: *size, edits, limits: *limits, lent: *lent, damages, last: last.clone() };
+            let less = |i: usize| edits.iter().enumerate().filter(|e| e.0 != i).map(|e| e.1.clone()).collect::<Vec<_>>();
+            let mut out = vec![with(edits.clone(), vec![]), with(edits[..edits.len() / 2].to_vec(), damages.clone())];
+            out.extend((0..edits.len()).map(|i| with(less(i), damages.clone())));
+            out.extend(damages.iter().map(|d| with(edits.clone(), vec![d.clone()])));
+            out.retain(|c| c != case);
             out
         }
         Case::Compare { left, right } => {

@@ -57,7 +57,10 @@ enum {
                                        whose kind has no name; its index is given */
     FOREITUKA_SCHEDULE = 15,        /* a list and its table are no schedule of another list; the first position at fault is given, 0 where lengths differ */
     FOREITUKA_ZERO_BLOCK = 16,      /* a well-formed channel with a block that has no entry but zeros */
+    FOREITUKA_NO_PLACE = 20,        /* a kept circuit has no place free, or 1,024 gates */
+    FOREITUKA_NO_GATE = 21,         /* a kept circuit has no gate at the position */
     FOREITUKA_PLAIN = 23,           /* a gate outside the plain-gate profile; its index is given */
+    FOREITUKA_COUNTS = 25,          /* the words of a kept circuit are too few, or their counts cannot be those of its gates */
     FOREITUKA_SAME = 100,           /* compare, judge_texts: no entry differs */
     FOREITUKA_DIMENSIONS = 101,     /* compare, judge_texts: dimensions or bit counts differ */
     FOREITUKA_ENTRY = 102,          /* compare, judge_texts: an entry differs; place or numbers, and scalars, say which */
@@ -168,6 +171,28 @@ uint32_t foreituka_plain_verdict(uint32_t qubits, uint32_t bits, const uint8_t *
  * is no limit on gates. index: the gate's in its list, or the first new position at fault. Replies: 0, 3, 5, 15. */
 uint32_t foreituka_judge_schedule(uint32_t qubits, uint32_t bits, const uint32_t *old_gates, size_t old_words, const uint32_t *new_gates,
                                   size_t new_words, const uint32_t *table, size_t entries, uint64_t *index);
+
+/* A circuit kept with its counts, for an editor that asks for the verdict at every keystroke. words: FOREITUKA_KEPT_WORDS(places) or more, which
+ * hold qubits, bits, gates, weight, measures and resets, bits measured into, measures into each of 64 bits, and then the gates, five words each
+ * (docs/FORMATS.md). Only the calls below write them: words made by these calls alone are never refused with 25. No call's time but that of start
+ * and of kept_gates depends on the number of gates. A refusal changes no word.
+ *
+ * Start with no gate. Replies: 0, 1 (over 5 qubits or 64 bits), 8. */
+#define FOREITUKA_KEPT_WORDS(places) (70 + 5 * (size_t)(places))
+uint32_t foreituka_kept_start(uint32_t qubits, uint32_t bits, int64_t *words, size_t count);
+
+/* Append a gate; remove the last one, which leaves zeros; put a gate in the place of that at a position, from 0. index: the position of a gate that
+ * is refused. Replies: 0, 2, 3, 5, 25, and 20 for append, 21 for the others; remove has no 2, 3 and 5. */
+uint32_t foreituka_kept_append(int64_t *words, size_t count, const uint32_t gate[5], uint64_t *index);
+uint32_t foreituka_kept_remove(int64_t *words, size_t count);
+uint32_t foreituka_kept_replace(int64_t *words, size_t count, size_t position, const uint32_t gate[5], uint64_t *index);
+
+/* What circuit_channel would reply to the circuit, from its counts and the lengths of the buffers. Replies: 0, 1, 4, 6, 7, 8, 25. */
+uint32_t foreituka_kept_verdict(const int64_t *words, size_t count, const uint8_t *store, size_t store_bytes, const uint64_t limits[6],
+                                size_t result_words, size_t work_words);
+
+/* The gates, words[2] of them, five words each, for circuit_channel. Replies: 0, 8, 25. */
+uint32_t foreituka_kept_gates(const int64_t *words, size_t count, uint32_t *gates, size_t gate_words);
 
 /* The unitary matrix of a circuit without measures and resets: d² scalars, row by row, no header. result: FOREITUKA_UNITARY_WORDS words or
  * more. work: FOREITUKA_UNITARY_WORK_WORDS or more, treated as above. Replies: 0, 1, 2, 3, 5, 6, 7, 8; limits are asked before gates here. */
