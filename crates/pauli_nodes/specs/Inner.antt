@@ -1,0 +1,4 @@
+-- What inner functions ask and proofs need.
+pub mod Masks
+pub mod Packed
+pub mod Laws

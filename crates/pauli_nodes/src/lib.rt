@@ -1,0 +1,1 @@
+// Nodes and operations of Pauli programs: definitions and laws; nothing here runs.
