@@ -12,7 +12,7 @@ use Rattle.pauli_nodes.specs.Nodes.{Node, single, pauli, basisFrom, inOr
 use Rattle.pauli_nodes.specs.Claims.{BasisNumbered, Numbered, Kept}
 
 module _ {A : Type 0} (f : List A → Node → A) where
-  in-turn : (xs ys : List Node) (vs : List A) → inOrder f (xs ++ ys) vs ≡ inOrder f ys (inOrder f xs vs)
+  pub in-turn : (xs ys : List Node) (vs : List A) → inOrder f (xs ++ ys) vs ≡ inOrder f ys (inOrder f xs vs)
   in-turn [] ys vs = refl
   in-turn (x ∷ xs) ys vs = in-turn xs ys (vs ++ (f vs x ∷ []))
 
