@@ -27,12 +27,12 @@ module _ {A : Type 0} (f : A → ℕ → Bool) (x : A) (xs : List A) where
   abbrev had : ℕ → Bool
   had i = some (λ (a : A). f a i) xs
 
-  marks-skip : ((i : ℕ) → f x i ≡ false) → (m : ℕ) → marks m f (x ∷ xs) ≡ marks m f xs
+  pub marks-skip : ((i : ℕ) → f x i ≡ false) → (m : ℕ) → marks m f (x ∷ xs) ≡ marks m f xs
   marks-skip h zero = refl
   marks-skip h (suc n) = ap₂ (λ (k : ℕ) (t : Bool). k + cond (t || had n) 1 0) (marks-skip h n) (h n)
 
   -- an element that marks b alone
-  marks-one : (b : ℕ) → ((i : ℕ) → f x i ≡ eqb i b) → (m : ℕ) → marks m f (x ∷ xs) ≡ cond (ltb b m && not (had b)) 1 0 + marks m f xs
+  pub marks-one : (b : ℕ) → ((i : ℕ) → f x i ≡ eqb i b) → (m : ℕ) → marks m f (x ∷ xs) ≡ cond (ltb b m && not (had b)) 1 0 + marks m f xs
   marks-one b h zero = rw (le-ltb b 0 (omega arith))
   marks-one b h (suc n) = go (eqb n b) refl (marks-one b h n)
     where

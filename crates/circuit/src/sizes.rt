@@ -33,21 +33,21 @@ fn least(a: u64, b: u64) -> u64
     if a <= b { a } else { b }
 }
 
-fn square(d: u64) -> u64
+pub fn square(d: u64) -> u64
     requires { ⌜ d ≤ maxRows ⌝ }
     ensures { λ r. ⌜ (r ≡ d ^ 2) × (r ≤ 1024) ⌝ }
 {
     d * d
 }
 
-fn cube(d: u64) -> u64
+pub fn cube(d: u64) -> u64
     requires { ⌜ d ≤ maxRows ⌝ }
     ensures { λ r. ⌜ (r ≡ d ^ 3) × (r ≤ 32768) ⌝ }
 {
     d * d * d
 }
 
-fn fourth(d: u64) -> u64
+pub fn fourth(d: u64) -> u64
     requires { ⌜ d ≤ maxRows ⌝ }
     ensures { λ r. ⌜ (r ≡ d ^ 4) × (r ≤ 1048576) ⌝ }
 {
@@ -68,7 +68,7 @@ fn terms_needed(g: u64, b: u64, d: u64) -> u64
     2 * g * b * cube(d) + b * fourth(d)
 }
 
-fn result_words(v: u64, d: u64) -> u64
+pub fn result_words(v: u64, d: u64) -> u64
     requires { ⌜ (v ≤ maxBranches) × (d ≤ maxRows) ⌝ }
     ensures { λ r. ⌜ r ≡ resultWords v d ⌝ }
 {

@@ -1,0 +1,5 @@
+pub mod Accepted
+pub mod Axes
+pub mod ByKind
+pub mod Counted
+pub mod Numbers

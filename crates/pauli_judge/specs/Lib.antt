@@ -1,0 +1,4 @@
+pub mod Footprint
+pub mod Sizes
+pub mod Questions
+pub mod Inner

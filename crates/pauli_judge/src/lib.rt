@@ -1,0 +1,4 @@
+// The questions of Pauli programs, in order.
+pub mod footprint;
+pub mod questions;
+pub mod sizes;
