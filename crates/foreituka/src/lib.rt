@@ -5,6 +5,7 @@ pub mod circuits;
 pub mod kept;
 pub mod matrices;
 pub mod profile;
+pub mod programs;
 pub mod scalars;
 pub mod schedules;
 pub mod texts;

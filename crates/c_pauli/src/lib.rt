@@ -1,0 +1,37 @@
+// The calls of the C interface on Pauli programs.
+use c_circuits::read_limits;
+use c_words::report;
+use pauli_judge::questions::judge_pauli;
+ghost use mathlib.Core.Path.{_≡_};
+ghost use Rattle.verdict.specs.Verdict.{verdictNumber, verdictIndex};
+ghost use Rattle.c_circuits.specs.Circuits.{limitsOf};
+ghost use Rattle.pauli_judge.specs.Questions.{pauliVerdict};
+
+// The questions of pauli_channel alone, for result and work buffers of these lengths: the verdict's number, and its index in `index`.
+pub fn pauli_verdict(
+    qubits: u32,
+    bits: u32,
+    store: &[u8],
+    nodes: &[u32],
+    operations: &[u32],
+    limits: &[u64; 6],
+    result_words: usize,
+    work_words: usize,
+    index: &mut u64,
+) -> u32
+    ensures { λ r. ⌜ r ≡ verdictNumber (pauliVerdict qubits bits (now (store .entry)) (limitsOf (now (limits .entry))) (now (nodes .entry)) (now (operations .entry)) «result_words» «work_words») ⌝ }
+    ensures { λ _. ⌜ now (index .exit) ≡ verdictIndex (pauliVerdict qubits bits (now (store .entry)) (limitsOf (now (limits .entry))) (now (nodes .entry)) (now (operations .entry)) «result_words» «work_words») ⌝ }
+{
+    let l = read_limits(limits);
+    let v = judge_pauli(
+        qubits,
+        bits,
+        store,
+        nodes,
+        operations,
+        l,
+        result_words as u64,
+        work_words as u64,
+    );
+    report(v, index)
+}
