@@ -57,6 +57,9 @@ enum {
                                        whose kind has no name; its index is given */
     FOREITUKA_SCHEDULE = 15,        /* a list and its table are no schedule of another list; the first position at fault is given, 0 where lengths differ */
     FOREITUKA_ZERO_BLOCK = 16,      /* a well-formed channel with a block that has no entry but zeros */
+    FOREITUKA_NODE = 17,            /* a listed Pauli node with a bad qubit, or that names a node not before it; its index in the list is given */
+    FOREITUKA_AXIS = 18,            /* an axis that is no node, or does not equal its own adjoint; the operation's index is given */
+    FOREITUKA_OUTCOME = 19,         /* an outcome that is read before it is made; the operation's index is given */
     FOREITUKA_NO_PLACE = 20,        /* a kept circuit has no place free, or 1,024 gates */
     FOREITUKA_NO_GATE = 21,         /* a kept circuit has no gate at the position */
     FOREITUKA_PLAIN = 23,           /* a gate outside the plain-gate profile; its index is given */
@@ -101,6 +104,22 @@ enum {
     FOREITUKA_GATE_CSWAP = 26    /* control a, qubits b and c */
 };
 
+/* ---- Pauli programs: listed nodes and operations, five uint32_t words each: kind, a, b, c, k; words that a kind does not use are 0. Node 0 is the
+ * identity, nodes 1 + 2q and 2 + 2q are X and Z of qubit q, the listed ones follow. Turns 0 to 3 stand for the factors 1, i, -1, -i ---- */
+enum {
+    FOREITUKA_NODE_I = 0,     /* qubit a */
+    FOREITUKA_NODE_X = 1,     /* qubit a */
+    FOREITUKA_NODE_Y = 2,     /* qubit a */
+    FOREITUKA_NODE_Z = 3,     /* qubit a */
+    FOREITUKA_NODE_TIMES = 4  /* node a with b turns, times node c with k turns, both earlier */
+};
+enum {
+    FOREITUKA_ROTATE = 0,       /* about node a with b turns, by c eighths (0 to 7); odd ones weigh 2, eighths 2 and 6 weigh 1 */
+    FOREITUKA_ROTATE_IF = 1,    /* the same, if outcome k was one */
+    FOREITUKA_MEASURE = 2,      /* node a with b turns; weighs 2 */
+    FOREITUKA_MEASURE_INTO = 3  /* node a with b turns, into classical bit c; weighs 2 */
+};
+
 /* ---- Limits: six uint64_t. These are the defaults and the ceilings alike ---- */
 enum {
     FOREITUKA_MAX_QUBITS = 5,
@@ -125,6 +144,9 @@ enum {
 #define FOREITUKA_UNITARY_WORDS(n) FOREITUKA_MATRIX_WORDS(n)
 #define FOREITUKA_UNITARY_WORK_WORDS(n) (4 * (FOREITUKA_MATRIX_WORDS(n) + 2))
 #define FOREITUKA_EFFECTS_WORDS(n, blocks) (4 + (size_t)(blocks) * (3 + FOREITUKA_MATRIX_WORDS(n)))
+
+/* the work of a Pauli program; nodes: one more than the highest node that an axis names, at least 2n + 1 (0 with no qubits and no axis) */
+#define FOREITUKA_PAULI_WORK_WORDS(n, measures, nodes) ((((size_t)2 << (measures)) + (nodes) + 2) * (FOREITUKA_MATRIX_WORDS(n) + 3))
 
 /* bytes: enough for the text of so many gates */
 #define FOREITUKA_TEXT_BYTES(gates) (76 + 49 * (size_t)(gates))
@@ -198,6 +220,12 @@ uint32_t foreituka_kept_gates(const int64_t *words, size_t count, uint32_t *gate
  * more. work: FOREITUKA_UNITARY_WORK_WORDS or more, treated as above. Replies: 0, 1, 2, 3, 5, 6, 7, 8; limits are asked before gates here. */
 uint32_t foreituka_circuit_unitary(uint32_t qubits, const uint32_t *gates, size_t gate_words, const uint64_t limits[6], int64_t *result,
                                    size_t result_words, int64_t *work, size_t work_words, uint64_t *index);
+
+/* The reply and index of pauli_channel on a Pauli program, from the lengths of its buffers alone: nothing is run, and no buffer is lent. The listed
+ * nodes are judged before the operations, each with its index in its own list. Replies: 0, 1, 3 to 8, 17 to 19. */
+uint32_t foreituka_pauli_verdict(uint32_t qubits, uint32_t bits, const uint8_t *store, size_t store_bytes, const uint32_t *nodes,
+                                 size_t node_words, const uint32_t *operations, size_t operation_words, const uint64_t limits[6],
+                                 size_t result_words, size_t work_words, uint64_t *index);
 
 /* Whether two channels, as circuit_channel leaves them, are the same map; a missing block is zero. FOREITUKA_ENTRY comes with the first
  * unequal entry, by rising stores, then rows, then columns: place is its store (bit j weighs 2^j), row and column, scalars the left one's five
