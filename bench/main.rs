@@ -501,7 +501,8 @@ fn main() {
         let rust = rust_median(most, rust_budget, || (0..1024).for_each(|k| { black_box(power(k)); }));
         Line { name: format!("{omegas} | –"), deep: false, rust, archive: t[0], plain: t[1], floor: t[2], copy: t[3], zeroing: 0.0 }.print();
     }
-    println!("\nThe floor: writing the result's words once by memset; for compare, reading both channels' words once; for a refused layer, reading the gates' words once; for a schedule, those of both lists and the table; for a keystroke, reading the counts once.");
+    println!("\nThe floor: writing the result's words once by memset; for compare, reading both channels' words once;");
+    println!("for a refused layer, reading the gates' words once; for a schedule, those of both lists and the table; for a keystroke, reading the counts once.");
     println!("Scalars by omega have no bar.");
     println!("The Rust has no layers: beside them stands its channel of the gate list, and nothing beside a refusal, a schedule or a kept circuit, which it does not have.");
     println!("\nGrowth with n: the archive's time for each of the d^4·V entries of a channel, in ns. It is no worse than the work where it does not rise, or");

@@ -1,0 +1,15 @@
+-- `append` meets its contract.
+use mathlib.Core.Path.{ap, _∙_}
+use Rattle.verdict.specs.Verdict.{verdictNumber, verdictIndex}
+use borrow.Author.Needs.{needs}
+use Rattle.c_kept.proofs.append.Statement.{statement}
+use Rattle.c_kept.proofs.append.Tie as tie
+
+returns : tie.Need-returns
+returns c =
+    let (e, words) = c .before .before .before .append .ensures in
+    let (number, index) = c .report .ensures in
+    (number ∙ ap verdictNumber e, (index ∙ ap verdictIndex e, words))
+
+pub append-spec : {M : Type 1} → statement M
+append-spec = tie.close (tie.spec (λ c κs. search needs) (λ c κs. search needs) (λ c. search needs) returns)
