@@ -351,13 +351,35 @@ static int compare_list(const char *name)
 }
 
 /* ---- one circuit ---- */
+/* a basis state of so many rows, qubit 0 first */
+static void put_bits(size_t dim, size_t row)
+{
+    for (size_t bit = dim / 2; bit; bit /= 2) putchar(row & bit ? '1' : '0');
+}
+
 static void put_ket_bra(size_t dim, size_t a, size_t b)
 {
     putchar('|');
-    for (size_t bit = dim / 2; bit; bit /= 2) putchar(a & bit ? '1' : '0');
+    put_bits(dim, a);
     printf("⟩⟨");
-    for (size_t bit = dim / 2; bit; bit /= 2) putchar(b & bit ? '1' : '0');
+    put_bits(dim, b);
     putchar('|');
+}
+
+/* exact, and as a decimal value, which is rounded last */
+static void put_number(const int64_t x[5])
+{
+    fwrite(words, 1, foreituka_number_text(x, words, sizeof words), stdout);
+    printf(" ≈ ");
+    put_decimal(x);
+    putchar('\n');
+}
+
+/* the store of the record at `at` in bits; how many bytes, 0 where there are no classical bits */
+static int store_of(const int64_t *channel, int64_t at, uint8_t stored[BITS + 1])
+{
+    uint64_t value = (uint64_t)channel[at + 1] | (uint64_t)channel[at + 2] << 32;
+    return channel[1] ? (int)foreituka_store_text(value, (uint32_t)channel[1], stored, BITS + 1) : 0;
 }
 
 /* Prints the records of a channel, or of its effects: a channel's entry (row, column), an effect's term |row⟩⟨column|. The effects are the
@@ -375,9 +397,8 @@ static void put_records(const int64_t *channel, int is_effects, const char *name
         printf(",\"qubits\":%" PRIu32 ",\"bits\":%" PRIu32 ",\"blocks\":[", qubits, bits);
     } else printf("%s %" PRIu32 " %" PRIu32 " %" PRId64 "\nqubits: %" PRIu32 "; classical bits: %" PRIu32 "; stores that can be left: %" PRId64 "\n", kind, qubits, bits, channel[2], qubits, bits, channel[2]);
     for (int64_t at = channel[3]; at; at = channel[at]) {
-        uint64_t value = (uint64_t)channel[at + 1] | (uint64_t)channel[at + 2] << 32;
         uint8_t stored[BITS + 1];
-        int n = bits ? (int)foreituka_store_text(value, bits, stored, sizeof stored) : 0;
+        int n = store_of(channel, at, stored);
         if (json) printf("%s\n{\"store\":\"%.*s\",\"entries\":[", comma, n, (const char *)stored);
         comma = "";
         for (size_t i = 0; i < side * side; i++) {
@@ -399,15 +420,66 @@ static void put_records(const int64_t *channel, int is_effects, const char *name
             if (is_effects) put_ket_bra(dim, row, column);
             else fwrite(words, 1, foreituka_entry_text(qubits, row, column, words, sizeof words), stdout);
             printf(": ");
-            fwrite(words, 1, foreituka_number_text(x, words, sizeof words), stdout);
-            printf(" ≈ ");
-            put_decimal(x);
-            putchar('\n');
+            put_number(x);
         }
         if (json) printf("]}");
         comma = ",";
     }
-    if (json) printf("]}\n");
+    if (json) putchar(']');
+}
+
+/* Prints how likely each store is for each basis state as input, the diagonal of its effect, and their sum, added up exactly. 0 where a sum is out of
+ * range, which no circuit's effects have. */
+static int put_odds(void)
+{
+    const size_t dim = (size_t)effects[0];
+    const char *comma = "";
+    if (json) printf(",\"odds\":[");
+    for (size_t input = 0; input < dim; input++) {
+        int64_t total[5];
+        foreituka_scalar_zero(total);
+        if (json) {
+            printf("%s\n{\"input\":\"", comma);
+            put_bits(dim, input);
+            printf("\",\"stores\":[");
+        }
+        comma = "";
+        for (int64_t at = effects[3]; at; at = effects[at]) {
+            const int64_t *x = effects + at + 3 + 5 * (input * dim + input);
+            int64_t sum[5];
+            uint8_t stored[BITS + 1];
+            int n = store_of(effects, at, stored);
+            if (foreituka_scalar_add(total, x, sum) != FOREITUKA_ACCEPTED) return 0;
+            memcpy(total, sum, sizeof total);
+            if (json) {
+                printf("%s{\"store\":\"%.*s\",\"exact\":", comma, n, (const char *)stored);
+                json_number(x);
+                printf(",\"approximately\":%.17g}", re(x));
+                comma = ",";
+                continue;
+            }
+            printf("from |");
+            put_bits(dim, input);
+            printf("⟩");
+            if (n) printf(" to store %.*s", n, (const char *)stored);
+            printf(": ");
+            put_number(x);
+        }
+        if (json) {
+            printf("],\"total\":");
+            json_number(total);
+            putchar('}');
+        } else {
+            printf("from |");
+            put_bits(dim, input);
+            printf("⟩ in all: ");
+            fwrite(words, 1, foreituka_number_text(total, words, sizeof words), stdout);
+            putchar('\n');
+        }
+        comma = ",";
+    }
+    if (json) putchar(']');
+    return 1;
 }
 
 static int one_circuit(const char *name, int is_effects)
@@ -442,6 +514,11 @@ static int one_circuit(const char *name, int is_effects)
         return TROUBLE;
     }
     put_records(is_effects ? effects : first, is_effects, name);
+    if (is_effects && !put_odds()) {
+        fprintf(stderr, "foreituka: %s: its odds have a sum that is too large\n", shown_name(name));
+        return TROUBLE;
+    }
+    if (json) printf("}\n");
     return SAME;
 }
 
