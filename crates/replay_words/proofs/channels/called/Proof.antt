@@ -11,7 +11,7 @@ returns : tie.Need-returns
 returns c =
     let l = c .before in
     let p = l .before .before in
-    let e = p .before .before in
+    let e = p .before .before .before in
     let d = e .before .before in
     let b = d .before in
     let s = b .before .before .before .args in
@@ -24,4 +24,4 @@ returns c =
 pub called-spec : {M : Type 1} → statement M
 called-spec =
     tie.close
-    (tie.spec (λ c κs. search needs) (λ c κs. search needs) (λ c κs. search needs) (λ c κs. search needs) (λ c κs. search needs) (λ c κs. search needs) (λ c. search needs) returns)
+    (tie.spec (λ c κs. search needs) (λ c κs. search needs) (λ c κs. search needs) (λ c κs. search needs) (λ c κs. search needs) (λ c κs. search needs) (λ c. search needs) (λ c. search needs) returns)

@@ -15,8 +15,8 @@ use Rattle.replay_words.proofs.channels.words_case.Tie as tie
 
 returns : tie.Need-returns
 returns c =
-    let k = c .before in
-    let f = k .before .before .before .before .before in
+    let k = c .before .before in
+    let f = k .before .before .before .before .before .before in
     let bytes = f .before .before in
     let count = bytes .before .before in
     let right = count .before .before in
@@ -39,4 +39,5 @@ words-case-spec =
     tie.close
     (tie.spec (λ c. search needs) (λ c κs. search needs) (λ c. search needs) (λ c κs. search needs) (λ c κs. search needs) (λ c. search needs) (λ c κs. search needs) (λ c κs. search needs)
     (λ c. search needs) (λ c. sym (length-take-le _ _ (search needs))) (λ c. search needs) (λ c. sym (length-take-le _ _ (search needs)))
-    (λ c. search needs) (λ c. sym (length-take-le _ _ (search needs))) (λ c. search needs) (λ c. sym (length-take-le _ _ (search needs))) (λ c κs. search needs) returns)
+    (λ c. search needs) (λ c. sym (length-take-le _ _ (search needs))) (λ c. search needs) (λ c. sym (length-take-le _ _ (search needs)))
+    (λ c. search needs) (λ c. sym (length-take-le _ _ (search needs))) (λ c κs. search needs) returns)
