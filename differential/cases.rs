@@ -3,6 +3,7 @@ use crate::calls::CEILINGS;
 use crate::calls::kind::{CH, CNOT, H, MEASURE, RESET, RZ, SX, T, X};
 use crate::checks::{Case, Damage, Edit, KEPT_HEAD, MAX_WEIGHT, NARROW, NARROW_EXPONENT, Operation, WIDEST, weight};
 use crate::lent::Rng;
+use crate::programs;
 use crate::rust::Words;
 use std::sync::LazyLock;
 
@@ -901,6 +902,10 @@ pub fn sets() -> Vec<Set> {
         Set { name: "plain", about: "the plain-gate profile, its circuits and others", count: 20000, quick: 500, case: profiles },
         Set { name: "schedules", about: "schedules, sound and spoilt", count: 20000, quick: 500, case: schedules },
         Set { name: "kept", about: "circuits kept with their counts: edits, verdicts, damaged words", count: 20000, quick: 500, case: kept },
+        Set { name: "programs", about: "random Pauli programs of 0 to 3 qubits", count: 20000, quick: 500, case: programs::random },
+        Set { name: "programs-deep", about: "Pauli programs with products hundreds deep", count: 200, quick: 12, case: programs::deep },
+        Set { name: "programs-heavy", about: "Pauli programs of weights 48 to 59", count: 1000, quick: 30, case: programs::heavy },
+        Set { name: "programs-faulty", about: "Pauli programs with faults of every kind", count: 30000, quick: 1000, case: programs::faulty },
         Set { name: "damaged", about: "channels with words damaged and blocks of zeros", count: 20000, quick: 600, case: damaged },
         Set { name: "phases", about: "phase tests, both orders", count: 8000, quick: 300, case: phases },
         Set { name: "scalars", about: "scalar calls at the ranges' ends", count: 100000, quick: 3000, case: scalars },

@@ -1,6 +1,7 @@
 //! One comparison: a call's input, the archive's reply, the plain C version's, and the Rust's where it can be asked.
 use crate::calls::{ARCHIVE, CEILINGS, Calls, PLAIN};
 use crate::lent::{Lent, Rng};
+use crate::programs::{self, Program};
 use crate::rust::{self, Words};
 use crate::semantics::Matrix;
 use crate::semantics::channel::Channel;
@@ -14,7 +15,7 @@ use std::collections::{BTreeMap, HashMap, HashSet};
 pub struct Counts(pub BTreeMap<&'static str, (u64, u64, BTreeMap<String, u64>)>, pub BTreeMap<&'static str, (i64, i64)>);
 
 impl Counts {
-    fn add(&mut self, call: &'static str, rust: bool, reply: impl ToString) {
+    pub fn add(&mut self, call: &'static str, rust: bool, reply: impl ToString) {
         let n = self.0.entry(call).or_default();
         if rust {
             n.0 += 1;
@@ -27,7 +28,7 @@ impl Counts {
         let largest = self.1.entry(call).or_default();
         *largest = (largest.0.max(n), largest.1.max(e));
     }
-    fn met(&mut self, call: &'static str, entries: &[i64]) {
+    pub fn met(&mut self, call: &'static str, entries: &[i64]) {
         let cells = || entries.chunks_exact(5);
         let n = cells().flat_map(|x| &x[..4]).map(|n| n.abs()).max();
         self.larger(call, (n.unwrap_or(0), cells().map(|x| x[4]).max().unwrap_or(0)));
@@ -93,6 +94,8 @@ pub enum Case {
     Schedule { words: Words, new: Vec<u32>, table: Vec<u32> },
     /// A circuit kept in so many words: started, edited, and after each edit counted afresh and judged; then each of the damages alone, followed by every call.
     Kept { words: Words, size: usize, edits: Vec<Edit>, limits: [u64; 6], lent: (usize, usize), damages: Vec<Damage>, last: Edit },
+    /// pauli_verdict, pauli_channel and the Rust's pbc_channel.
+    Program { program: Program, limits: [u64; 6], extra: (i64, i64) },
     /// The channels of two circuits, compared in both orders.
     Compare { left: Words, right: Words },
     /// compare (both orders), classical_blocks, povm_effects and lookup on words of any kind: those of two circuits' channels with blocks set to zero and words set to values.
@@ -104,12 +107,12 @@ pub enum Case {
 
 type Fault = Result<(), String>;
 
-fn same<T: PartialEq + std::fmt::Debug>(what: &str, got: T, want: T, source: &str) -> Fault {
+pub fn same<T: PartialEq + std::fmt::Debug>(what: &str, got: T, want: T, source: &str) -> Fault {
     if got == want { Ok(()) } else { Err(format!("{what}: the archive {got:?}, {source} {want:?}")) }
 }
 
 /// The first place where words differ.
-fn same_words(what: &str, got: &[i64], want: &[i64], source: &str) -> Fault {
+pub fn same_words(what: &str, got: &[i64], want: &[i64], source: &str) -> Fault {
     if got == want {
         return Ok(());
     }
@@ -166,7 +169,7 @@ struct Reply {
 }
 
 /// The words lent to circuit_channel or circuit_unitary: as many as are asked for, and `extra`.
-fn lengths(need: (usize, usize), extra: (i64, i64)) -> (usize, usize) {
+pub fn lengths(need: (usize, usize), extra: (i64, i64)) -> (usize, usize) {
     let of = |n: usize, e: i64| (n as i64 + e).max(0) as usize;
     (of(need.0, extra.0), of(need.1, extra.1))
 }
@@ -313,7 +316,7 @@ fn channel(w: &Words, limits: &[u64; 6], extra: (i64, i64), counts: &mut Counts)
     channel_reply(w, limits, extra, counts).map(|(got, c)| c.map(|c| (got.result, c)))
 }
 
-fn store_at(words: &[i64], at: usize) -> u64 {
+pub fn store_at(words: &[i64], at: usize) -> u64 {
     words[at + 1] as u64 | (words[at + 2] as u64) << 32
 }
 
@@ -885,7 +888,7 @@ fn judged(words: &[i64]) -> Result<Channel, u32> {
 }
 
 /// Two channels, or the refusal of the left one, or of the right one.
-fn both<'a>(x: &'a Result<Channel, u32>, y: &'a Result<Channel, u32>) -> Result<(&'a Channel, &'a Channel), u32> {
+fn both_sound<'a>(x: &'a Result<Channel, u32>, y: &'a Result<Channel, u32>) -> Result<(&'a Channel, &'a Channel), u32> {
     let (a, b) = (x.as_ref().map_err(|v| *v)?, y.as_ref().map_err(|v| *v)?);
     Ok((a, b))
 }
@@ -1017,6 +1020,7 @@ pub fn check(case: &Case, counts: &mut Counts) -> Fault {
         Case::Plain { words, limits, extra } => profile(words, limits, *extra, counts),
         Case::Schedule { words, new, table } => schedule(words, new, table, counts),
         Case::Kept { .. } => kept(case, counts),
+        Case::Program { program, limits, extra } => programs::check(program, limits, *extra, counts),
         Case::Compare { left, right } => {
             let (x, y) = (channel(left, &CEILINGS, (0, 0), counts)?, channel(right, &CEILINGS, (0, 0), counts)?);
             let (Some((x, a)), Some((y, b))) = (x, y) else { return Ok(()) };
@@ -1031,8 +1035,8 @@ pub fn check(case: &Case, counts: &mut Counts) -> Fault {
             set_words(&mut y, sets, true);
             x.truncate(x.len().saturating_sub(*cut as usize));
             let (a, b) = (judged(&x), judged(&y));
-            compare(&x, &y, both(&a, &b), counts)?;
-            compare(&y, &x, both(&b, &a), counts)?;
+            compare(&x, &y, both_sound(&a, &b), counts)?;
+            compare(&y, &x, both_sound(&b, &a), counts)?;
             let left = a.as_ref().map_err(|v| *v);
             effects(&x, left, *short as usize, counts)?;
             lookup(&x, store, left, counts)
@@ -1184,6 +1188,13 @@ fn smaller(case: &Case) -> Vec<Case> {
             out.extend((0..edits.len()).map(|i| with(less(i), damages.clone())));
             out.extend(damages.iter().map(|d| with(edits.clone(), vec![d.clone()])));
             out.retain(|c| c != case);
+            out
+        }
+        Case::Program { program, limits, extra } => {
+            let mut out: Vec<Case> = programs::smaller(program).into_iter().map(|program| Case::Program { program, limits: *limits, extra: *extra }).collect();
+            if (*limits, *extra) != (CEILINGS, (0, 0)) {
+                out.push(Case::Program { program: program.clone(), limits: CEILINGS, extra: (0, 0) });
+            }
             out
         }
         Case::Compare { left, right } => {

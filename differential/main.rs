@@ -8,6 +8,7 @@ mod circuit;
 mod driver;
 mod lent;
 mod pbc;
+mod programs;
 mod qasm;
 mod rust;
 mod semantics;

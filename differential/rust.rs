@@ -45,7 +45,7 @@ impl Words {
     pub fn channel_sizes(&self) -> (usize, usize) {
         let (splits, bits) = self.splits();
         let d = 1usize << self.qubits;
-        (4 + (3 + 5 * d.pow(4)) * (1usize << bits), (2 * (1usize << splits) + 2) * (5 * d * d + 2))
+        (channel_words(d, 1usize << bits), (2 * (1usize << splits) + 2) * (5 * d * d + 2))
     }
     pub fn unitary_sizes(&self) -> (usize, usize) {
         let d = 1usize << self.qubits;
@@ -63,6 +63,11 @@ impl Words {
         }
         Some(c)
     }
+}
+
+/// The words of a channel of dimension d with so many blocks.
+pub fn channel_words(d: usize, blocks: usize) -> usize {
+    4 + (3 + 5 * d.pow(4)) * blocks
 }
 
 pub fn limits(l: &[u64; 6]) -> ChannelLimits {
