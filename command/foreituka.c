@@ -10,6 +10,7 @@
 #include <inttypes.h>
 #include <math.h>
 #include <stdio.h>
+#include <stdlib.h>
 #include <string.h>
 #include <time.h>
 #include <unistd.h>
@@ -24,7 +25,7 @@ static uint32_t gates[5 * GATES];
 static int64_t first[FOREITUKA_CHANNEL_WORDS(QUBITS, 2)], second[FOREITUKA_CHANNEL_WORDS(QUBITS, 2)];
 static int64_t work[FOREITUKA_CHANNEL_WORK_WORDS(QUBITS, SPLITS)];
 static int64_t effects[FOREITUKA_EFFECTS_WORDS(QUBITS, FOREITUKA_MAX_BRANCHES)];
-static uint8_t answer[FOREITUKA_ANSWER_BYTES], words[1024];
+static uint8_t answer[FOREITUKA_ANSWER_BYTES + 16], words[1024]; /* a side's name may go in front of an answer */
 static uint8_t page[FOREITUKA_LIST_BYTES];
 #define COUNT(a) (sizeof(a) / sizeof((a)[0]))
 
@@ -41,7 +42,7 @@ static int json;
 
 static const char usage[] =
     "foreituka compare [--store BITS] [--json] LEFT RIGHT\n"
-    "foreituka compare [--store BITS] [--json] --list PAIRS\n"
+    "foreituka compare [--store BITS] [--json] --list PAIRS [--allowance N]\n"
     "foreituka channel [--store BITS] [--json] FILE\n"
     "foreituka effects [--store BITS] [--json] FILE\n"
     "foreituka list [FILE]\n"
@@ -54,6 +55,7 @@ static const char usage[] =
     "--store BITS  the first classical bits start so, as 010, bit 0 first; the others as 0\n"
     "--json        answers in JSON, an object a line\n"
     "--list PAIRS  judges many pairs: the file PAIRS has a line of two names for each\n"
+    "--allowance N  spends at most N multiply terms on a list: what is beyond is passed over\n"
     "--help, --version\n"
     "\n"
     "A file named - is standard input. Exit status: 0 same (or printed), 1 different, 2 refused, unreadable or not written.\n"
@@ -211,16 +213,9 @@ static int unreadable(const char *a, const char *b, const char *which, const cha
     return TROUBLE;
 }
 
-static int compare(const char *a, const char *b, int form)
+/* Prints an answer: its words are in `answer`, and the circuits have so many classical bits. */
+static int report(const char *a, const char *b, uint32_t reply, size_t bytes, const uint64_t numbers[6], const int64_t scalars[10], uint32_t bits, int form)
 {
-    const char *fault = read_text(a, &left);
-    if (fault) return unreadable(a, b, a, fault, form);
-    if ((fault = read_text(b, &right))) return unreadable(a, b, b, fault, form);
-    size_t bytes;
-    uint64_t numbers[6];
-    int64_t scalars[10];
-    uint32_t reply = foreituka_judge_texts(left.bytes, left.size, right.bytes, right.size, store, store_bytes, limits, gates, COUNT(gates), first, COUNT(first), second,
-                                           COUNT(second), work, COUNT(work), answer, sizeof answer, &bytes, numbers, scalars);
     /* only the number for "same" gives 0 */
     int status = reply == FOREITUKA_SAME ? SAME : reply == FOREITUKA_ENTRY || reply == FOREITUKA_DIMENSIONS ? DIFFERENT : TROUBLE;
     int refused = reply == FOREITUKA_LEFT_REFUSED || reply == FOREITUKA_RIGHT_REFUSED;
@@ -234,7 +229,7 @@ static int compare(const char *a, const char *b, int form)
         json_bytes(l.rest, l.rest_size);
         if (refused) json_refusal(numbers);
         if (reply == FOREITUKA_ENTRY) {
-            size_t n = first[1] ? foreituka_store_text(numbers[0], (uint32_t)first[1], words, sizeof words) : 0;
+            size_t n = bits ? foreituka_store_text(numbers[0], bits, words, sizeof words) : 0;
             printf(",\"store\":");
             json_bytes(words, n);
             printf(",\"row\":%" PRIu64 ",\"column\":%" PRIu64 ",\"exact\":[", numbers[1], numbers[2]);
@@ -274,6 +269,19 @@ static int compare(const char *a, const char *b, int form)
     return status;
 }
 
+static int compare(const char *a, const char *b, int form)
+{
+    const char *fault = read_text(a, &left);
+    if (fault) return unreadable(a, b, a, fault, form);
+    if ((fault = read_text(b, &right))) return unreadable(a, b, b, fault, form);
+    size_t bytes;
+    uint64_t numbers[6];
+    int64_t scalars[10];
+    uint32_t reply = foreituka_judge_texts(left.bytes, left.size, right.bytes, right.size, store, store_bytes, limits, gates, COUNT(gates), first, COUNT(first), second,
+                                           COUNT(second), work, COUNT(work), answer, sizeof answer, &bytes, numbers, scalars);
+    return report(a, b, reply, bytes, numbers, scalars, (uint32_t)first[1], form);
+}
+
 /* ---- many pairs ---- */
 enum line_kind { NOTHING, PAIR, NO_PAIR };
 
@@ -304,7 +312,187 @@ static double seconds(void)
     return (double)now.tv_sec + (double)now.tv_nsec / 1e9;
 }
 
-static int compare_list(const char *name)
+/* ---- under an allowance: up to 32 lines at a time, which share what is left of it ---- */
+enum { CIRCUIT = FOREITUKA_CIRCUIT_HEAD + 5 * GATES, UNREAD, LEFT_TEXT, RIGHT_TEXT, TAKEN };
+
+/* a line of the list: why it is no pair of circuits, or the counts of both */
+typedef struct {
+    const char *a, *b;
+    size_t number; /* of the line, where it has not two names; else 0 */
+    int state;
+    uint32_t counts[4];
+} listed_pair;
+static listed_pair batch[FOREITUKA_MAX_PAIRS];
+static uint32_t batch_words[FOREITUKA_MAX_PAIRS * 2 * CIRCUIT];
+static uint8_t batch_stores[FOREITUKA_MAX_PAIRS * 2 * BITS];
+static uint64_t batch_answers[FOREITUKA_MAX_PAIRS * FOREITUKA_ANSWER_WORDS];
+static int64_t batch_scalars[FOREITUKA_MAX_PAIRS * FOREITUKA_ANSWER_SCALARS];
+static size_t batched, taken, word_count, byte_count;
+
+/* Reads a circuit, its gates behind those of the batch. Answers NULL, or what is wrong with the file; `read` says whether the text is a circuit. A circuit of more than 64 bits has a store of none, and is refused for it. */
+static const char *take_circuit(const char *name, size_t head, size_t at, size_t *end, int *read)
+{
+    uint32_t counts[2] = {0};
+    size_t n = 0, position;
+    const char *fault = read_text(name, &left);
+    *read = !fault && foreituka_read_qasm(left.bytes, left.size, batch_words + at, 5 * GATES, counts, &n, &position) == FOREITUKA_ACCEPTED && counts[1] <= BITS && store_bytes <= counts[1];
+    if (!*read) return fault;
+    batch_words[head] = counts[0];
+    batch_words[head + 1] = counts[1];
+    batch_words[head + 2] = (uint32_t)n;
+    *end = at + n;
+    return NULL;
+}
+
+static void take_store(uint32_t bits)
+{
+    memset(batch_stores + byte_count, 0, bits);
+    memcpy(batch_stores + byte_count, store, store_bytes);
+    byte_count += bits;
+}
+
+/* Whether the circuit whose head is there is refused. Nothing is run: with a layer for each gate no two gates clash, and the verdict is that of circuit_channel. */
+static int is_refused(size_t head, size_t at)
+{
+    static uint32_t ends[GATES];
+    static uint8_t start[BITS];
+    uint64_t index;
+    const uint32_t bits = batch_words[head + 1], n = batch_words[head + 2];
+    for (uint32_t i = 0; i < n / 5; i++) ends[i] = i + 1;
+    memcpy(start, store, sizeof start);
+    return foreituka_layered_verdict(batch_words[head], bits, start, bits, batch_words + at, n, ends, n / 5, limits, COUNT(first), COUNT(work), &index) != FOREITUKA_ACCEPTED;
+}
+
+static void take_line(listed_pair *p)
+{
+    const size_t head = word_count, other = head + FOREITUKA_CIRCUIT_HEAD;
+    size_t end = 0;
+    int read;
+    p->state = UNREAD;
+    if (take_circuit(p->a, head, head + 2 * FOREITUKA_CIRCUIT_HEAD, &end, &read)) return;
+    p->state = LEFT_TEXT;
+    if (!read) {
+        if (read_text(p->b, &right)) p->state = UNREAD;
+        return;
+    }
+    const size_t middle = end;
+    p->state = UNREAD;
+    if (take_circuit(p->b, other, middle, &end, &read)) return;
+    if (!read) {
+        p->state = is_refused(head, head + 2 * FOREITUKA_CIRCUIT_HEAD) ? LEFT_TEXT : RIGHT_TEXT;
+        return;
+    }
+    p->state = TAKEN;
+    p->counts[0] = batch_words[head], p->counts[1] = batch_words[head + 1], p->counts[2] = batch_words[other], p->counts[3] = batch_words[other + 1];
+    word_count = end;
+    take_store(p->counts[1]);
+    take_store(p->counts[3]);
+    taken++;
+}
+
+/* The refusal of one text, which costs nothing: its words, with the side in front. */
+static int report_refusal(const listed_pair *p, uint32_t reply)
+{
+    static const char *const sides[2] = {"left ", "right "};
+    const char *name = reply == FOREITUKA_LEFT_REFUSED ? p->a : p->b, *side = sides[reply == FOREITUKA_RIGHT_REFUSED];
+    const char *fault = read_text(name, &left);
+    if (fault) return unreadable(p->a, p->b, name, fault, LISTED);
+    size_t bytes = 0, n = strlen(side);
+    uint64_t numbers[6];
+    int64_t none[10] = {0};
+    uint32_t number = foreituka_text_channel(left.bytes, left.size, store, store_bytes, limits, gates, COUNT(gates), first, COUNT(first), work, COUNT(work), answer, FOREITUKA_ANSWER_BYTES, &bytes, numbers);
+    if (number == FOREITUKA_ACCEPTED) return unreadable(p->a, p->b, name, "the file has changed", LISTED);
+    memmove(answer + n, answer, bytes);
+    memcpy(answer, side, n);
+    return report(p->a, p->b, reply, bytes + n, numbers, none, 0, LISTED);
+}
+
+/* The answer of a pair that was compared, in the words of judge_texts. */
+static int report_compared(const listed_pair *p, uint32_t reply, const uint64_t *found, const int64_t *scalars)
+{
+    const uint64_t numbers[6] = {found[2], found[3], found[4]};
+    char *out = (char *)answer;
+    int n = 0;
+    if (reply == FOREITUKA_SAME) n = snprintf(out, sizeof answer, "same\nThe two circuits do the same: their channels are equal at every store, row and column.\n");
+    else if (reply == FOREITUKA_DIMENSIONS)
+        n = snprintf(out, sizeof answer, "dimensions\nqubits: %" PRIu32 " against %" PRIu32 "; classical bits: %" PRIu32 " against %" PRIu32 "\n", p->counts[0], p->counts[2], p->counts[1], p->counts[3]);
+    else if (reply == FOREITUKA_ENTRY) {
+        uint8_t part[4][256];
+        int size[4] = {(int)foreituka_store_text(numbers[0], p->counts[1], part[0], sizeof part[0]), (int)foreituka_entry_text(p->counts[0], numbers[1], numbers[2], part[1], sizeof part[1]),
+                       (int)foreituka_number_text(scalars, part[2], sizeof part[2]), (int)foreituka_number_text(scalars + 5, part[3], sizeof part[3])};
+        n = snprintf(out, sizeof answer, "different\n%s%.*s%s%.*s: %.*s against %.*s\n", p->counts[1] ? "after storing " : "", p->counts[1] ? size[0] : 0, (char *)part[0], p->counts[1] ? ", " : "", size[1],
+                     (char *)part[1], size[2], (char *)part[2], size[3], (char *)part[3]);
+    }
+    return report(p->a, p->b, reply, (size_t)n, numbers, scalars, p->counts[1], LISTED);
+}
+
+static int report_passed_over(const listed_pair *p, uint64_t cost)
+{
+    if (json) {
+        printf("{\"answer\":\"passed over\",\"status\":%d", TROUBLE);
+        json_text("left", p->a);
+        json_text("right", p->b);
+        printf(",\"cost\":%" PRIu64 "}\n", cost);
+    } else printf("passed over\t%s\t%s\tit would cost %" PRIu64 " terms, more than is left of the allowance\n", p->a, p->b, cost);
+    return TROUBLE;
+}
+
+static int report_no_pair(size_t number)
+{
+    char where[64];
+    snprintf(where, sizeof where, "line %zu of the list has not two names of files", number);
+    return unreadable("", "", "", where, LISTED);
+}
+
+static int report_unread(const listed_pair *p)
+{
+    const char *fault = read_text(p->a, &left);
+    if (fault) return unreadable(p->a, p->b, p->a, fault, LISTED);
+    fault = read_text(p->b, &left);
+    return unreadable(p->a, p->b, p->b, fault ? fault : "the file has changed", LISTED);
+}
+
+/* Serves the batch, and takes what it costs from the allowance. Counts the statuses of its lines. */
+static int serve_batch(uint64_t *allowance, size_t count[3])
+{
+    uint64_t total, index;
+    uint32_t verdict = foreituka_compare_list(taken, batch_words, word_count, batch_stores, byte_count, limits, *allowance, first, COUNT(first), second, COUNT(second), work, COUNT(work),
+                                              batch_answers, COUNT(batch_answers), batch_scalars, COUNT(batch_scalars), &total, &index);
+    const uint64_t *found = batch_answers;
+    const int64_t *scalars = batch_scalars;
+    int worst = SAME;
+    for (size_t i = 0; i < batched; i++) {
+        const listed_pair *p = batch + i;
+        int status;
+        if (p->number) status = report_no_pair(p->number);
+        else if (p->state == UNREAD) status = report_unread(p);
+        else if (p->state != TAKEN) status = report_refusal(p, p->state == LEFT_TEXT ? FOREITUKA_LEFT_REFUSED : FOREITUKA_RIGHT_REFUSED);
+        else {
+            uint32_t reply = verdict == FOREITUKA_ACCEPTED ? (uint32_t)found[0] : verdict;
+            if (reply == FOREITUKA_LEFT_REFUSED || reply == FOREITUKA_RIGHT_REFUSED) status = report_refusal(p, reply);
+            else if (reply == FOREITUKA_PASSED_OVER) status = report_passed_over(p, found[1]);
+            else status = report_compared(p, reply, found, scalars);
+            found += FOREITUKA_ANSWER_WORDS, scalars += FOREITUKA_ANSWER_SCALARS;
+        }
+        count[status]++;
+        if (status > worst) worst = status;
+    }
+    *allowance -= verdict == FOREITUKA_ACCEPTED ? total : 0;
+    batched = taken = word_count = byte_count = 0;
+    fflush(stdout);
+    return worst;
+}
+
+/* one line more; the batch is served where it is full */
+static int batch_line(const char *a, const char *b, size_t number, uint64_t *allowance, size_t count[3])
+{
+    listed_pair *p = batch + batched++;
+    *p = (listed_pair){a, b, number, UNREAD, {0}};
+    if (!number) take_line(p);
+    return batched == FOREITUKA_MAX_PAIRS ? serve_batch(allowance, count) : SAME;
+}
+
+static int compare_list(const char *name, uint64_t *allowance)
 {
     const char *fault = read_text(name, &pairs), *a = "", *b = "";
     if (fault) {
@@ -333,20 +521,23 @@ static int compare_list(const char *name)
             told = seconds();
             fprintf(stderr, "\r\033[K%zu of %zu pairs judged, %.0f s", done, all, told - began);
         }
+        const int is_pair = kind == PAIR && strcmp(a, "-") && strcmp(b, "-");
         int status;
-        if (kind == PAIR && strcmp(a, "-") && strcmp(b, "-")) status = compare(a, b, LISTED);
-        else {
-            char where[64];
-            snprintf(where, sizeof where, "line %zu of the list has not two names of files", number);
-            status = unreadable("", "", "", where, LISTED);
-        }
         done++;
-        count[status]++;
+        if (allowance) status = batch_line(a, b, is_pair ? 0 : number, allowance, count);
+        else {
+            status = is_pair ? compare(a, b, LISTED) : report_no_pair(number);
+            count[status]++;
+        }
         if (status > worst) worst = status;
         if (both) fputs("\r\033[K", stderr);
         fflush(stdout);
     }
-    if (terminal) fprintf(stderr, "\r\033[K%zu pairs in %.1f s: %zu same, %zu different, %zu refused or unreadable\n", done, seconds() - began, count[SAME], count[DIFFERENT], count[TROUBLE]);
+    if (batched) {
+        int status = serve_batch(allowance, count);
+        if (status > worst) worst = status;
+    }
+    if (terminal) fprintf(stderr, "\r\033[K%zu pairs in %.1f s: %zu same, %zu different, %zu %srefused or unreadable\n", done, seconds() - began, count[SAME], count[DIFFERENT], count[TROUBLE], allowance ? "passed over, " : "");
     return worst;
 }
 
@@ -544,9 +735,18 @@ static int read_store(const char *bits)
     return 0;
 }
 
+static int read_allowance(const char *digits, uint64_t *n)
+{
+    size_t size = strlen(digits);
+    errno = 0;
+    *n = strtoull(digits, NULL, 10);
+    return size == 0 || strspn(digits, "0123456789") != size || errno ? wrong("--allowance wants a number of terms below 2^64, and not", digits) : 0;
+}
+
 static int run(int count, char **given)
 {
     const char *verb = count > 1 ? given[1] : "", *files[2] = {"-", "-"}, *listed = NULL;
+    uint64_t allowance, *bound = NULL;
     int named = 0, options = 1;
     for (int i = 1; i < count; i++) {
         if (!strcmp(given[i], "--")) break;
@@ -562,15 +762,19 @@ static int run(int count, char **given)
         else if (options && !lists && !strcmp(a, "--json")) json = 1;
         else if (options && !lists && !strncmp(a, "--store=", 8)) {
             if (read_store(a + 8)) return TROUBLE;
-        } else if (options && ((!lists && !strcmp(a, "--store")) || (compares && !strcmp(a, "--list")))) {
+        } else if (options && ((!lists && !strcmp(a, "--store")) || (compares && (!strcmp(a, "--list") || !strcmp(a, "--allowance"))))) {
             if (++i == count) return wrong("nothing stands behind", a);
             if (!strcmp(a, "--list")) listed = given[i];
+            else if (!strcmp(a, "--allowance")) {
+                if (read_allowance(given[i], bound = &allowance)) return TROUBLE;
+            }
             else if (read_store(given[i])) return TROUBLE;
         } else if (options && a[0] == '-' && a[1]) return wrong("no such option here", a);
         else if (named == (compares ? 2 : 1)) return wrong("one file too many", a);
         else files[named++] = a;
     }
-    if (listed) return named ? wrong("beside --list no file is named", files[0]) : compare_list(listed);
+    if (listed) return named ? wrong("beside --list no file is named", files[0]) : compare_list(listed, bound);
+    if (bound) return wrong("--allowance is for a list of pairs", "");
     if (compares) {
         if (named < 2) return wrong("compare wants two files", "");
         if (!strcmp(files[0], "-") && !strcmp(files[1], "-")) return wrong("standard input can be one of the two files, not both", "");

@@ -9,9 +9,9 @@
  * writes (pointers without const) overlaps nothing else that it is given; nobody else writes to any of it during the call. Nothing is owed
  * beyond that: contents that make no sense are refused.
  *
- * Out parameters are index, place, scalars, counts, words, position, bytes, numbers and, of the scalar calls, out. They must be writable, and every call
+ * Out parameters are index, total, place, scalars, counts, words, position, bytes, numbers and, of the scalar calls, out. They must be writable, and every call
  * writes all of them, whatever its reply: index is 0 where the reply names no gate, and the others are all zero where there is nothing to say.
- * result and work, read_qasm's gates and write_qasm's out are other: a refusal changes nothing of theirs.
+ * result and work, read_qasm's gates, write_qasm's out and compare_list's five buffers are other: a refusal changes nothing of theirs.
  *
  * Threads: nothing is shared between calls, and the archive has no data that a call writes. Calls on different buffers may run at once; what
  * is only read (const) may be the same in all of them.
@@ -44,7 +44,8 @@ enum {
     FOREITUKA_UNSUPPORTED = 2,      /* an unsupported gate; its index is given */
     FOREITUKA_OPERAND = 3,          /* a qubit out of range or repeated, a bit out of range; the gate's index is given */
     FOREITUKA_STORE = 4,            /* the initial store has another length than the bit count, or a byte above 1 */
-    FOREITUKA_GATES = 5,            /* a malformed gate; its index is given. Or a length that is no multiple of 5; index 0 */
+    FOREITUKA_GATES = 5,            /* a malformed gate; its index is given. Or a length that is no multiple of 5; index 0. From compare_list: a pair
+                                       that is not there; its place is given */
     FOREITUKA_CEILING = 6,          /* a limit is above its ceiling */
     FOREITUKA_WEIGHT = 7,           /* h, ch and sx number more than 56 */
     FOREITUKA_SHORT = 8,            /* too few words for the result or the work; too few words for gates or bytes for a text */
@@ -63,6 +64,7 @@ enum {
     FOREITUKA_NO_PLACE = 20,        /* a kept circuit has no place free, or 1,024 gates */
     FOREITUKA_NO_GATE = 21,         /* a kept circuit has no gate at the position */
     FOREITUKA_PLAIN = 23,           /* a gate outside the plain-gate profile; its index is given */
+    FOREITUKA_PAIRS = 24,           /* more than 32 pairs */
     FOREITUKA_COUNTS = 25,          /* the words of a kept circuit are too few, or their counts cannot be those of its gates */
     FOREITUKA_SAME = 100,           /* compare, judge_texts: no entry differs */
     FOREITUKA_DIMENSIONS = 101,     /* compare, judge_texts: dimensions or bit counts differ */
@@ -70,7 +72,8 @@ enum {
     FOREITUKA_EQUIVALENT = 103,     /* phase test: equal up to a global phase */
     FOREITUKA_DIFFERENT = 104,      /* phase test: not */
     FOREITUKA_LEFT_REFUSED = 105,   /* judge_texts: the left text or its circuit is refused; numbers says why */
-    FOREITUKA_RIGHT_REFUSED = 106   /* judge_texts: the right one is */
+    FOREITUKA_RIGHT_REFUSED = 106,  /* judge_texts: the right one is */
+    FOREITUKA_PASSED_OVER = 107     /* compare_list, in an answer: the pair is passed over, the allowance does not reach it */
 };
 
 /* ---- Gates: five uint32_t words each: kind, a, b, c, k; words that a kind does not use are 0 ---- */
@@ -147,6 +150,11 @@ enum {
 
 /* the work of a Pauli program; nodes: one more than the highest node that an axis names, at least 2n + 1 (0 with no qubits and no axis) */
 #define FOREITUKA_PAULI_WORK_WORDS(n, measures, nodes) ((((size_t)2 << (measures)) + (nodes) + 2) * (FOREITUKA_MATRIX_WORDS(n) + 3))
+/* compare_list: the most pairs, the words of a circuit's head, and the words of an answer and of its scalars */
+#define FOREITUKA_MAX_PAIRS 32
+#define FOREITUKA_CIRCUIT_HEAD 3
+#define FOREITUKA_ANSWER_WORDS 7
+#define FOREITUKA_ANSWER_SCALARS 10
 
 /* bytes: enough for the text of so many gates */
 #define FOREITUKA_TEXT_BYTES(gates) (76 + 49 * (size_t)(gates))
@@ -233,6 +241,22 @@ uint32_t foreituka_pauli_verdict(uint32_t qubits, uint32_t bits, const uint8_t *
  * left, then 10 and 16 of right, then the dimensions. FOREITUKA_SAME says that both have the same stores too. */
 uint32_t foreituka_compare(const int64_t *left, size_t left_words, const int64_t *right, size_t right_words, uint64_t place[3],
                            int64_t scalars[10]);
+
+/* Pairs of circuits compared in list order inside one allowance of multiply terms. words has for each of `count` pairs six words, qubits, classical
+ * bits and gate words of the left circuit and then of the right one, then the left circuit's gates and the right one's; stores has their initial
+ * stores end to end, a byte for each bit. A pair costs the sum of its circuits' terms, 2·G·B·d^3 + B·d^4 for G gates and B = 2^splits. A pair whose
+ * circuit is refused, for short words too, keeps that refusal, the left circuit's first, and costs nothing; any other is passed over exactly when
+ * its cost added to what is spent exceeds the allowance; else both are run and compared. left, right and work have room for a channel each and for
+ * the work of either. answers gets FOREITUKA_ANSWER_WORDS words a pair: the reply (100, 101, 102, 105, 106 or 107), the cost (0 where a circuit is
+ * refused), for 102 store, row and column, for 105 and 106 the refusal's number and the gate's index; each 0 otherwise. scalars gets
+ * FOREITUKA_ANSWER_SCALARS words a pair: for 102 the left one's five words and the right one's, else zeros. total is the sum of the costs of what is
+ * compared. Accepted, all words of left, right and work are zero, and those of answers and scalars behind the last pair's are kept; refused, no word
+ * of the five changes. Replies: 24 (more than FOREITUKA_MAX_PAIRS), 5 (a pair is not there: its place from 0 is in index; `count`, where words or
+ * bytes are left over), 8 (too few words for answers or scalars), 0. */
+uint32_t foreituka_compare_list(size_t count, const uint32_t *words, size_t word_count, const uint8_t *stores, size_t store_bytes,
+                                const uint64_t limits[6], uint64_t allowance, int64_t *left, size_t left_words, int64_t *right,
+                                size_t right_words, int64_t *work, size_t work_words, uint64_t *answers, size_t answer_words, int64_t *scalars,
+                                size_t scalar_words, uint64_t *total, uint64_t *index);
 
 /* Each store's effect, transposed: entry (r, c) sums block entry (o·d + r, o·d + c) over o. result: FOREITUKA_EFFECTS_WORDS words or more, in
  * the layout of a channel with d² scalars in a record. Replies: 0, 8, 9, 10, 16; asked are 10, 16, 8, 9. */

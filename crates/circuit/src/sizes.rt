@@ -61,7 +61,7 @@ fn cells_needed(b: u64, v: u64, d: u64) -> u64
     v * fourth(d) + (3 * b + 8) * square(d)
 }
 
-fn terms_needed(g: u64, b: u64, d: u64) -> u64
+pub fn terms_needed(g: u64, b: u64, d: u64) -> u64
     requires { ⌜ (g ≤ maxGates) × (b ≤ maxBranches) × (d ≤ maxRows) ⌝ }
     ensures { λ r. ⌜ r ≡ termsNeeded g b d ⌝ }
 {

@@ -14,3 +14,4 @@ pub mod Layers
 pub mod Schedules
 pub mod Texts
 pub mod Plain
+pub mod WorkLists

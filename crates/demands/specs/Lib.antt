@@ -4,3 +4,4 @@ pub mod Layers
 pub mod Schedules
 pub mod Texts
 pub mod Plain
+pub mod WorkLists

@@ -9,3 +9,4 @@ pub mod programs;
 pub mod scalars;
 pub mod schedules;
 pub mod texts;
+pub mod work_lists;

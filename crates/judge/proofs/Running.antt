@@ -45,7 +45,7 @@ zeros-joined (suc k) = ap (λ (l : List ℤ). l ++ (pos 0 ∷ [])) (zeros-joined
     more zero = refl
     more (suc k) = ap (λ (l : List ℤ). pos 0 ∷ l) (more k)
 
-zeroed-is : (k : ℕ) (l : List ℤ) → k ≤ length l → fillWords l 0 k (λ (i : ℕ). pos 0) ≡ zeroed k l
+pub zeroed-is : (k : ℕ) (l : List ℤ) → k ≤ length l → fillWords l 0 k (λ (i : ℕ). pos 0) ≡ zeroed k l
 zeroed-is k l h =
     let e : 0 + k * 1 ≡ length (replicate k (pos 0)) = omega (arith, length-replicate k (pos 0)) in
     blocks-parts 1 (λ (i : ℕ). pos 0 ∷ []) (λ i. refl) l 0 k (omega arith) ∙ (λ i. zeros-joined k i ++ drop (e i) l)

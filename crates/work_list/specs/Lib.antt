@@ -1,0 +1,3 @@
+pub mod Serving
+pub mod Claims
+pub mod Inner
