@@ -344,11 +344,12 @@ fn main() {
     let names = ["compare, two equal channels", "compare, two equal channels of two blocks"];
     let schedules = ["schedule of 1,024 x, in order", "schedule of 1,024 x, reversed"];
     let kept = ["keystroke in a kept circuit of 1 gate", "keystroke in a kept circuit of 1,024 gates"];
+    let listed = "a list of 32 pairs of 48 gates";
     let omegas = "1,024 scalars by omega";
     // 1,024 gates on different qubits: kind, qubits of a gate
     let full = [("1,024 x in one layer, refused", X, 1), ("1,024 ccx in one layer, refused", CCX, 3)];
     if let Some(o) = &only {
-        if !rows().iter().map(|r| r.family).chain(names).chain([omegas]).chain(TEXTS).chain(full.map(|f| f.0)).chain(schedules).chain(kept).any(|n| n.contains(o.as_str())) {
+        if !rows().iter().map(|r| r.family).chain(names).chain([omegas]).chain(TEXTS).chain(full.map(|f| f.0)).chain(schedules).chain(kept).chain([listed]).any(|n| n.contains(o.as_str())) {
             eprintln!("no circuit's name has the words {o:?}");
             std::process::exit(2);
         }
@@ -452,6 +453,33 @@ fn main() {
         ]);
         assert!(a == b && a == source, "the archive and plain C leave other words");
         let line = Line { name: format!("{name} | 1"), deep: false, rust: f64::NAN, archive: t[0], plain: t[1], floor: t[2], copy: t[3], zeroing: 0.0 };
+    // 32 pairs of the same circuit on 3 qubits, all of them served
+    if only.as_ref().is_none_or(|o| listed.contains(o.as_str())) {
+        let w = row("list", false, 3, 0, &deep(3, 48, false)).words;
+        let (result, work) = w.channel_sizes();
+        let head = [w.qubits, w.bits, w.gates.len() as u32];
+        let words: Vec<u32> = (0..32).flat_map(|_| head.iter().chain(&head).chain(&w.gates).chain(&w.gates).copied().collect::<Vec<_>>()).collect();
+        let stores = w.store.repeat(64);
+        let mut buffers: Vec<_> = (0..2).map(|_| (vec![0i64; result], vec![0i64; result], vec![0i64; work], vec![0u64; 7 * 32], vec![0i64; 10 * 32])).collect();
+        let (first, second) = buffers.split_at_mut(1);
+        let judge = |calls: &Calls, (left, right, work, answers, scalars): &mut (Vec<i64>, Vec<i64>, Vec<i64>, Vec<u64>, Vec<i64>)| {
+            let (mut total, mut index) = (0, 0);
+            let verdict = unsafe {
+                (calls.compare_list)(32, words.as_ptr(), words.len(), stores.as_ptr(), stores.len(), CEILINGS.as_ptr(), u64::MAX, left.as_mut_ptr(), left.len(), right.as_mut_ptr(), right.len(),
+                    work.as_mut_ptr(), work.len(), answers.as_mut_ptr(), answers.len(), scalars.as_mut_ptr(), scalars.len(), &mut total, &mut index)
+            };
+            assert!(verdict == 0 && answers.chunks_exact(7).all(|a| a[0] == 100), "{}: not all pairs are the same", calls.name);
+        };
+        let mut floor = vec![0i64; 64 * result];
+        let source = floor.clone();
+        let mut copy = floor.clone();
+        let t = medians(samples, budget, &mut [
+            &mut || judge(&ARCHIVE, &mut first[0]),
+            &mut || judge(&PLAIN, &mut second[0]),
+            &mut || { black_box(&mut floor[..]).fill(0); black_box(&floor); },
+            &mut || { black_box(&mut copy[..]).copy_from_slice(&source); black_box(&copy); },
+        ]);
+        let line = Line { name: format!("{listed} | 3"), deep: false, rust: f64::NAN, archive: t[0], plain: t[1], floor: t[2], copy: t[3], zeroing: 0.0 };
         line.print();
         lines.push(line);
     }
@@ -502,7 +530,7 @@ fn main() {
         Line { name: format!("{omegas} | –"), deep: false, rust, archive: t[0], plain: t[1], floor: t[2], copy: t[3], zeroing: 0.0 }.print();
     }
     println!("\nThe floor: writing the result's words once by memset; for compare, reading both channels' words once;");
-    println!("for a refused layer, reading the gates' words once; for a schedule, those of both lists and the table; for a keystroke, reading the counts once.");
+    println!("for a refused layer, reading the gates' words once; for a schedule, those of both lists and the table; for a keystroke, reading the counts once; for a list of pairs, writing the words of all its channels once.");
     println!("Scalars by omega have no bar.");
     println!("The Rust has no layers: beside them stands its channel of the gate list, and nothing beside a refusal, a schedule or a kept circuit, which it does not have.");
     println!("\nGrowth with n: the archive's time for each of the d^4·V entries of a channel, in ns. It is no worse than the work where it does not rise, or");

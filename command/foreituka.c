@@ -439,7 +439,7 @@ static int report_passed_over(const listed_pair *p, uint64_t cost)
 
 static int report_no_pair(size_t number)
 {
-    char where[64];
+    char where[96];
     snprintf(where, sizeof where, "line %zu of the list has not two names of files", number);
     return unreadable("", "", "", where, LISTED);
 }

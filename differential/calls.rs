@@ -66,6 +66,10 @@ calls! {
         work_words: usize) -> u32,
         foreituka_kept_verdict, plain_kept_verdict;
     kept_gates(words: *const i64, count: usize, gates: *mut u32, gate_words: usize) -> u32, foreituka_kept_gates, plain_kept_gates;
+    compare_list(count: usize, words: *const u32, word_count: usize, stores: *const u8, store_bytes: usize, limits: *const u64,
+        allowance: u64, left: *mut i64, left_words: usize, right: *mut i64, right_words: usize, work: *mut i64, work_words: usize,
+        answers: *mut u64, answer_words: usize, scalars: *mut i64, scalar_words: usize, total: *mut u64, index: *mut u64) -> u32,
+        foreituka_compare_list, plain_compare_list;
     circuit_unitary(qubits: u32, gates: *const u32, gate_words: usize, limits: *const u64, result: *mut i64, result_words: usize,
         work: *mut i64, work_words: usize, index: *mut u64) -> u32,
         foreituka_circuit_unitary, plain_circuit_unitary;

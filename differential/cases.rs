@@ -1,7 +1,7 @@
 //! The cases: each set is a number of cases and a rule from a case's number and a seed to the case.
 use crate::calls::CEILINGS;
 use crate::calls::kind::{CH, CNOT, H, MEASURE, RESET, RZ, SX, T, X};
-use crate::checks::{Case, Damage, Edit, KEPT_HEAD, MAX_WEIGHT, NARROW, NARROW_EXPONENT, Operation, WIDEST, weight};
+use crate::checks::{Case, Damage, Edit, KEPT_HEAD, MAX_WEIGHT, NARROW, NARROW_EXPONENT, Operation, WIDEST, terms, weight};
 use crate::lent::Rng;
 use crate::programs;
 use crate::rust::Words;
@@ -878,6 +878,73 @@ fn scalars(_: u64, rng: &mut Rng) -> Case {
     Case::Scalar(operation)
 }
 
+// ---- lists of pairs
+
+fn work_lists(i: u64, rng: &mut Rng) -> Case {
+    let pairs: usize = match i {
+        0..5 => [0, 1, 32, 33, 40][i as usize],
+        _ => *rng.pick(&[0, 1, 1, 2, 2, 3, 3, 4, 6, 32, 33]),
+    };
+    let (mut words, mut stores, mut sums, mut rooms) = (Vec::new(), Vec::new(), vec![0], (4, 4, 4));
+    for _ in 0..pairs {
+        let (n, bits) = (*rng.pick(&[0, 1, 1, 1, 2]), *rng.pick(&[0, 1, 1, 2]));
+        let left = circuit(rng, n, bits, 6, 2);
+        // the same circuit, another of its counts, or of others
+        let mut pair = [left.clone(), if rng.one_in(3) { left } else if rng.one_in(3) { circuit(rng, 1, 1, 6, 2) } else { circuit(rng, n, bits, 6, 2) }];
+        for w in &mut pair {
+            if rng.one_in(8) {
+                spoil(rng, w);
+            }
+        }
+        for (k, w) in pair.iter().enumerate() {
+            words.extend([w.qubits, w.bits, w.gates.len() as u32]);
+            if w.qubits < 4 && w.splits().0 < 7 && w.splits().1 < 7 {
+                let (result, work) = w.channel_sizes();
+                rooms = if k == 0 { (rooms.0.max(result), rooms.1, rooms.2.max(work)) } else { (rooms.0, rooms.1.max(result), rooms.2.max(work)) };
+            }
+        }
+        pair.iter().for_each(|w| words.extend(&w.gates));
+        pair.iter().for_each(|w| stores.extend(&w.store));
+        if pair.iter().all(|w| w.qubits < 4 && w.splits().0 < 7) {
+            sums.push(sums[sums.len() - 1] + terms(&pair[0]) + terms(&pair[1]));
+        }
+    }
+    // what is spent after some pairs, where none is refused, and one more or less
+    let some = *rng.pick(&sums);
+    let allowance = *rng.pick(&[0, 1, u64::MAX, u64::MAX - 1, 1 << 63, some, some, some.saturating_sub(1), some + 1, sums[sums.len() - 1]]);
+    let mut count = pairs;
+    let mut places = (7 * pairs, 10 * pairs);
+    if rng.one_in(6) {
+        match rng.below(6) {
+            0 => count += 1,
+            1 => count = count.saturating_sub(1),
+            2 => words.push(*rng.pick(&[0, 1, u32::MAX])),
+            3 => {
+                words.pop();
+            }
+            4 => stores.push(0),
+            _ => {
+                let at = rng.below(words.len().max(1) as u64) as usize;
+                let odd = *rng.pick(&[0, 1, 5, 6, 64, 65, 1 << 31, u32::MAX]);
+                words.get_mut(at).into_iter().for_each(|w| *w = odd);
+            }
+        }
+    }
+    if rng.one_in(8) {
+        places = *rng.pick(&[(7 * pairs + 3, 10 * pairs + 3), (places.0.saturating_sub(1), places.1), (places.0, places.1.saturating_sub(1)), (0, 0)]);
+    }
+    if rng.one_in(5) {
+        let short = |rng: &mut Rng, n: usize| *rng.pick(&[n, n, n + 9, n / 2, n.saturating_sub(1), 0]);
+        rooms = (short(rng, rooms.0), short(rng, rooms.1), short(rng, rooms.2));
+    }
+    let mut limits = CEILINGS;
+    if rng.one_in(10) {
+        let k = rng.below(6) as usize;
+        limits[k] = *rng.pick(&[0, 1, 2, 3, 64, CEILINGS[k] + 1, u64::MAX]);
+    }
+    Case::WorkList { count, words, stores, limits, allowance, rooms, places }
+}
+
 pub fn sets() -> Vec<Set> {
     let (one, two) = (one_qubit_gates().len(), two_qubit_gates().len());
     vec![
@@ -906,6 +973,7 @@ pub fn sets() -> Vec<Set> {
         Set { name: "programs-deep", about: "Pauli programs with products hundreds deep", count: 200, quick: 12, case: programs::deep },
         Set { name: "programs-heavy", about: "Pauli programs of weights 48 to 59", count: 1000, quick: 30, case: programs::heavy },
         Set { name: "programs-faulty", about: "Pauli programs with faults of every kind", count: 30000, quick: 1000, case: programs::faulty },
+        Set { name: "work-list", about: "lists of pairs under an allowance", count: 6000, quick: 300, case: work_lists },
         Set { name: "damaged", about: "channels with words damaged and blocks of zeros", count: 20000, quick: 600, case: damaged },
         Set { name: "phases", about: "phase tests, both orders", count: 8000, quick: 300, case: phases },
         Set { name: "scalars", about: "scalar calls at the ranges' ends", count: 100000, quick: 3000, case: scalars },

@@ -96,6 +96,8 @@ pub enum Case {
     Kept { words: Words, size: usize, edits: Vec<Edit>, limits: [u64; 6], lent: (usize, usize), damages: Vec<Damage>, last: Edit },
     /// pauli_verdict, pauli_channel and the Rust's pbc_channel.
     Program { program: Program, limits: [u64; 6], extra: (i64, i64) },
+    /// compare_list on so many pairs in words and bytes, with words lent for both channels and the work, and for answers and scalars.
+    WorkList { count: usize, words: Vec<u32>, stores: Vec<u8>, limits: [u64; 6], allowance: u64, rooms: (usize, usize, usize), places: (usize, usize) },
     /// The channels of two circuits, compared in both orders.
     Compare { left: Words, right: Words },
     /// compare (both orders), classical_blocks, povm_effects and lookup on words of any kind: those of two circuits' channels with blocks set to zero and words set to values.
@@ -710,6 +712,109 @@ fn kept(case: &Case, counts: &mut Counts) -> Fault {
         same("a question of damaged words", got, kept_asked(&PLAIN, &hurt, &w.store, limits, *lent, room)?, "plain C")?;
     }
     Ok(())
+// ---- lists of pairs
+
+/// What compare_list replies and leaves: verdict, index and total; left, right and work; answers and scalars.
+#[derive(PartialEq, Debug)]
+struct Listed(u32, u64, u64, [Vec<i64>; 3], Vec<u64>, Vec<i64>);
+
+type List<'a> = (usize, &'a [u32], &'a [u8], &'a [u64; 6], u64, (usize, usize, usize), (usize, usize));
+
+/// The noise that the five buffers hold is the same for each call.
+fn list_buffers(rooms: (usize, usize, usize), places: (usize, usize)) -> ([Lent<i64>; 3], Lent<u64>, Lent<i64>) {
+    let mut rng = Rng(rooms.0 as u64 + places.0 as u64);
+    ([rooms.0, rooms.1, rooms.2].map(|n| Lent::noise(&mut rng, n)), Lent::noise(&mut rng, places.0), Lent::noise(&mut rng, places.1))
+}
+
+fn list_call(calls: &Calls, (count, words, stores, limits, allowance, rooms, places): List) -> Result<Listed, String> {
+    let mut rng = Rng(count as u64);
+    let ([mut left, mut right, mut work], mut answers, mut scalars) = list_buffers(rooms, places);
+    let (words, stores) = (Lent::holding(&mut rng, words), Lent::holding(&mut rng, stores));
+    let (mut total, mut index) = (Lent::<u64>::noise(&mut rng, 1), Lent::<u64>::noise(&mut rng, 1));
+    let verdict = unsafe {
+        (calls.compare_list)(count, words.ptr(), words.len(), stores.ptr(), stores.len(), limits.as_ptr(), allowance, left.mut_ptr(), left.len(), right.mut_ptr(), right.len(),
+            work.mut_ptr(), work.len(), answers.mut_ptr(), answers.len(), scalars.mut_ptr(), scalars.len(), total.mut_ptr(), index.mut_ptr())
+    };
+    let edges = [&left, &right, &work, &scalars].iter().all(|b| b.edges_kept()) && answers.edges_kept() && total.edges_kept() && index.edges_kept();
+    if !(words.kept() && stores.kept() && edges) {
+        return Err(format!("{}: compare_list changed other words than its buffers'", calls.name));
+    }
+    Ok(Listed(verdict, index.words()[0], total.words()[0], [left, right, work].map(|b| b.words().to_vec()), answers.words().to_vec(), scalars.words().to_vec()))
+}
+
+/// The circuits of a list, or the place of the first pair that is not there.
+fn list_pairs(count: usize, mut words: &[u32], mut stores: &[u8]) -> Result<Vec<[Words; 2]>, u64> {
+    let mut pairs = Vec::new();
+    for place in 0..count {
+        let head: [u32; 6] = words.get(..6).and_then(|h| h.try_into().ok()).ok_or(place as u64)?;
+        words = &words[6..];
+        let mut take = |h: &[u32]| -> Option<Words> {
+            let (gates, store) = (words.get(..h[2] as usize)?.to_vec(), stores.get(..h[1] as usize)?.to_vec());
+            (words, stores) = (&words[h[2] as usize..], &stores[h[1] as usize..]);
+            Some(Words { qubits: h[0], bits: h[1], store, gates })
+        };
+        pairs.push([take(&head[..3]).ok_or(place as u64)?, take(&head[3..]).ok_or(place as u64)?]);
+    }
+    if words.is_empty() && stores.is_empty() { Ok(pairs) } else { Err(count as u64) }
+}
+
+/// Question 8's terms, of an accepted circuit.
+pub fn terms(w: &Words) -> u64 {
+    let (b, d) = (1u64 << w.splits().0, 1u64 << w.qubits);
+    2 * (w.gates.len() as u64 / 5) * b * d.pow(3) + b * d.pow(4)
+}
+
+/// The rule of the list, by circuit_channel and compare of the archive, pair by pair and each in buffers of its own.
+fn list_due((count, words, stores, limits, allowance, rooms, places): List) -> Result<Listed, String> {
+    let ([left, right, work], answers, scalars) = list_buffers(rooms, places);
+    let kept = |verdict, index| Ok(Listed(verdict, index, 0, [&left, &right, &work].map(|b| b.words().to_vec()), answers.words().to_vec(), scalars.words().to_vec()));
+    if count > 32 {
+        return kept(24, 0);
+    }
+    let pairs = match list_pairs(count, words, stores) {
+        Ok(pairs) => pairs,
+        Err(place) => return kept(5, place),
+    };
+    if places.0 < 7 * count || places.1 < 10 * count {
+        return kept(8, 0);
+    }
+    let (mut told, mut numbers, mut spent) = (answers.words().to_vec(), scalars.words().to_vec(), 0u64);
+    for (i, pair) in pairs.iter().enumerate() {
+        let ask = |w: &Words, room: usize| {
+            let (mut result, mut work, mut index) = (vec![0; room], vec![0; rooms.2], 0);
+            let verdict = unsafe {
+                (ARCHIVE.circuit_channel)(w.qubits, w.bits, w.store.as_ptr(), w.store.len(), w.gates.as_ptr(), w.gates.len(), limits.as_ptr(), result.as_mut_ptr(), room, work.as_mut_ptr(), work.len(), &mut index)
+            };
+            (verdict, index, result)
+        };
+        let (l, r) = (ask(&pair[0], rooms.0), ask(&pair[1], rooms.1));
+        let refused = [(105, &l), (106, &r)].into_iter().find(|(_, x)| x.0 != 0);
+        let (answer, pairs_numbers) = if let Some((side, x)) = refused {
+            ([side, 0, 0, 0, 0, x.0 as u64, x.1], [0; 10])
+        } else {
+            let cost = terms(&pair[0]) + terms(&pair[1]);
+            if cost as u128 + spent as u128 > allowance as u128 {
+                ([107, cost, 0, 0, 0, 0, 0], [0; 10])
+            } else {
+                let (reply, place, numbers) = compare_call(&ARCHIVE, &l.2, &r.2)?;
+                spent += cost;
+                ([reply as u64, cost, place[0], place[1], place[2], 0, 0], numbers)
+            }
+        };
+        told[7 * i..7 * i + 7].copy_from_slice(&answer);
+        numbers[10 * i..10 * i + 10].copy_from_slice(&pairs_numbers);
+    }
+    Ok(Listed(0, 0, spent, [rooms.0, rooms.1, rooms.2].map(|n| vec![0; n]), told, numbers))
+}
+
+fn work_list(list: List, counts: &mut Counts) -> Fault {
+    let got = list_call(&ARCHIVE, list)?;
+    counts.add("compare_list", false, got.0);
+    if got.0 == 0 {
+        got.4.chunks_exact(7).take(list.0).for_each(|a| counts.add("an answer of compare_list", false, a[0]));
+    }
+    same("compare_list", &got, &list_call(&PLAIN, list)?, "plain C")?;
+    same("compare_list", &got, &list_due(list)?, "the rule of lists")
 }
 
 fn compare_call(calls: &Calls, left: &[i64], right: &[i64]) -> Result<(u32, [u64; 3], [i64; 10]), String> {
@@ -1021,6 +1126,7 @@ pub fn check(case: &Case, counts: &mut Counts) -> Fault {
         Case::Schedule { words, new, table } => schedule(words, new, table, counts),
         Case::Kept { .. } => kept(case, counts),
         Case::Program { program, limits, extra } => programs::check(program, limits, *extra, counts),
+        Case::WorkList { count, words, stores, limits, allowance, rooms, places } => work_list((*count, words, stores, limits, *allowance, *rooms, *places), counts),
         Case::Compare { left, right } => {
             let (x, y) = (channel(left, &CEILINGS, (0, 0), counts)?, channel(right, &CEILINGS, (0, 0), counts)?);
             let (Some((x, a)), Some((y, b))) = (x, y) else { return Ok(()) };
@@ -1163,6 +1269,21 @@ fn smaller(case: &Case) -> Vec<Case> {
                 out.push(Case::Layers { words: words.clone(), ends: ends.clone(), limits: *limits, extra: (0, 0), shuffle: *shuffle });
             }
             out
+        }
+        Case::WorkList { count, words, stores, limits, allowance, rooms, places } => {
+            let Ok(pairs) = list_pairs(*count, words, stores) else { return Vec::new() };
+            // a pair less
+            (0..pairs.len())
+                .map(|gone| {
+                    let (mut words, mut stores) = (Vec::new(), Vec::new());
+                    for (_, pair) in pairs.iter().enumerate().filter(|(i, _)| *i != gone) {
+                        pair.iter().for_each(|w| words.extend([w.qubits, w.bits, w.gates.len() as u32]));
+                        pair.iter().for_each(|w| words.extend(&w.gates));
+                        pair.iter().for_each(|w| stores.extend(&w.store));
+                    }
+                    Case::WorkList { count: count - 1, words, stores, limits: *limits, allowance: *allowance, rooms: *rooms, places: *places }
+                })
+                .collect()
         }
         Case::Schedule { words, new, table } => {
             let with = |words: Words, new: Vec<u32>, table: Vec<u32>| Case::Schedule { words, new, table };
