@@ -11,7 +11,7 @@ returns : tie.Need-returns
 returns c =
     let j = c .before in
     let k = j .before in
-    let a = k .before .before .before .args in
+    let a = k .before .before .args in
     c .number .ensures
     ∙ ap verdictNumber (j .judge-kept .ensures ∙ ap (λ (l : Limits). keptVerdict (a .words .now) (a .store .now) l (a .result-words) (a .work-words)) (k .read-limits .ensures))
 
