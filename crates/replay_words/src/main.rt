@@ -20,7 +20,7 @@ ghost use Rattle.replay.specs.Progress.{withNext, replayOf};
 ghost use Rattle.replay_words.specs.Cases.{caseOf};
 
 // Room for the text.
-const TEXT: usize = 250000;
+const TEXT: usize = 340000;
 
 // A case of this kind, behind its heading.
 fn case(kind: u64, text: &[u8], at: usize) -> Record

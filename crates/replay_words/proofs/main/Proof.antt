@@ -7,4 +7,4 @@ use Rattle.replay_words.proofs.main.Statement.{statement}
 use Rattle.replay_words.proofs.main.Tie as tie
 
 pub main-spec : {M : Type 1} → statement M
-main-spec = tie.close (tie.spec (λ c. sym (length-replicate {A = ℕ} 250000 0)) (λ c κs. search needs) (λ c. search needs))
+main-spec = tie.close (tie.spec (λ c. sym (length-replicate {A = ℕ} 340000 0)) (λ c κs. search needs) (λ c. search needs))
