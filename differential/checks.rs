@@ -712,6 +712,8 @@ fn kept(case: &Case, counts: &mut Counts) -> Fault {
         same("a question of damaged words", got, kept_asked(&PLAIN, &hurt, &w.store, limits, *lent, room)?, "plain C")?;
     }
     Ok(())
+}
+
 // ---- lists of pairs
 
 /// What compare_list replies and leaves: verdict, index and total; left, right and work; answers and scalars.
