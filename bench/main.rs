@@ -453,6 +453,9 @@ fn main() {
         ]);
         assert!(a == b && a == source, "the archive and plain C leave other words");
         let line = Line { name: format!("{name} | 1"), deep: false, rust: f64::NAN, archive: t[0], plain: t[1], floor: t[2], copy: t[3], zeroing: 0.0 };
+        line.print();
+        lines.push(line);
+    }
     // 32 pairs of the same circuit on 3 qubits, all of them served
     if only.as_ref().is_none_or(|o| listed.contains(o.as_str())) {
         let w = row("list", false, 3, 0, &deep(3, 48, false)).words;
