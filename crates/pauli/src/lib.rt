@@ -1,1 +1,0 @@
-// The channel of a Pauli program: definitions and laws; nothing here runs.

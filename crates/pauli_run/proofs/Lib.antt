@@ -1,4 +1,0 @@
-pub mod Paths
-pub mod Forms
-pub mod Axes
-pub mod Running

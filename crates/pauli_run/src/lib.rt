@@ -1,3 +1,0 @@
-// Pauli programs, run on branches in lent words.
-pub mod operators;
-pub mod run;
