@@ -1,3 +1,0 @@
-pub mod Sizes
-pub mod Numbers
-pub mod Rows

@@ -1,2 +1,0 @@
--- What inner functions ask and proofs need.
-pub mod Overlap
