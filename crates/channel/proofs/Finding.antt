@@ -8,7 +8,7 @@ use lib.Dec.{eqb}
 use lib.ListN.{length, take, drop}
 use lib.IntN.{ℤ, natAbs}
 use Rattle.algebra.specs.Words.{fromBits}
-use Rattle.channel.specs.Layout.{recordSize, side, word, storeAt, dimAt, bitsAt, countAt}
+use Rattle.channel.specs.Layout.{channels, recordSize, word, storeAt, dimAt, bitsAt, countAt}
 use Rattle.channel.specs.WellFormed.{wellFormed, formVerdict}
 use Rattle.channel.specs.Inner.Shapes.{Onward}
 use Rattle.store.specs.Store.{storeFits}
@@ -45,15 +45,15 @@ part-span l missing = refl
 part-span l (found at) = refl
 
 -- ---- what is found lies inside the words
-pub find-inside : {l : List ℤ} (s n at : ℕ) → Onward l n at → (a : ℕ) → find l s n at ≡ a → 0 < a → a + recordSize (side (dimAt l)) ≤ length l
+pub find-inside : {l : List ℤ} (s n at : ℕ) → Onward l n at → (a : ℕ) → find l s n at ≡ a → 0 < a → a + recordSize (channels (dimAt l)) ≤ length l
 find-inside {l} s zero at o a e h = absurd (omega (arith, sym e ∙ find-none l s 0 at (omega arith)))
 find-inside {l} s (suc n) at o a e h = go (eqb (storeAt l at) s) refl (λ q. find-inside s n (natAbs (word l at)) (subst (λ (k : ℕ). Onward l k (natAbs (word l at))) less (on-next o (omega arith))) a q h)
   where
     less : suc n - 1 ≡ n
     less = omega arith
 
-    go : (b : Bool) → eqb (storeAt l at) s ≡ b → (find l s n (natAbs (word l at)) ≡ a → a + recordSize (side (dimAt l)) ≤ length l) → a + recordSize (side (dimAt l)) ≤ length l
-    go true t r = subst (λ (k : ℕ). k + recordSize (side (dimAt l)) ≤ length l) (sym (finds l s (suc n) at (omega arith) t) ∙ e) (on-inside o (omega arith))
+    go : (b : Bool) → eqb (storeAt l at) s ≡ b → (find l s n (natAbs (word l at)) ≡ a → a + recordSize (channels (dimAt l)) ≤ length l) → a + recordSize (channels (dimAt l)) ≤ length l
+    go true t r = subst (λ (k : ℕ). k + recordSize (channels (dimAt l)) ≤ length l) (sym (finds l s (suc n) at (omega arith) t) ∙ e) (on-inside o (omega arith))
     go false t r = r (sym (ap (λ (k : ℕ). find l s k (natAbs (word l at))) less) ∙ sym (seeks l s (suc n) at (omega arith) t) ∙ e)
 
 module _ (l : List ℤ) (bs : List ℕ) where
@@ -69,7 +69,7 @@ module _ (l : List ℤ) (bs : List ℕ) where
   pub look-placed : accepted (formVerdict l) ≡ true → storeFits (bitsAt l) bs ≡ true → lookupOf l bs ≡ placed index
   look-placed e f = λ i. cond (e i) (cond (f i) (placed index) wrongStore) refused
 
-  pub index-inside : wellFormed l ≡ true → (a : ℕ) → index ≡ a → 0 < a → a + recordSize (side (dimAt l)) ≤ length l
+  pub index-inside : wellFormed l ≡ true → (a : ℕ) → index ≡ a → 0 < a → a + recordSize (channels (dimAt l)) ≤ length l
   index-inside e = find-inside (fromBits bs) (countAt l) (natAbs (word l 3)) (onward-begin l e)
 
   pub span-inside : spanOf l (lookupOf l bs) .start + spanOf l (lookupOf l bs) .size ≤ length l
@@ -78,7 +78,7 @@ module _ (l : List ℤ) (bs : List ℕ) where
       Inside : Lookup → Type 0
       Inside x = spanOf l x .start + spanOf l x .size ≤ length l
 
-      placed-inside : (a : ℕ) → (0 < a → a + recordSize (side (dimAt l)) ≤ length l) → Inside (placed a)
+      placed-inside : (a : ℕ) → (0 < a → a + recordSize (channels (dimAt l)) ≤ length l) → Inside (placed a)
       placed-inside zero h = omega arith
       placed-inside (suc a) h = let q = h (omega arith) in omega arith
 

@@ -14,10 +14,10 @@ use Rattle.algebra.proofs.Tests.{and-split}
 use Rattle.verdict.specs.declared.Verdict.{Verdict}
 use Rattle.verdict.specs.declared.Verdict.the-variants.{Malformed}
 use Rattle.verdict.specs.Verdict.{verdictNumber, accepted}
-use Rattle.channel.specs.Layout.{headerSize, recordSize, side, word, entryAt, storeAt, dimAt, bitsAt, countAt, chain}
+use Rattle.channel.specs.Layout.{Form, full, channels, headerSize, recordSize, side, word, entryAt, storeAt, dimAt, bitsAt, countAt, chain}
 use Rattle.channel.specs.declared.Shape.{Shape}
 use Rattle.channel.specs.declared.well_formed.Judged.{Judged}
-use Rattle.channel.specs.WellFormed.{isDim, isStart, recordOk, chainOk, headerOk, chained, wellFormed, allZero, someZero, hasZeroBlock, verdictBy, formVerdict}
+use Rattle.channel.specs.WellFormed.{isDim, isStart, recordOk, chainOk, headerOk, chained, wellFormedIn, wellFormed, allZero, someZero, hasZeroBlock, verdictBy, formVerdict}
 use Rattle.channel.specs.Inner.Shapes.{judged, Room, shapeAt, shapeOf, noShape, shapeBy}
 use Rattle.store.proofs.Words.{up-abs}
 use Rattle.channel.proofs.Words.{dim-range, square-small}
@@ -38,32 +38,32 @@ pub is-good : (y : Bool) (n : ℕ) (b z : Bool) (s : ℕ) → y ≡ z → n ≡ 
 is-good y n b z s d e f = (λ i. judged (sym f i) (d i) (e i))
 
 -- ---- one step along the chain
-module _ (l : List ℤ) (w m count n : ℕ) (z : ℤ) (first : Bool) (prev : ℕ) (h : 0 < n) where
+module _ (F : Form) (l : List ℤ) (m count n : ℕ) (z : ℤ) (first : Bool) (prev : ℕ) (h : 0 < n) where
   abbrev rest : Bool
-  rest = chainOk l w m count (n - 1) (word l (natAbs z)) false (storeAt l (natAbs z))
+  rest = chainOk F l m count (n - 1) (word l (natAbs z)) false (storeAt l (natAbs z))
 
-  step : chainOk l w m count n z first prev ≡ (isStart w count z && (recordOk l w m (natAbs z) first prev && rest))
+  step : chainOk F l m count n z first prev ≡ (isStart F count z && (recordOk F l m (natAbs z) first prev && rest))
   unfolding chainOk
-  step = let e : n ≡ suc (n - 1) = omega arith in ap (λ (k : ℕ). chainOk l w m count k z first prev) e
+  step = let e : n ≡ suc (n - 1) = omega arith in ap (λ (k : ℕ). chainOk F l m count k z first prev) e
 
-  pub no-start : isStart w count z ≡ false → chainOk l w m count n z first prev ≡ false
-  no-start e = step ∙ ap (λ (b : Bool). b && (recordOk l w m (natAbs z) first prev && rest)) e
+  pub no-start : isStart F count z ≡ false → chainOk F l m count n z first prev ≡ false
+  no-start e = step ∙ ap (λ (b : Bool). b && (recordOk F l m (natAbs z) first prev && rest)) e
 
-  pub no-record : isStart w count z ≡ true → recordOk l w m (natAbs z) first prev ≡ false → chainOk l w m count n z first prev ≡ false
+  pub no-record : isStart F count z ≡ true → recordOk F l m (natAbs z) first prev ≡ false → chainOk F l m count n z first prev ≡ false
   no-record e f = step ∙ (λ i. e i && (f i && rest))
 
-  pub goes-on : isStart w count z ≡ true → recordOk l w m (natAbs z) first prev ≡ true → chainOk l w m count n z first prev ≡ rest
+  pub goes-on : isStart F count z ≡ true → recordOk F l m (natAbs z) first prev ≡ true → chainOk F l m count n z first prev ≡ rest
   goes-on e f = step ∙ (λ i. e i && (f i && rest))
 
   -- what a chain that is right says of its first record
-  pub chain-start : chainOk l w m count n z first prev ≡ true → isStart w count z ≡ true
-  chain-start e = and-split (isStart w count z) _ (sym step ∙ e) .0
+  pub chain-start : chainOk F l m count n z first prev ≡ true → isStart F count z ≡ true
+  chain-start e = and-split (isStart F count z) _ (sym step ∙ e) .0
 
-  pub chain-record : chainOk l w m count n z first prev ≡ true → recordOk l w m (natAbs z) first prev ≡ true
-  chain-record e = and-split (recordOk l w m (natAbs z) first prev) _ (and-split (isStart w count z) _ (sym step ∙ e) .1) .0
+  pub chain-record : chainOk F l m count n z first prev ≡ true → recordOk F l m (natAbs z) first prev ≡ true
+  chain-record e = and-split (recordOk F l m (natAbs z) first prev) _ (and-split (isStart F count z) _ (sym step ∙ e) .1) .0
 
-  pub chain-rest : chainOk l w m count n z first prev ≡ true → rest ≡ true
-  chain-rest e = and-split (recordOk l w m (natAbs z) first prev) _ (and-split (isStart w count z) _ (sym step ∙ e) .1) .1
+  pub chain-rest : chainOk F l m count n z first prev ≡ true → rest ≡ true
+  chain-rest e = and-split (recordOk F l m (natAbs z) first prev) _ (and-split (isStart F count z) _ (sym step ∙ e) .1) .1
 
 pub or-assoc : (a b c : Bool) → (a || (b || c)) ≡ ((a || b) || c)
 or-assoc true b c = refl
@@ -75,42 +75,52 @@ or-end false = refl
 
 -- whether a block is zero, one block further along the chain, and at its end
 module _ (l : List ℤ) (w n at : ℕ) where
-  pub zero-step : 0 < n → someZero w (chain l n at) ≡ (allZero (w * w) (entryAt l at) || someZero w (chain l (n - 1) (natAbs (word l at))))
-  zero-step h = let e : n ≡ suc (n - 1) = omega arith in ap (λ (k : ℕ). someZero w (chain l k at)) e
+  pub zero-step : 0 < n → someZero w (chain (full w) l n at) ≡ (allZero (w * w) (entryAt (full w) l at) || someZero w (chain (full w) l (n - 1) (natAbs (word l at))))
+  zero-step h = let e : n ≡ suc (n - 1) = omega arith in ap (λ (k : ℕ). someZero w (chain (full w) l k at)) e
 
-  pub zero-end : n ≤ 0 → someZero w (chain l n at) ≡ false
-  zero-end h = let e : n ≡ 0 = omega arith in ap (λ (k : ℕ). someZero w (chain l k at)) e
+  pub zero-end : n ≤ 0 → someZero w (chain (full w) l n at) ≡ false
+  zero-end h = let e : n ≡ 0 = omega arith in ap (λ (k : ℕ). someZero w (chain (full w) l k at)) e
 
-pub chain-end : (l : List ℤ) (w m count n : ℕ) (z : ℤ) (first : Bool) (prev : ℕ) → n ≤ 0 → chainOk l w m count n z first prev ≡ eqℤ z (pos 0)
+pub chain-end : (F : Form) (l : List ℤ) (m count n : ℕ) (z : ℤ) (first : Bool) (prev : ℕ) → n ≤ 0 → chainOk F l m count n z first prev ≡ eqℤ z (pos 0)
 unfolding chainOk
-chain-end l w m count n z first prev h = let e : n ≡ 0 = omega arith in ap (λ (k : ℕ). chainOk l w m count k z first prev) e
+chain-end F l m count n z first prev h = let e : n ≡ 0 = omega arith in ap (λ (k : ℕ). chainOk F l m count k z first prev) e
 
 -- ---- the header
--- room for the records that a right header announces
+-- what a right header says
+pub record HeadedIn (F : Form) (l : List ℤ) : Type 0 where
+  pub dim : isDim (word l 0) ≡ true
+  pub some : 1 ≤ dimAt l
+  pub small : dimAt l ≤ 16
+  pub few : bitsAt l ≤ 64
+  pub inside : headerSize + countAt l * recordSize F ≤ length l
+
+pub headed-in : (F : Form) (l : List ℤ) → headerOk F l ≡ true → HeadedIn F l
+headed-in F l e =
+    let t = and-split (leb headerSize (length l)) _ e in
+    let u = and-split (isDim (word l 0) && upTo 64 (word l 1)) _ (t .1) in
+    let v = and-split (isDim (word l 0)) _ (u .0) in
+    let d = dim-range (word l 0) (v .0) in
+    record {
+      dim = v .0;
+      some = d .1;
+      small = up-abs 16 (word l 0) (d .0);
+      few = up-abs 64 (word l 1) (v .1);
+      inside = fit (recordSize F) (countAt l) (length l) (omega arith) (leb-true headerSize (length l) (t .0)) (up-abs _ (word l 2) (u .1));
+    }
+  where
+    fit : (s n k : ℕ) → 1 ≤ s → headerSize ≤ k → n ≤ (k - headerSize) / s → headerSize + n * s ≤ k
+    fit s n k p h q = let r = le-div-iff-mul-le p .0 q in omega arith
+
+-- room for the records that the right header of a channel announces
 pub record Headed (l : List ℤ) : Type 0 where
   pub some : 1 ≤ dimAt l
   pub small : dimAt l ≤ 16
   pub room : Room l (side (dimAt l)) (bitsAt l) (countAt l)
 
-pub headed : (l : List ℤ) → headerOk l ≡ true → Headed l
+pub headed : (l : List ℤ) → headerOk (channels (dimAt l)) l ≡ true → Headed l
 headed l e =
-    let t = and-split (leb headerSize (length l)) _ e in
-    let u = and-split (isDim (word l 0) && upTo 64 (word l 1)) _ (t .1) in
-    let v = and-split (isDim (word l 0)) _ (u .0) in
-    let d = dim-range (word l 0) (v .0) in
-    let small = up-abs 16 (word l 0) (d .0) in
-    record {
-      some = d .1;
-      small = small;
-      room = record {
-        width = square-small (dimAt l) small;
-        few = up-abs 64 (word l 1) (v .1);
-        inside = fit (recordSize (side (dimAt l))) (countAt l) (length l) (omega arith) (leb-true headerSize (length l) (t .0)) (up-abs _ (word l 2) (u .1));
-      };
-    }
-  where
-    fit : (s n k : ℕ) → 1 ≤ s → headerSize ≤ k → n ≤ (k - headerSize) / s → headerSize + n * s ≤ k
-    fit s n k p h q = let r = le-div-iff-mul-le p .0 q in omega arith
+    let h = headed-in (channels (dimAt l)) l e in
+    record { some = h .some; small = h .small; room = record { width = square-small (dimAt l) (h .small); few = h .few; inside = h .inside } }
 
 -- what a verdict says of its two tests
 pub verdict-test : (b : Bool) → accepted (verdictBy b false) ≡ b
@@ -156,19 +166,30 @@ module _ (l : List ℤ) (v : Verdict) (h : Shape) (e : h ≡ shapeBy v l) where
   pub shape-no : accepted (h .verdict) ≡ false → h ≡ noShape v
   shape-no f = e ∙ ap (λ (b : Bool). cond b (shapeAt l) (noShape v)) (sym shape-test ∙ f)
 
--- the verdict, by the header and what is found along the chain
-module _ (l : List ℤ) where
-  pub well-formed : (b : Bool) → headerOk l ≡ true → chained l ≡ b → wellFormed l ≡ b
-  unfolding wellFormed
+-- words that are well formed in a form: their header, and their chain
+module _ (F : Form) (l : List ℤ) where
+  pub well-formed : (b : Bool) → headerOk F l ≡ true → chained F l ≡ b → wellFormedIn F l ≡ b
+  unfolding wellFormedIn
   well-formed b e f = λ i. e i && f i
 
-  pub bad-header : headerOk l ≡ false → formVerdict l ≡ Malformed
-  unfolding wellFormed
-  bad-header e = ap (λ (b : Bool). verdictBy (b && chained l) (hasZeroBlock l)) e
+  pub formed-in : wellFormedIn F l ≡ true → HeadedIn F l × (chained F l ≡ true)
+  unfolding wellFormedIn
+  formed-in e = let t = and-split (headerOk F l) (chained F l) e in (headed-in F l (t .0), t .1)
 
-  pub form-along : headerOk l ≡ true → formVerdict l ≡ verdictBy (chained l) (hasZeroBlock l)
-  unfolding wellFormed
-  form-along e = ap (λ (b : Bool). verdictBy (b && chained l) (hasZeroBlock l)) e
+-- a channel is in its own form
+pub in-channel : (l : List ℤ) → wellFormed l ≡ wellFormedIn (channels (dimAt l)) l
+unfolding wellFormed
+in-channel l = refl
+
+-- the verdict, by the header and what is found along the chain
+module _ (l : List ℤ) where
+  pub bad-header : headerOk (channels (dimAt l)) l ≡ false → formVerdict l ≡ Malformed
+  unfolding wellFormed wellFormedIn
+  bad-header e = ap (λ (b : Bool). verdictBy (b && chained (channels (dimAt l)) l) (hasZeroBlock l)) e
+
+  pub form-along : headerOk (channels (dimAt l)) l ≡ true → formVerdict l ≡ verdictBy (chained (channels (dimAt l)) l) (hasZeroBlock l)
+  unfolding wellFormed wellFormedIn
+  form-along e = ap (λ (b : Bool). verdictBy (b && chained (channels (dimAt l)) l) (hasZeroBlock l)) e
 
   -- the verdict of the shape
   pub shape-verdict : (h : Shape) → h ≡ shapeOf l → h .verdict ≡ formVerdict l
@@ -191,8 +212,8 @@ module _ (l : List ℤ) where
 -- a well-formed channel: its header, and its chain
 pub record Formed (l : List ℤ) : Type 0 where
   pub head : Headed l
-  pub chain : chained l ≡ true
+  pub chain : chained (channels (dimAt l)) l ≡ true
 
 pub formed : (l : List ℤ) → wellFormed l ≡ true → Formed l
-unfolding wellFormed
-formed l e = let t = and-split (headerOk l) (chained l) e in record { head = headed l (t .0); chain = t .1 }
+unfolding wellFormed wellFormedIn
+formed l e = let t = and-split (headerOk (channels (dimAt l)) l) (chained (channels (dimAt l)) l) e in record { head = headed l (t .0); chain = t .1 }

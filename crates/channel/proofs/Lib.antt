@@ -1,3 +1,5 @@
+pub mod Shared
+pub mod Zeros
 pub mod Words
 pub mod Judging
 pub mod Chain
@@ -8,7 +10,18 @@ pub mod Sorted
 pub mod First
 pub mod Stores
 pub mod Claims
+pub mod Alike
 pub mod Visits
 pub mod Least
+pub mod Restore
+pub mod Full
 pub mod Written
 pub mod RoundTrip
+pub mod Recast
+pub mod Trail
+pub mod Canonical
+pub mod Deciding
+pub mod Sizes
+pub mod ByWords
+pub mod Pass
+pub mod Examples

@@ -12,13 +12,18 @@ use Rattle.channel.specs.declared.compare.Difference.{Difference}
 use Rattle.channel.specs.declared.compare.Found.the-variants.{Same}
 use Rattle.channel.specs.declared.compare.Turn.{Turn}
 use Rattle.channel.specs.declared.compare.Cursor.{Cursor}
+use Rattle.algebra.proofs.Tests.{and-split}
 use Rattle.store.specs.Store.{before}
-use Rattle.channel.specs.Layout.{entrySize, recordSize, entryPlace, side, word, storeAt, dimAt, countAt, chain, readBack}
+use Rattle.channel.specs.Layout.{Block, recordHead, channels, side, word, storeAt, dimAt, countAt, chain, readBack}
 use Rattle.channel.specs.WellFormed.{wellFormed}
-use Rattle.channel.specs.Inner.Shapes.{Onward}
+use Rattle.channel.specs.Inner.Shapes.{Onward, Entries}
 use Rattle.channel.specs.Compare.{Both, isSame, plain, orElse, scan, first, merge}
-use Rattle.channel.specs.Inner.Walk.{bothAt, onLeft, onRight, onBoth, turnBy, turnOf, cursorAt, advance, On, Held}
-use Rattle.channel.proofs.Chain.{onward-begin, on-inside, on-exponent, on-next}
+use Rattle.channel.specs.Inner.Walk.{bothAt, onLeft, onRight, onBoth, turnBy, turnOf, cursorAt, advance, On}
+use Rattle.channel.proofs.Chain.{onward-begin, on-inside, on-block, on-next}
+
+-- the blocks along the chain of a channel
+abbrev along : List ℤ → ℕ → ℕ → List Block
+along l = chain (channels (dimAt l)) l
 
 abbrev fewer : Bool → ℕ → ℕ
 fewer b n = cond b (n - 1) n
@@ -35,34 +40,34 @@ no e = absurd (true≢false (sym e))
 module _ (l r : List ℤ) (i j : ℕ) where
   abbrev Step : ℕ → ℕ → Turn → Type 0
   Step m n t =
-      merge (chain l m i) (chain r n j)
-      ≡ (bothAt t l i r j ∷ merge (chain l (fewer (t .left) m) (onto (t .left) l i)) (chain r (fewer (t .right) n) (onto (t .right) r j)))
+      merge (along l m i) (along r n j)
+      ≡ (bothAt t l i r j ∷ merge (along l (fewer (t .left) m) (onto (t .left) l i)) (along r (fewer (t .right) n) (onto (t .right) r j)))
 
   right-step : (n : ℕ) → Step 0 (suc n) (onRight (storeAt r j))
-  right-step n = ap (λ (k : ℕ). bothAt (onRight (storeAt r j)) l i r j ∷ merge [] (chain r k (natAbs (word r j)))) (sym (less n))
+  right-step n = ap (λ (k : ℕ). bothAt (onRight (storeAt r j)) l i r j ∷ merge [] (along r k (natAbs (word r j)))) (sym (less n))
 
   left-step : (m : ℕ) → Step (suc m) 0 (onLeft (storeAt l i))
-  left-step m = ap (λ (k : ℕ). bothAt (onLeft (storeAt l i)) l i r j ∷ merge (chain l k (natAbs (word l i))) []) (sym (less m))
+  left-step m = ap (λ (k : ℕ). bothAt (onLeft (storeAt l i)) l i r j ∷ merge (along l k (natAbs (word l i))) []) (sym (less m))
 
   module _ (m n : ℕ) where
     abbrev by : Bool → Bool → List Both
     by p q =
-        cond p (bothAt (onBoth (storeAt l i)) l i r j ∷ merge (chain l m (natAbs (word l i))) (chain r n (natAbs (word r j))))
-        (cond q (bothAt (onLeft (storeAt l i)) l i r j ∷ merge (chain l m (natAbs (word l i))) (chain r (suc n) j))
-        (bothAt (onRight (storeAt r j)) l i r j ∷ merge (chain l (suc m) i) (chain r n (natAbs (word r j)))))
+        cond p (bothAt (onBoth (storeAt l i)) l i r j ∷ merge (along l m (natAbs (word l i))) (along r n (natAbs (word r j))))
+        (cond q (bothAt (onLeft (storeAt l i)) l i r j ∷ merge (along l m (natAbs (word l i))) (along r (suc n) j))
+        (bothAt (onRight (storeAt r j)) l i r j ∷ merge (along l (suc m) i) (along r n (natAbs (word r j)))))
 
     pub both-step : eqb (storeAt l i) (storeAt r j) ≡ true → Step (suc m) (suc n) (onBoth (storeAt l i))
     both-step e =
         ap (λ (b : Bool). by b (before (storeAt l i) (storeAt r j))) e
-        ∙ (λ k. bothAt (onBoth (storeAt l i)) l i r j ∷ merge (chain l (sym (less m) k) (natAbs (word l i))) (chain r (sym (less n) k) (natAbs (word r j))))
+        ∙ (λ k. bothAt (onBoth (storeAt l i)) l i r j ∷ merge (along l (sym (less m) k) (natAbs (word l i))) (along r (sym (less n) k) (natAbs (word r j))))
 
     pub less-step : eqb (storeAt l i) (storeAt r j) ≡ false → before (storeAt l i) (storeAt r j) ≡ true → Step (suc m) (suc n) (onLeft (storeAt l i))
     less-step e f =
-        (λ k. by (e k) (f k)) ∙ (λ k. bothAt (onLeft (storeAt l i)) l i r j ∷ merge (chain l (sym (less m) k) (natAbs (word l i))) (chain r (suc n) j))
+        (λ k. by (e k) (f k)) ∙ (λ k. bothAt (onLeft (storeAt l i)) l i r j ∷ merge (along l (sym (less m) k) (natAbs (word l i))) (along r (suc n) j))
 
     pub more-step : eqb (storeAt l i) (storeAt r j) ≡ false → before (storeAt l i) (storeAt r j) ≡ false → Step (suc m) (suc n) (onRight (storeAt r j))
     more-step e f =
-        (λ k. by (e k) (f k)) ∙ (λ k. bothAt (onRight (storeAt r j)) l i r j ∷ merge (chain l (suc m) i) (chain r (sym (less n) k) (natAbs (word r j))))
+        (λ k. by (e k) (f k)) ∙ (λ k. bothAt (onRight (storeAt r j)) l i r j ∷ merge (along l (suc m) i) (along r (sym (less n) k) (natAbs (word r j))))
 
   -- a turn, and that the sides which take part have a record
   pub record Turns (m n : ℕ) (t : Turn) : Type 0 where
@@ -126,17 +131,11 @@ on-advance true l c o h = record { walk = on-next (o .walk) (h refl); is = refl 
 on-advance false l c o h = o
 
 -- ---- the entries of a record on the walk
-pub held : (b : Bool) (l : List ℤ) (n at w k : ℕ) → Onward l n at → (b ≡ true → 0 < n) → w ≡ side (dimAt l) → k < w * w → Held b l at k
-held b l n at w k o h e q = record {
-  inside = λ t. by (side (dimAt l)) (on-inside o (h t)) below;
-  exponent = λ t. on-exponent o (h t) k below;
-}
+pub entries-held : (l : List ℤ) (n at w : ℕ) → Onward l n at → 0 < n → w ≡ side (dimAt l) → Entries l at (w * w)
+entries-held l n at w o h e = subst (λ (v : ℕ). Entries l at (v * v)) (sym e) (record { inside = by (side (dimAt l) * side (dimAt l)) (on-inside o h); exponent = and-split _ _ (on-block o h) .0 })
   where
-    below : k < side (dimAt l) * side (dimAt l)
-    below = subst (λ (v : ℕ). k < v * v) e q
-
-    by : (v : ℕ) → at + recordSize v ≤ length l → k < v * v → entryPlace at k + entrySize ≤ length l
-    by v p q = omega arith
+    by : (v : ℕ) → at + (recordHead + v * 4) ≤ length l → at + recordHead + v * 4 ≤ length l
+    by v p = omega arith
 
 -- ---- the whole walk
 pub on-cursor : {l : List ℤ} {c : Cursor} {n at : ℕ} → c ≡ cursorAt l n at → Onward l n at → On l c
@@ -145,14 +144,14 @@ on-cursor {l} e o = subst (On l) (sym e) (record { walk = o; is = refl })
 pub record Walking (l r : List ℤ) (w : ℕ) (a b : Cursor) : Type 0 where
   pub left : On l a
   pub right : On r b
-  pub is : first w (merge (readBack l) (readBack r)) ≡ first w (merge (chain l (a .left) (a .at)) (chain r (b .left) (b .at)))
+  pub is : first w (merge (readBack l) (readBack r)) ≡ first w (merge (along l (a .left) (a .at)) (along r (b .left) (b .at)))
 
 pub walking-begin : {l r : List ℤ} {w : ℕ} {a b : Cursor} → wellFormed l ≡ true → wellFormed r ≡ true
     → a ≡ cursorAt l (countAt l) (natAbs (word l 3)) → b ≡ cursorAt r (countAt r) (natAbs (word r 3)) → Walking l r w a b
 walking-begin {l} {r} {w} e f p q = record {
   left = on-cursor p (onward-begin l e);
   right = on-cursor q (onward-begin r f);
-  is = sym (λ i. first w (merge (chain l (p i .left) (p i .at)) (chain r (q i .left) (q i .at))));
+  is = sym (λ i. first w (merge (along l (p i .left) (p i .at)) (along r (q i .left) (q i .at))));
 }
 
 module _ {l r : List ℤ} {w : ℕ} {a b : Cursor} (k : Walking l r w a b) (h : (ltb 0 (a .left) || ltb 0 (b .left)) ≡ true) where
@@ -176,12 +175,12 @@ module _ {l r : List ℤ} {w : ℕ} {a b : Cursor} (k : Walking l r w a b) (h : 
   right-some = turning .onRightSide
 
   abbrev rest : Difference
-  rest = first w (merge (chain l (advance (turn .left) l a .left) (advance (turn .left) l a .at)) (chain r (advance (turn .right) r b .left) (advance (turn .right) r b .at)))
+  rest = first w (merge (along l (advance (turn .left) l a .left) (advance (turn .left) l a .at)) (along r (advance (turn .right) r b .left) (advance (turn .right) r b .at)))
 
   step-is : first w (merge (readBack l) (readBack r)) ≡ orElse answered rest
   step-is =
       k .is ∙ ap (first w) (turning .step)
-      ∙ sym (λ i. orElse answered (first w (merge (chain l (left-of (turn .left) l a i) (at-of (turn .left) l a i)) (chain r (left-of (turn .right) r b i) (at-of (turn .right) r b i)))))
+      ∙ sym (λ i. orElse answered (first w (merge (along l (left-of (turn .left) l a i) (at-of (turn .left) l a i)) (along r (left-of (turn .right) r b i) (at-of (turn .right) r b i)))))
 
   pub walking-stop : isSame (answered .found) ≡ false → answered ≡ first w (merge (readBack l) (readBack r))
   walking-stop e = sym (step-is ∙ ap (λ (t : Bool). cond t rest answered) e)
@@ -190,7 +189,7 @@ module _ {l r : List ℤ} {w : ℕ} {a b : Cursor} (k : Walking l r w a b) (h : 
   walking-on {c} {d} e p q = record {
     left = subst (On l) (sym p) (on-advance (turn .left) l a (k .left) left-some);
     right = subst (On r) (sym q) (on-advance (turn .right) r b (k .right) right-some);
-    is = step-is ∙ ap (λ (t : Bool). cond t rest answered) e ∙ sym (λ i. first w (merge (chain l (p i .left) (p i .at)) (chain r (q i .left) (q i .at))));
+    is = step-is ∙ ap (λ (t : Bool). cond t rest answered) e ∙ sym (λ i. first w (merge (along l (p i .left) (p i .at)) (along r (q i .left) (q i .at))));
   }
 
   pub walking-less : {c d : Cursor} → c ≡ advance (turn .left) l a → d ≡ advance (turn .right) r b → c .left + d .left < a .left + b .left
@@ -208,7 +207,7 @@ module _ {l r : List ℤ} {w : ℕ} {a b : Cursor} (k : Walking l r w a b) (h : 
 pub walking-done : {l r : List ℤ} {w : ℕ} {a b : Cursor} → Walking l r w a b → (ltb 0 (a .left) || ltb 0 (b .left)) ≡ false → plain Same ≡ first w (merge (readBack l) (readBack r))
 walking-done {l} {r} {w} {a} {b} k h = sym (k .is ∙ by (a .left) (b .left) h)
   where
-    by : (m n : ℕ) → (ltb 0 m || ltb 0 n) ≡ false → first w (merge (chain l m (a .at)) (chain r n (b .at))) ≡ plain Same
+    by : (m n : ℕ) → (ltb 0 m || ltb 0 n) ≡ false → first w (merge (along l m (a .at)) (along r n (b .at))) ≡ plain Same
     by zero zero e = refl
     by zero (suc n) e = absurd (omega (arith, ltb-false 0 (suc n) e))
     by (suc m) n e = absurd (true≢false (sym (ap (λ (t : Bool). t || ltb 0 n) (lt-ltb 0 (suc m) (omega arith))) ∙ e))

@@ -1,8 +1,8 @@
 -- The scan of two blocks for their first unequal entry, step by step.
-use mathlib.Core.Path.{_≡_, sym, ap, _∙_}
+use mathlib.Core.Path.{_≡_, refl, sym, ap, _∙_}
 use mathlib.Core.Bool.{Bool, true, false, cond}
-use Prim.Native.Nat.{ℕ, suc, _+_, _*_, _-_, _/_, _%_, _<_}
-use native.Mathlib.Nat.{suc-mul}
+use Prim.Native.Nat.{ℕ, zero, suc, _+_, _*_, _-_, _/_, _%_, _<_}
+use native.Mathlib.Nat.{add-zero, suc-mul}
 use native.Mathlib.Numerals.{add-one}
 use native.Mathlib.Omega.{arith}
 use lib.Arith.{digits-div, digits-mod}
@@ -28,6 +28,15 @@ module _ (b : Both) (w m k : ℕ) (h : k < m) where
 pub done : (b : Both) (w m k : ℕ) → k ≡ m → scan b w (m - k) k ≡ plain Same
 unfolding scan
 done b w m k e = let z : m - k ≡ 0 = omega arith in ap (λ (n : ℕ). scan b w n k) z
+
+-- n entries that are equal, from k on
+pub all-agree : (b : Both) (w n k : ℕ) → ((i : ℕ) → i < n → equal (b .left (k + i)) (b .right (k + i)) ≡ true) → scan b w n k ≡ plain Same
+unfolding scan
+all-agree b w zero k h = refl
+all-agree b w (suc n) k h =
+    ap (λ (t : Bool). cond t (scan b w n (suc k)) (entry (b .store) (k / w) (k % w) (b .left k) (b .right k)))
+    (ap (λ (j : ℕ). equal (b .left j) (b .right j)) (sym (add-zero k)) ∙ h 0 (omega arith))
+    ∙ all-agree b w n (suc k) (λ i l. let e : suc k + i ≡ k + suc i = omega arith in ap (λ (j : ℕ). equal (b .left j) (b .right j)) e ∙ h (suc i) (omega arith))
 
 pub next-row : (row w : ℕ) → (row + 1) * w ≡ row * w + w
 next-row row w = rw (add-one, suc-mul)

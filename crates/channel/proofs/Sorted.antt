@@ -13,12 +13,12 @@ use Rattle.algebra.specs.Words.{upTo}
 use Rattle.algebra.proofs.Tests.{and-split}
 use Rattle.exact.specs.Exact.{Exact, exact}
 use Rattle.store.specs.Store.{maxWord, before}
-use Rattle.channel.specs.Layout.{Block, side, word, storeAt, dimAt, bitsAt, countAt, chain, readBack}
-use Rattle.channel.specs.WellFormed.{storeOk, rises, entriesOk, chainOk, wellFormed}
+use Rattle.channel.specs.Layout.{Block, Form, channels, word, storeAt, dimAt, bitsAt, countAt, chain, readBackIn, readBack}
+use Rattle.channel.specs.WellFormed.{storeOk, rises, blockOk, chainOk, wellFormedIn, wellFormed}
 use Rattle.channel.specs.Compare.{Both, leftOnly, rightOnly, paired, merge}
 use Rattle.channel.specs.Claims.{look}
 use Rattle.store.proofs.Order.{before-trans, before-total, before-apart}
-use Rattle.channel.proofs.Judging.{formed, chain-record, chain-rest}
+use Rattle.channel.proofs.Judging.{in-channel, formed-in, chain-record, chain-rest}
 
 -- s comes before each store
 abbrev pub Above : ℕ → List ℕ → Type 0
@@ -45,12 +45,12 @@ look-above [] s k a = refl
 look-above (b ∷ bs) s k a = ap (λ (t : Bool). cond t (b .entry k) (look bs s k)) (before-apart s (b .store) (a .0)) ∙ look-above bs s k (a .1)
 
 -- ---- along the chain of a well-formed channel
-module _ (l : List ℤ) (w m count : ℕ) (few : m ≤ 64) where
-  chain-sorted : (n : ℕ) (z : ℤ) (first : Bool) (prev : ℕ) → chainOk l w m count n z first prev ≡ true
-      → Sorted (keys (chain l n (natAbs z))) × (first ≡ false → Above prev (keys (chain l n (natAbs z))))
+module _ (F : Form) (l : List ℤ) (m count : ℕ) (few : m ≤ 64) where
+  chain-sorted : (n : ℕ) (z : ℤ) (first : Bool) (prev : ℕ) → chainOk F l m count n z first prev ≡ true
+      → Sorted (keys (chain F l n (natAbs z))) × (first ≡ false → Above prev (keys (chain F l n (natAbs z))))
   chain-sorted zero z first prev e = (tt, λ f. tt)
   chain-sorted (suc n) z first prev e =
-      go (chain-sorted n (word l (natAbs z)) false (storeAt l (natAbs z)) (subst (λ (k : ℕ). chainOk l w m count k (word l (natAbs z)) false (storeAt l (natAbs z)) ≡ true) less (chain-rest l w m count (suc n) z first prev (omega arith) e)))
+      go (chain-sorted n (word l (natAbs z)) false (storeAt l (natAbs z)) (subst (λ (k : ℕ). chainOk F l m count k (word l (natAbs z)) false (storeAt l (natAbs z)) ≡ true) less (chain-rest F l m count (suc n) z first prev (omega arith) e)))
     where
       less : suc n - 1 ≡ n
       less = omega arith
@@ -59,10 +59,10 @@ module _ (l : List ℤ) (w m count : ℕ) (few : m ≤ 64) where
       s = storeAt l (natAbs z)
 
       tail : List ℕ
-      tail = keys (chain l n (natAbs (word l (natAbs z))))
+      tail = keys (chain F l n (natAbs (word l (natAbs z))))
 
-      tests : (storeOk l (natAbs z) m ≡ true) × ((rises first prev s && entriesOk l (natAbs z) (w * w)) ≡ true)
-      tests = and-split (storeOk l (natAbs z) m) _ (chain-record l w m count (suc n) z first prev (omega arith) e)
+      tests : (storeOk l (natAbs z) m ≡ true) × ((rises first prev s && blockOk F l (natAbs z)) ≡ true)
+      tests = and-split (storeOk l (natAbs z) m) _ (chain-record F l m count (suc n) z first prev (omega arith) e)
 
       small : s < 2 ^ 64
       small = lt-of-lt-of-le (ltb-true s (2 ^ m) (and-split (upTo maxWord (word l (natAbs z + 1)) && upTo maxWord (word l (natAbs z + 2))) _ (tests .0) .1)) (pow-mono few)
@@ -73,8 +73,11 @@ module _ (l : List ℤ) (w m count : ℕ) (few : m ≤ 64) where
       go : Sorted tail × (false ≡ false → Above s tail) → Sorted (s ∷ tail) × (first ≡ false → Above prev (s ∷ tail))
       go ih = ((small, (ih .1 refl, ih .0)), λ f. (rise f, above-trans prev s tail (rise f) (ih .1 refl)))
 
+pub sorted-in : (F : Form) (l : List ℤ) → wellFormedIn F l ≡ true → Sorted (keys (readBackIn F l))
+sorted-in F l e = let f = formed-in F l e in chain-sorted F l (bitsAt l) (countAt l) (f .0 .few) (countAt l) (word l 3) true 0 (f .1) .0
+
 pub sorted : (l : List ℤ) → wellFormed l ≡ true → Sorted (keys (readBack l))
-sorted l e = let f = formed l e in chain-sorted l (side (dimAt l)) (bitsAt l) (countAt l) (f .head .room .few) (countAt l) (word l 3) true 0 (f .chain) .0
+sorted l e = sorted-in (channels (dimAt l)) l (sym (in-channel l) ∙ e)
 
 -- ---- the merge, and the merge the other way round
 abbrev pub swap : Both → Both

@@ -13,18 +13,18 @@ use lib.IntN.{ℤ, natAbs}
 use borrow.Author.Tests.{eq-eqb, ne-eqb, eqb-true}
 use Rattle.algebra.specs.Lists.{All, some, marks}
 use Rattle.store.specs.Store.{before}
-use Rattle.channel.specs.Layout.{headerSize, recordHead, entrySize, recordSize, recordAt, side, word, storeAt, entryAt, dimAt, countAt, chain}
-use Rattle.channel.specs.WellFormed.{wellFormed}
-use Rattle.channel.specs.Inner.Shapes.{Onward}
-use Rattle.channel.specs.Claims.{look, entryOf, places, visits, VisitsOnce}
+use Rattle.channel.specs.Layout.{Form, headerSize, recordHead, blockSize, recordSize, recordAt, word, storeAt, entryAt, countAt, chain, readBackIn}
+use Rattle.channel.specs.WellFormed.{wellFormedIn}
+use Rattle.channel.specs.Inner.Shapes.{OnwardIn}
+use Rattle.channel.specs.Claims.{look, places, visits, VisitsOnce}
 use Rattle.store.proofs.Order.{before-irrefl, before-apart}
 use Rattle.channel.proofs.Words.{Starts}
-use Rattle.channel.proofs.Chain.{onward-begin, on-start, on-next}
-use Rattle.channel.proofs.Sorted.{Above, Sorted, keys, sorted}
+use Rattle.channel.proofs.Chain.{begin-in, on-start, on-next}
+use Rattle.channel.proofs.Sorted.{Above, Sorted, keys, sorted-in}
 
-pub length-places : (l : List ℤ) (n at : ℕ) → length (places l n at) ≡ n
-length-places l zero at = refl
-length-places l (suc n) at = ap suc (length-places l n (natAbs (word l at)))
+pub length-places : (F : Form) (l : List ℤ) (n at : ℕ) → length (places F l n at) ≡ n
+length-places F l zero at = refl
+length-places F l (suc n) at = ap suc (length-places F l n (natAbs (word l at)))
 
 -- ---- n different numbers below n
 abbrev has : List ℕ → ℕ → Bool
@@ -140,97 +140,94 @@ pick Q j (p ∷ ps) a e = go (eqb p j) refl e (pick Q j ps (a .1))
     go false q r ih = ih r
 
 -- ---- the places along the chain
-place-is : {w n a : ℕ} (s : Starts w n a) → (a - headerSize) / recordSize w ≡ s .place
-place-is {w} {n} {a} s = by (w * w * entrySize) (s .place) (s .is)
+place-is : {F : Form} {n a : ℕ} (s : Starts F n a) → (a - headerSize) / recordSize F ≡ s .place
+place-is {F} {n} {a} s = by (blockSize F) (s .place) (s .is)
   where
     by : (r p : ℕ) → a ≡ headerSize + p * (recordHead + r) → (a - headerSize) / (recordHead + r) ≡ p
     by r p e =
         let z : a - headerSize ≡ p * (recordHead + r) + 0 = omega arith in
         ap (λ (k : ℕ). k / (recordHead + r)) z ∙ digits-div p (omega arith)
 
-module _ (l : List ℤ) where
-  abbrev size : ℕ
-  size = side (dimAt l)
-
+module _ (F : Form) (l : List ℤ) where
   abbrev keyAt : ℕ → ℕ
-  keyAt p = storeAt l (recordAt size p)
+  keyAt p = storeAt l (recordAt F p)
 
   -- each place that is passed has what is known of every record on the way
-  passed : (Q : ℕ → Type 0) → ((n at : ℕ) → Onward l n at → 0 < n → Q at) → (n at : ℕ) → Onward l n at
-      → All (λ (p : ℕ). (p < countAt l) × Q (recordAt size p)) (places l n at) × (keys (chain l n at) ≡ map keyAt (places l n at))
+  passed : (Q : ℕ → Type 0) → ((n at : ℕ) → OnwardIn F l n at → 0 < n → Q at) → (n at : ℕ) → OnwardIn F l n at
+      → All (λ (p : ℕ). (p < countAt l) × Q (recordAt F p)) (places F l n at) × (keys (chain F l n at) ≡ map keyAt (places F l n at))
   passed Q q zero at o = (tt, refl)
   passed Q q (suc n) at o =
-      go (on-start o (omega arith)) (passed Q q n (natAbs (word l at)) (subst (λ (k : ℕ). Onward l k (natAbs (word l at))) less (on-next o (omega arith))))
+      go (on-start o (omega arith)) (passed Q q n (natAbs (word l at)) (subst (λ (k : ℕ). OnwardIn F l k (natAbs (word l at))) less (on-next o (omega arith))))
     where
       less : suc n - 1 ≡ n
       less = omega arith
 
-      go : Starts size (countAt l) at → All (λ (p : ℕ). (p < countAt l) × Q (recordAt size p)) (places l n (natAbs (word l at))) × (keys (chain l n (natAbs (word l at))) ≡ map keyAt (places l n (natAbs (word l at))))
-          → All (λ (p : ℕ). (p < countAt l) × Q (recordAt size p)) (places l (suc n) at) × (keys (chain l (suc n) at) ≡ map keyAt (places l (suc n) at))
+      go : Starts F (countAt l) at → All (λ (p : ℕ). (p < countAt l) × Q (recordAt F p)) (places F l n (natAbs (word l at))) × (keys (chain F l n (natAbs (word l at))) ≡ map keyAt (places F l n (natAbs (word l at))))
+          → All (λ (p : ℕ). (p < countAt l) × Q (recordAt F p)) (places F l (suc n) at) × (keys (chain F l (suc n) at) ≡ map keyAt (places F l (suc n) at))
       go s ih =
           let e = place-is s in
-          let at-is : recordAt size ((at - headerSize) / recordSize size) ≡ at = ap (recordAt size) e ∙ sym (s .is) in (
+          let at-is : recordAt F ((at - headerSize) / recordSize F) ≡ at = ap (recordAt F) e ∙ sym (s .is) in (
             ((subst (λ (p : ℕ). p < countAt l) (sym e) (s .below), subst Q (sym at-is) (q (suc n) at o (omega arith))), ih .0),
             (λ i. storeAt l (sym at-is i) ∷ ih .1 i),
           )
 
   -- a place that is passed has its store's block
-  found : (n at : ℕ) → Onward l n at → Sorted (keys (chain l n at)) → (j : ℕ) → has (places l n at) j ≡ true → (k : ℕ) → look (chain l n at) (keyAt j) k ≡ entryAt l (recordAt size j) k
+  found : (n at : ℕ) → OnwardIn F l n at → Sorted (keys (chain F l n at)) → (j : ℕ) → has (places F l n at) j ≡ true → (k : ℕ) → look (chain F l n at) (keyAt j) k ≡ entryAt F l (recordAt F j) k
   found zero at o s j e k = absurd (true≢false (sym e))
   found (suc n) at o s j e k =
-      let next = subst (λ (m : ℕ). Onward l m (natAbs (word l at))) less (on-next o (omega arith)) in
-      go (eqb ((at - headerSize) / recordSize size) j) refl e (passed (λ (a : ℕ). Unit {0}) (λ n a o h. tt) n (natAbs (word l at)) next .1) (λ r. found n (natAbs (word l at)) next (s .1 .1) j r k)
+      let next = subst (λ (m : ℕ). OnwardIn F l m (natAbs (word l at))) less (on-next o (omega arith)) in
+      go (eqb ((at - headerSize) / recordSize F) j) refl e (passed (λ (a : ℕ). Unit {0}) (λ n a o h. tt) n (natAbs (word l at)) next .1) (λ r. found n (natAbs (word l at)) next (s .1 .1) j r k)
     where
       less : suc n - 1 ≡ n
       less = omega arith
 
-      at-is : recordAt size ((at - headerSize) / recordSize size) ≡ at
-      at-is = let t = on-start o (omega arith) in ap (recordAt size) (place-is t) ∙ sym (t .is)
+      at-is : recordAt F ((at - headerSize) / recordSize F) ≡ at
+      at-is = let t = on-start o (omega arith) in ap (recordAt F) (place-is t) ∙ sym (t .is)
 
-      go : (b : Bool) → eqb ((at - headerSize) / recordSize size) j ≡ b → (b || has (places l n (natAbs (word l at))) j) ≡ true
-          → keys (chain l n (natAbs (word l at))) ≡ map keyAt (places l n (natAbs (word l at)))
-          → (has (places l n (natAbs (word l at))) j ≡ true → look (chain l n (natAbs (word l at))) (keyAt j) k ≡ entryAt l (recordAt size j) k)
-          → look (chain l (suc n) at) (keyAt j) k ≡ entryAt l (recordAt size j) k
+      go : (b : Bool) → eqb ((at - headerSize) / recordSize F) j ≡ b → (b || has (places F l n (natAbs (word l at))) j) ≡ true
+          → keys (chain F l n (natAbs (word l at))) ≡ map keyAt (places F l n (natAbs (word l at)))
+          → (has (places F l n (natAbs (word l at))) j ≡ true → look (chain F l n (natAbs (word l at))) (keyAt j) k ≡ entryAt F l (recordAt F j) k)
+          → look (chain F l (suc n) at) (keyAt j) k ≡ entryAt F l (recordAt F j) k
       go true b r m ih =
-          let z : at ≡ recordAt size j = sym at-is ∙ ap (recordAt size) (eqb-true ((at - headerSize) / recordSize size) j b) in
-          ap (λ (t : Bool). cond t (entryAt l at k) (look (chain l n (natAbs (word l at))) (keyAt j) k)) (eq-eqb (keyAt j) (storeAt l at) (ap (storeAt l) (sym z))) ∙ ap (λ (a : ℕ). entryAt l a k) z
+          let z : at ≡ recordAt F j = sym at-is ∙ ap (recordAt F) (eqb-true ((at - headerSize) / recordSize F) j b) in
+          ap (λ (t : Bool). cond t (entryAt F l at k) (look (chain F l n (natAbs (word l at))) (keyAt j) k)) (eq-eqb (keyAt j) (storeAt l at) (ap (storeAt l) (sym z))) ∙ ap (λ (a : ℕ). entryAt F l a k) z
       go false b r m ih =
-          let a : Above (storeAt l at) (map keyAt (places l n (natAbs (word l at)))) = subst (Above (storeAt l at)) m (s .1 .0) in
-          let q : before (storeAt l at) (keyAt j) ≡ true = above-has keyAt (storeAt l at) (places l n (natAbs (word l at))) a j r in
+          let a : Above (storeAt l at) (map keyAt (places F l n (natAbs (word l at)))) = subst (Above (storeAt l at)) m (s .1 .0) in
+          let q : before (storeAt l at) (keyAt j) ≡ true = above-has keyAt (storeAt l at) (places F l n (natAbs (word l at))) a j r in
           let apart = ne-eqb (keyAt j) (storeAt l at) (λ v. true≢false (sym (eq-eqb (storeAt l at) (keyAt j) (sym v)) ∙ before-apart (storeAt l at) (keyAt j) q)) in
-          ap (λ (t : Bool). cond t (entryAt l at k) (look (chain l n (natAbs (word l at))) (keyAt j) k)) apart ∙ ih r
+          ap (λ (t : Bool). cond t (entryAt F l at k) (look (chain F l n (natAbs (word l at))) (keyAt j) k)) apart ∙ ih r
 
-  module _ (e : wellFormed l ≡ true) where
+  module _ (e : wellFormedIn F l ≡ true) where
     below : (ps : List ℕ) → All (λ (p : ℕ). (p < countAt l) × Unit {0}) ps → All (λ (p : ℕ). p < countAt l) ps
     below [] a = tt
     below (p ∷ ps) a = (a .0 .0, below ps (a .1))
 
-    along : All (λ (p : ℕ). (p < countAt l) × Unit {0}) (places l (countAt l) (natAbs (word l 3))) × (keys (chain l (countAt l) (natAbs (word l 3))) ≡ map keyAt (places l (countAt l) (natAbs (word l 3))))
-    along = passed (λ (at : ℕ). Unit {0}) (λ n at o h. tt) (countAt l) (natAbs (word l 3)) (onward-begin l e)
+    along : All (λ (p : ℕ). (p < countAt l) × Unit {0}) (places F l (countAt l) (natAbs (word l 3))) × (keys (chain F l (countAt l) (natAbs (word l 3))) ≡ map keyAt (places F l (countAt l) (natAbs (word l 3))))
+    along = passed (λ (at : ℕ). Unit {0}) (λ n at o h. tt) (countAt l) (natAbs (word l 3)) (begin-in F l e)
 
-    rising : Sorted (map keyAt (places l (countAt l) (natAbs (word l 3))))
-    rising = subst Sorted (along .1) (sorted l e)
+    rising : Sorted (map keyAt (places F l (countAt l) (natAbs (word l 3))))
+    rising = subst Sorted (along .1) (sorted-in F l e)
 
-    every-place : (j : ℕ) → j < countAt l → has (places l (countAt l) (natAbs (word l 3))) j ≡ true
-    every-place = covers keyAt (countAt l) (places l (countAt l) (natAbs (word l 3))) rising (below (places l (countAt l) (natAbs (word l 3))) (along .0)) (length-places l (countAt l) (natAbs (word l 3)))
+    every-place : (j : ℕ) → j < countAt l → has (places F l (countAt l) (natAbs (word l 3))) j ≡ true
+    every-place = covers keyAt (countAt l) (places F l (countAt l) (natAbs (word l 3))) rising (below (places F l (countAt l) (natAbs (word l 3))) (along .0)) (length-places F l (countAt l) (natAbs (word l 3)))
 
     -- what is known of every record on the way is known of each of them
-    pub each-record : (Q : ℕ → Type 0) → ((n at : ℕ) → Onward l n at → 0 < n → Q at) → (j : ℕ) → j < countAt l → Q (recordAt size j)
+    pub each-record : (Q : ℕ → Type 0) → ((n at : ℕ) → OnwardIn F l n at → 0 < n → Q at) → (j : ℕ) → j < countAt l → Q (recordAt F j)
     each-record Q q j h =
-        pick (λ (p : ℕ). (p < countAt l) × Q (recordAt size p)) j (places l (countAt l) (natAbs (word l 3))) (passed Q q (countAt l) (natAbs (word l 3)) (onward-begin l e) .0) (every-place j h) .1
+        pick (λ (p : ℕ). (p < countAt l) × Q (recordAt F p)) j (places F l (countAt l) (natAbs (word l 3))) (passed Q q (countAt l) (natAbs (word l 3)) (begin-in F l e) .0) (every-place j h) .1
 
-    pub visits-each : (j : ℕ) → j < countAt l → visits j (places l (countAt l) (natAbs (word l 3))) ≡ 1
-    visits-each j h = once keyAt j (places l (countAt l) (natAbs (word l 3))) rising (every-place j h)
+    pub visits-each : (j : ℕ) → j < countAt l → visits j (places F l (countAt l) (natAbs (word l 3))) ≡ 1
+    visits-each j h = once keyAt j (places F l (countAt l) (natAbs (word l 3))) rising (every-place j h)
 
     -- the stores along the chain are those of the places that are passed
-    pub stores-passed : keys (chain l (countAt l) (natAbs (word l 3))) ≡ map keyAt (places l (countAt l) (natAbs (word l 3)))
+    pub stores-passed : keys (chain F l (countAt l) (natAbs (word l 3))) ≡ map keyAt (places F l (countAt l) (natAbs (word l 3)))
     stores-passed = along .1
 
-    pub places-below : All (λ (p : ℕ). p < countAt l) (places l (countAt l) (natAbs (word l 3)))
-    places-below = below (places l (countAt l) (natAbs (word l 3))) (along .0)
+    pub places-below : All (λ (p : ℕ). p < countAt l) (places F l (countAt l) (natAbs (word l 3)))
+    places-below = below (places F l (countAt l) (natAbs (word l 3))) (along .0)
 
-    pub found-record : (j k : ℕ) → j < countAt l → entryOf l (storeAt l (recordAt size j)) k ≡ entryAt l (recordAt size j) k
-    found-record j k h = found (countAt l) (natAbs (word l 3)) (onward-begin l e) (sorted l e) j (every-place j h) k
+    pub found-record : (j k : ℕ) → j < countAt l → look (readBackIn F l) (storeAt l (recordAt F j)) k ≡ entryAt F l (recordAt F j) k
+    found-record j k h = found (countAt l) (natAbs (word l 3)) (begin-in F l e) (sorted-in F l e) j (every-place j h) k
 
 pub visits-once : VisitsOnce
 visits-once = visits-each

@@ -16,41 +16,41 @@ use Rattle.algebra.specs.Words.{upTo, eqℤ}
 use Rattle.algebra.proofs.Tests.{and-split}
 use Rattle.algebra.proofs.Signed.{eq-words}
 use Rattle.algebra.proofs.Blocks.{block-in}
-use Rattle.channel.specs.Layout.{headerSize, recordHead, entrySize, recordSize, recordAt}
+use Rattle.channel.specs.Layout.{Form, headerSize, recordHead, blockSize, recordSize, recordAt}
 use Rattle.channel.specs.WellFormed.{isStart, isDim}
 
 -- ---- starts of records
-pub low-start : (w n : ℕ) (z : ℤ) → ltZ z (pos headerSize) ≡ true → false ≡ isStart w n z
-low-start w n (pos a) e = ap (λ (b : Bool). b && (eqb ((a - headerSize) % recordSize w) 0 && ltb ((a - headerSize) / recordSize w) n)) (sym (lt-leb headerSize a (ltb-true a headerSize e)))
-low-start w n (negsuc a) e = refl
+pub low-start : (F : Form) (n : ℕ) (z : ℤ) → ltZ z (pos headerSize) ≡ true → false ≡ isStart F n z
+low-start F n (pos a) e = ap (λ (b : Bool). b && (eqb ((a - headerSize) % recordSize F) 0 && ltb ((a - headerSize) / recordSize F) n)) (sym (lt-leb headerSize a (ltb-true a headerSize e)))
+low-start F n (negsuc a) e = refl
 
-pub high-start : (w n : ℕ) (z : ℤ) → ltZ z (pos headerSize) ≡ false → (eqb ((natAbs z - headerSize) % recordSize w) 0 && ltb ((natAbs z - headerSize) / recordSize w) n) ≡ isStart w n z
-high-start w n (pos a) e = ap (λ (b : Bool). b && (eqb ((a - headerSize) % recordSize w) 0 && ltb ((a - headerSize) / recordSize w) n)) (sym (le-leb headerSize a (ltb-false a headerSize e)))
-high-start w n (negsuc a) e = absurd (subst T e tt)
+pub high-start : (F : Form) (n : ℕ) (z : ℤ) → ltZ z (pos headerSize) ≡ false → (eqb ((natAbs z - headerSize) % recordSize F) 0 && ltb ((natAbs z - headerSize) / recordSize F) n) ≡ isStart F n z
+high-start F n (pos a) e = ap (λ (b : Bool). b && (eqb ((a - headerSize) % recordSize F) 0 && ltb ((a - headerSize) / recordSize F) n)) (sym (le-leb headerSize a (ltb-false a headerSize e)))
+high-start F n (negsuc a) e = absurd (subst T e tt)
 
 -- an index at which a record starts is that of one of the n records
-pub record Starts (w n a : ℕ) : Type 0 where
+pub record Starts (F : Form) (n a : ℕ) : Type 0 where
   pub place : ℕ
   pub below : place < n
-  pub is : a ≡ recordAt w place
+  pub is : a ≡ recordAt F place
 
-pub starts : (w n : ℕ) (z : ℤ) → isStart w n z ≡ true → T (nonNeg z) × Starts w n (natAbs z)
-starts w n (pos a) e = (tt, by (recordSize w) (and-split (leb headerSize a) _ e))
+pub starts : (F : Form) (n : ℕ) (z : ℤ) → isStart F n z ≡ true → T (nonNeg z) × Starts F n (natAbs z)
+starts F n (pos a) e = (tt, by (recordSize F) (and-split (leb headerSize a) _ e))
   where
-    by : (size : ℕ) → (leb headerSize a ≡ true) × ((eqb ((a - headerSize) % recordSize w) 0 && ltb ((a - headerSize) / recordSize w) n) ≡ true) → Starts w n a
+    by : (size : ℕ) → (leb headerSize a ≡ true) × ((eqb ((a - headerSize) % recordSize F) 0 && ltb ((a - headerSize) / recordSize F) n) ≡ true) → Starts F n a
     by size t =
-        let u = and-split (eqb ((a - headerSize) % recordSize w) 0) _ (t .1) in
-        record { place = (a - headerSize) / recordSize w; below = ltb-true _ n (u .1); is = whole-part (recordSize w) a (leb-true headerSize a (t .0)) (eqb-true _ 0 (u .0)) }
+        let u = and-split (eqb ((a - headerSize) % recordSize F) 0) _ (t .1) in
+        record { place = (a - headerSize) / recordSize F; below = ltb-true _ n (u .1); is = whole-part (recordSize F) a (leb-true headerSize a (t .0)) (eqb-true _ 0 (u .0)) }
       where
         whole-part : (s a : ℕ) → headerSize ≤ a → (a - headerSize) % s ≡ 0 → a ≡ headerSize + (a - headerSize) / s * s
         whole-part s a h z = omega (arith, div-add-mod' (a - headerSize) s)
-starts w n (negsuc a) e = absurd (true≢false (sym e))
+starts F n (negsuc a) e = absurd (true≢false (sym e))
 
-pub start-is : (w n i : ℕ) → i < n → isStart w n (pos (recordAt w i)) ≡ true
-start-is w n i h = λ k. le-leb headerSize (recordAt w i) (omega arith) k && (eq-eqb _ 0 (at .0) k && lt-ltb _ n (subst (λ (p : ℕ). p < n) (sym (at .1)) h) k)
+pub start-is : (F : Form) (n i : ℕ) → i < n → isStart F n (pos (recordAt F i)) ≡ true
+start-is F n i h = λ k. le-leb headerSize (recordAt F i) (omega arith) k && (eq-eqb _ 0 (at .0) k && lt-ltb _ n (subst (λ (p : ℕ). p < n) (sym (at .1)) h) k)
   where
-    at : ((recordAt w i - headerSize) % recordSize w ≡ 0) × ((recordAt w i - headerSize) / recordSize w ≡ i)
-    at = by (w * w * entrySize)
+    at : ((recordAt F i - headerSize) % recordSize F ≡ 0) × ((recordAt F i - headerSize) / recordSize F ≡ i)
+    at = by (blockSize F)
       where
         by : (r : ℕ) → ((headerSize + i * (recordHead + r) - headerSize) % (recordHead + r) ≡ 0) × ((headerSize + i * (recordHead + r) - headerSize) / (recordHead + r) ≡ i)
         by r =
@@ -58,8 +58,8 @@ start-is w n i h = λ k. le-leb headerSize (recordAt w i) (omega arith) k && (eq
             (ap (λ (k : ℕ). k % (recordHead + r)) z ∙ digits-mod i (omega arith), ap (λ (k : ℕ). k / (recordHead + r)) z ∙ digits-div i (omega arith))
 
 -- a record that starts at one of n places lies inside the n records
-pub starts-inside : {w n a : ℕ} → Starts w n a → a + recordSize w ≤ headerSize + n * recordSize w
-starts-inside {w} {n} {a} s = by (recordSize w) (s .place) (s .is) (s .below)
+pub starts-inside : {F : Form} {n a : ℕ} → Starts F n a → a + recordSize F ≤ headerSize + n * recordSize F
+starts-inside {F} {n} {a} s = by (recordSize F) (s .place) (s .is) (s .below)
   where
     by : (r j : ℕ) → a ≡ headerSize + j * r → j < n → a + r ≤ headerSize + n * r
     by r j e h = omega (arith, block-in h r)

@@ -1,4 +1,4 @@
--- What is claimed of well-formed channels, and of the comparison of two.
+-- What is claimed of the comparison of two channels, of well-formed words, and of words that are written.
 use mathlib.Core.Path.{_≡_}
 use mathlib.Core.Bool.{Bool, true, false, cond, _&&_, _||_}
 use mathlib.Core.List.{List, [], _∷_, _++_, map}
@@ -7,15 +7,15 @@ use lib.Dec.{eqb, ltb}
 use lib.IntN.{ℤ, pos, natAbs}
 use Rattle.algebra.specs.Lists.{total}
 use Rattle.verdict.specs.Verdict.{accepted}
-use Rattle.exact.specs.Exact.{Exact, exact}
-use Rattle.exact.specs.Exact as numbers
+use Rattle.exact.specs.Exact.{Number, Exact, exact, isLowest, conj}
 use Rattle.scalar.specs.Calls.{scalarOf}
 use Rattle.channel.specs.declared.compare.Place.{Place}
 use Rattle.channel.specs.declared.compare.Found.the-variants.{Same, Entry}
 use Rattle.channel.specs.declared.compare.Difference.{Difference}
 use Rattle.store.specs.Store.{before}
-use Rattle.channel.specs.Layout.{Block, headerSize, recordSize, side, word, dimAt, bitsAt, countAt, channelWords, readBack}
-use Rattle.channel.specs.WellFormed.{isDim, wellFormed, hasZeroBlock, formVerdict}
+use Rattle.channel.specs.Shared.{shared, sharedFits}
+use Rattle.channel.specs.Layout.{Block, Form, headerSize, entries, recordSize, side, word, dimAt, bitsAt, countAt, words, readBackIn, readBack}
+use Rattle.channel.specs.WellFormed.{isDim, wellFormedIn, wellFormed, hasZeroBlock, formVerdict}
 use Rattle.channel.specs.Compare.{plain, compareOf}
 
 -- entry k of the block of the store s; a missing block is zero
@@ -87,18 +87,18 @@ pub record FirstAt (l r : List ℤ) (p : Place) (d : Difference) : Type 0 where
 abbrev pub FirstEntry : Type 0
 FirstEntry = (l r : List ℤ) → Comparable l r → (p : Place) → compareOf l r .found ≡ Entry p → FirstAt l r p (compareOf l r)
 
--- ---- the chain of a well-formed channel visits each record once
+-- ---- the chain of well-formed words of a form visits each record once
 -- the places of n records along the chain from index `at` on
-abbrev pub places : List ℤ → ℕ → ℕ → List ℕ
-places l zero at = []
-places l (suc n) at = (at - headerSize) / recordSize (side (dimAt l)) ∷ places l n (natAbs (word l at))
+abbrev pub places : Form → List ℤ → ℕ → ℕ → List ℕ
+places F l zero at = []
+places F l (suc n) at = (at - headerSize) / recordSize F ∷ places F l n (natAbs (word l at))
 
 -- how often j is among them
 abbrev pub visits : ℕ → List ℕ → ℕ
 visits j ps = total (λ (p : ℕ). cond (eqb p j) 1 0) ps
 
 abbrev pub VisitsOnce : Type 0
-VisitsOnce = (l : List ℤ) → wellFormed l ≡ true → (j : ℕ) → j < countAt l → visits j (places l (countAt l) (natAbs (word l 3))) ≡ 1
+VisitsOnce = (F : Form) (l : List ℤ) → wellFormedIn F l ≡ true → (j : ℕ) → j < countAt l → visits j (places F l (countAt l) (natAbs (word l 3))) ≡ 1
 
 -- ---- what is written is read back
 -- each store comes before the next
@@ -107,26 +107,41 @@ rising [] = true
 rising (x ∷ []) = true
 rising (x ∷ y ∷ ys) = before x y && rising (y ∷ ys)
 
--- n blocks that make a channel of dimension d and m bits
-pub record Writable (d m n : ℕ) (block : ℕ → Block) : Type 0 where
+-- n numbers in lowest form
+abbrev pub Lowest : ℕ → (ℕ → Exact) → Type 0
+Lowest n x = (k : ℕ) → k < n → isLowest (x k) ≡ true
+
+-- no √2 part, where n0 and n2 alone are kept
+abbrev pub Plain : Bool → Number → Type 0
+Plain b z = b ≡ true → (z .re .im ≡ pos 0) × (z .im .im ≡ pos 0)
+
+-- a block that can be restored from what the form F keeps
+pub record Suits (F : Form) (x : ℕ → Exact) : Type 0 where
+  pub mirror : F .half ≡ true → (r c : ℕ) → r < F .side → c < F .side → x (r * F .side + c) ≡ conj (x (c * F .side + r))
+  pub rational : (k : ℕ) → k < entries F → Plain (F .plain) (x k .num)
+
+-- n blocks that can be written in the form F, with dimension d and m bits
+pub record Writable (F : Form) (d m n : ℕ) (block : ℕ → Block) : Type 0 where
   pub dim : isDim (pos d) ≡ true
   pub few : m ≤ 64
   pub small : (j : ℕ) → j < n → block j .store < 2 ^ m
   pub different : (i j : ℕ) → i < n → j < n → block i .store ≡ block j .store → i ≡ j
-  pub formed : (j k : ℕ) → j < n → k < side d * side d → numbers.wellFormed (block j .entry k) ≡ true
+  pub lowest : (j : ℕ) → j < n → Lowest (entries F) (block j .entry)
+  pub fits : (j : ℕ) → j < n → sharedFits (entries F) (shared (entries F) (block j .entry)) ≡ true
+  pub suits : (j : ℕ) → j < n → Suits F (block j .entry)
 
--- the words l, which begin with those of the channel, are read back as its blocks
-pub record ReadsBack (d m n : ℕ) (block : ℕ → Block) (l : List ℤ) : Type 0 where
-  pub right : wellFormed l ≡ true
+-- the words l, which begin with those written, are read back as the blocks
+pub record ReadsBack (F : Form) (d m n : ℕ) (block : ℕ → Block) (l : List ℤ) : Type 0 where
+  pub right : wellFormedIn F l ≡ true
   pub dim : dimAt l ≡ d
   pub bits : bitsAt l ≡ m
   pub count : countAt l ≡ n
   -- the chain visits each block once, and the stores rise
-  pub order : storesOf (readBack l) ≡ map (λ (j : ℕ). block j .store) (places l n (natAbs (word l 3)))
-  pub once : (j : ℕ) → j < n → visits j (places l n (natAbs (word l 3))) ≡ 1
-  pub rises : rising (storesOf (readBack l)) ≡ true
+  pub order : storesOf (readBackIn F l) ≡ map (λ (j : ℕ). block j .store) (places F l n (natAbs (word l 3)))
+  pub once : (j : ℕ) → j < n → visits j (places F l n (natAbs (word l 3))) ≡ 1
+  pub rises : rising (storesOf (readBackIn F l)) ≡ true
   -- each store has its block
-  pub entries : (j k : ℕ) → j < n → k < side d * side d → entryOf l (block j .store) k ≡ block j .entry k
+  pub entries : (j k : ℕ) → j < n → k < entries F → look (readBackIn F l) (block j .store) k ≡ block j .entry k
 
 abbrev pub RoundTrip : Type 0
-RoundTrip = (d m n : ℕ) (block : ℕ → Block) → Writable d m n block → (rest : List ℤ) → ReadsBack d m n block (channelWords d m n block ++ rest)
+RoundTrip = (F : Form) (d m n : ℕ) (block : ℕ → Block) → Writable F d m n block → (rest : List ℤ) → ReadsBack F d m n block (words F d m n block ++ rest)

@@ -1,6 +1,10 @@
+pub mod Shared
 pub mod Layout
 pub mod WellFormed
 pub mod Lookup
 pub mod Compare
+pub mod Recast
 pub mod Inner
 pub mod Claims
+pub mod Forms
+pub mod Examples

@@ -9,7 +9,7 @@ use Rattle.algebra.specs.Words.{fromBits}
 use Rattle.verdict.specs.Verdict.{accepted}
 use Rattle.store.specs.Store.{storeFits}
 use Rattle.channel.specs.declared.lookup.Span.{Span}
-use Rattle.channel.specs.Layout.{recordHead, blockSize, side, word, storeAt, dimAt, bitsAt, countAt}
+use Rattle.channel.specs.Layout.{exponentPlace, channels, blockSize, word, storeAt, dimAt, bitsAt, countAt}
 use Rattle.channel.specs.WellFormed.{formVerdict}
 
 pub data Lookup : Type 0 where
@@ -33,16 +33,16 @@ abbrev pub lookupOf : List ℤ → List ℕ → Lookup
 lookupOf l bytes =
     cond (accepted (formVerdict l)) (cond (storeFits (bitsAt l) bytes) (placed (find l (fromBits bytes) (countAt l) (natAbs (word l 3)))) wrongStore) refused
 
--- the words of a block's entries
+-- the words of a block: its exponent, word 3 of its record, and its numerators
 abbrev pub blockWords : List ℤ → ℕ
-blockWords l = blockSize (side (dimAt l))
+blockWords l = 1 + blockSize (channels (dimAt l))
 
--- the part of the words that holds the block's entries, or an empty part
+-- the part of the words that holds the block, or an empty part
 abbrev pub partOf : List ℤ → Lookup → List ℤ
 partOf l refused = []
 partOf l wrongStore = []
 partOf l missing = []
-partOf l (found at) = take (blockWords l) (drop (at + recordHead) l)
+partOf l (found at) = take (blockWords l) (drop (at + exponentPlace) l)
 
 -- where that part starts, and its size
 abbrev pub noSpan : Span
@@ -52,4 +52,4 @@ abbrev pub spanOf : List ℤ → Lookup → Span
 spanOf l refused = noSpan
 spanOf l wrongStore = noSpan
 spanOf l missing = noSpan
-spanOf l (found at) = record { start = at + recordHead; size = blockWords l }
+spanOf l (found at) = record { start = at + exponentPlace; size = blockWords l }

@@ -1,21 +1,29 @@
-// The comparison of two channels: their chains are walked in step, and the blocks of each store compared entry by entry. A word is read at most
-// twice: once to judge it, and once to compare it.
+// The comparison of two channels: their chains are walked in step, and the blocks of each store compared. Blocks of one exponent are compared word by word, in rows;
+// only a block that differs is searched for its first unequal entry.
+use super::layout::ENTRY;
+use super::layout::EXPONENT;
+use super::layout::RECORD_HEAD;
+use super::layout::block_size;
 use super::layout::follow;
 use super::layout::read_entry;
 use super::layout::read_store;
 use super::well_formed::judge;
+use gather::same_rows;
+use gather::same_words;
 use scalar::Scalar;
 use scalar::ZERO;
 use store::comes_before;
 use verdict::Verdict;
 ghost use mathlib.Core.Path.{_≡_};
-ghost use mathlib.Core.Bool.{true};
-ghost use Prim.Native.Nat.{ℕ, _*_, _<_, _≤_};
+ghost use mathlib.Core.Bool.{true, _&&_};
+ghost use Prim.Native.Nat.{_+_, _*_, _<_, _≤_};
+ghost use Rattle.exact.specs.Exact.{equal};
 ghost use Rattle.scalar.specs.Calls.{scalarOf};
-ghost use Rattle.channel.specs.Layout.{readBack};
-ghost use Rattle.channel.specs.Inner.Shapes.{Onward};
+ghost use Rattle.gather.specs.Words.{sameWords};
+ghost use Rattle.channel.specs.Layout.{recordHead, full, blockSize, readBack};
+ghost use Rattle.channel.specs.Inner.Shapes.{Onward, Entries};
 ghost use Rattle.channel.specs.Compare.{isSame, plain, scan, first, merge, compareOf};
-ghost use Rattle.channel.specs.Inner.Walk.{sideAt, bothAt, turnOf, cursorAt, advance, On, Held, Matched};
+ghost use Rattle.channel.specs.Inner.Walk.{sideAt, bothAt, alike, turnOf, cursorAt, advance, On, Held, Matched};
 
 // Bit j of a store weighs 2^j.
 pub struct Place {
@@ -78,30 +86,77 @@ fn is_same(d: Difference) -> bool
 
 // Entry k of the record at `at`, or zero where the side has no block.
 fn entry_or_zero(has: bool, s: &[i64], at: usize, k: usize) -> Scalar
-    requires { ⌜ Held has (now s) at k ⌝ }
+    requires { ⌜ (has ≡ true → Entries (now s) at (k + 1)) ⌝ }
     ensures { λ r. ⌜ r ≡ scalarOf (sideAt has (now (s .entry)) at k) ⌝ }
 {
     if has { read_entry(s, at, k) } else { ZERO }
 }
 
-// The first unequal entry of the blocks of one store, rows then columns.
-fn compare_block(t: Turn, left: &[i64], i: usize, right: &[i64], j: usize, w: usize) -> Difference
-    requires { ⌜ (w ≤ 256) × ((k : ℕ) → k < w * w → Held (t .left) (now left) i k × Held (t .right) (now right) j k) ⌝ }
+// Whether both sides have a block, and both blocks one exponent.
+fn are_alike(t: Turn, left: &[i64], i: usize, right: &[i64], j: usize) -> bool
+    requires { ⌜ Held t (now left) i (now right) j 0 ⌝ }
+    ensures { λ r. ⌜ r ≡ alike t (now (left .entry)) i (now (right .entry)) j ⌝ }
+{
+    if !(t.left & t.right) {
+        return false;
+    }
+    left[i + EXPONENT] == right[j + EXPONENT]
+}
+
+// Whether entry k is the same on both sides; `same` if they are alike.
+fn same_entry(
+    same: bool,
+    t: Turn,
+    left: &[i64],
+    i: usize,
+    right: &[i64],
+    j: usize,
+    k: usize,
+) -> bool
+    requires { ⌜ Held t (now left) i (now right) j (k + 1) × (same ≡ alike t (now left) i (now right) j) ⌝ }
+    ensures { λ r. ⌜ r ≡ equal (sideAt (t .left) (now (left .entry)) i k) (sideAt (t .right) (now (right .entry)) j k) ⌝ }
+{
+    if same {
+        return same_words(
+            left,
+            i + RECORD_HEAD + k * ENTRY,
+            right,
+            j + RECORD_HEAD + k * ENTRY,
+            ENTRY,
+        );
+    }
+    let x = entry_or_zero(t.left, left, i, k);
+    let y = entry_or_zero(t.right, right, j, k);
+    x.equals(y)
+}
+
+// The first unequal entry of the blocks of one store, rows then columns; `same` if they are alike.
+fn search_block(
+    same: bool,
+    t: Turn,
+    left: &[i64],
+    i: usize,
+    right: &[i64],
+    j: usize,
+    w: usize,
+) -> Difference
+    requires { ⌜ (w ≤ 256) × (Held t (now left) i (now right) j (w * w) × (same ≡ alike t (now left) i (now right) j)) ⌝ }
     ensures { λ r. ⌜ r ≡ scan (bothAt t (now (left .entry)) i (now (right .entry)) j) w (w * w) 0 ⌝ }
 {
-    let on_left = t.left;
-    let on_right = t.right;
-    let store = t.store;
     let mut found = without_entry(Found::Same);
     let mut k = 0;
     let mut row = 0;
     'rows: while row < w {
         let mut col = 0;
         while col < w {
-            let x = entry_or_zero(on_left, left, i, k);
-            let y = entry_or_zero(on_right, right, j, k);
-            if !x.equals(y) {
-                let place = Place { store, row, col };
+            if !same_entry(same, t, left, i, right, j, k) {
+                let x = entry_or_zero(t.left, left, i, k);
+                let y = entry_or_zero(t.right, right, j, k);
+                let place = Place {
+                    store: t.store,
+                    row,
+                    col,
+                };
                 found = Difference {
                     found: Found::Entry(place),
                     left: x,
@@ -115,6 +170,29 @@ fn compare_block(t: Turn, left: &[i64], i: usize, right: &[i64], j: usize, w: us
         row += 1;
     }
     found
+}
+
+// Whether two blocks are alike, if `same`, and have the same words.
+fn same_block(same: bool, left: &[i64], i: usize, right: &[i64], j: usize, w: usize) -> bool
+    requires { ⌜ (w ≤ 256) × (same ≡ true → Entries (now left) i (w * w) × Entries (now right) j (w * w)) ⌝ }
+    ensures { λ r. ⌜ r ≡ (same && sameWords (now (left .entry)) (i + recordHead) (now (right .entry)) (j + recordHead) (blockSize (full w))) ⌝ }
+{
+    if !same {
+        return false;
+    }
+    same_rows(left, i + RECORD_HEAD, right, j + RECORD_HEAD, block_size(w))
+}
+
+// The first unequal entry of the blocks of one store: none where they are alike and have the same words.
+fn compare_block(t: Turn, left: &[i64], i: usize, right: &[i64], j: usize, w: usize) -> Difference
+    requires { ⌜ (w ≤ 256) × Held t (now left) i (now right) j (w * w) ⌝ }
+    ensures { λ r. ⌜ r ≡ scan (bothAt t (now (left .entry)) i (now (right .entry)) j) w (w * w) 0 ⌝ }
+{
+    let same = are_alike(t, left, i, right, j);
+    if same_block(same, left, i, right, j, w) {
+        return without_entry(Found::Same);
+    }
+    search_block(same, t, left, i, right, j, w)
 }
 
 // The next of n records, at index `at`.

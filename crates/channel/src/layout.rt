@@ -1,31 +1,34 @@
 // The words of a channel: sizes, starts of records, stores and their order, and the chain.
-use cells::CELL;
-use cells::read_cell;
 use scalar::Scalar;
+use scalar::numerators::reduce;
 use store::store_from;
 ghost use mathlib.Core.Path.{_≡_};
 ghost use mathlib.Core.Bool.{true};
-ghost use Prim.Native.Nat.{_+_, _<_, _≤_, _^_, _-_};
+ghost use Prim.Native.Nat.{_+_, _<_, _≤_};
 ghost use lib.ListN.{length};
 ghost use lib.IntN.{pos, natAbs};
 ghost use Rattle.algebra.specs.Words.{upTo};
 ghost use Rattle.scalar.specs.Calls.{scalarOf};
-ghost use Rattle.cells.specs.Cells.{exponentAt};
 ghost use Rattle.store.specs.Store.{maxWord};
-ghost use Rattle.channel.specs.Layout.{recordHead, entrySize, blockSize, recordSize, entryPlace, entryAt, storeAt, word};
+ghost use Rattle.channel.specs.Layout.{recordHead, full, channels, blockSize, recordSize, entryAt, storeAt, word, dimAt};
+ghost use Rattle.channel.specs.Inner.Shapes.{Entries};
 ghost use Rattle.channel.specs.WellFormed.{isStart};
 
 pub const HEADER: usize = 4;
 
-pub const RECORD_HEAD: usize = 3;
+// Next, the store's two words, and the exponent of the block.
+pub const RECORD_HEAD: usize = 4;
 
-// An entry is a cell.
-pub const ENTRY: usize = CELL;
+// The place of the exponent in a record.
+pub const EXPONENT: usize = 3;
 
-// The words of the entries of a block of w rows and columns.
+// The numerators of an entry.
+pub const ENTRY: usize = 4;
+
+// The words of the numerators of a block of w rows and columns.
 pub fn block_size(w: usize) -> usize
     requires { ⌜ w ≤ 256 ⌝ }
-    ensures { λ r. ⌜ r ≡ blockSize w ⌝ }
+    ensures { λ r. ⌜ r ≡ blockSize (full w) ⌝ }
 {
     w * w * ENTRY
 }
@@ -33,25 +36,24 @@ pub fn block_size(w: usize) -> usize
 // The words of the record of a block of w rows and columns.
 pub fn record_size(w: usize) -> usize
     requires { ⌜ w ≤ 256 ⌝ }
-    ensures { λ r. ⌜ r ≡ recordSize w ⌝ }
+    ensures { λ r. ⌜ r ≡ recordSize (full w) ⌝ }
 {
     RECORD_HEAD + block_size(w)
 }
 
-// The place of entry k, row · w + column, of the record at `at`.
-pub fn entry_place(at: usize, k: usize) -> usize
-    requires { ⌜ entryPlace at k < 2 ^ 64 ⌝ }
-    ensures { λ r. ⌜ r ≡ entryPlace at k ⌝ }
-{
-    at + RECORD_HEAD + k * ENTRY
-}
-
-// Entry k of the record at `at`.
+// Entry k, row · w + column, of the record at `at` of a channel, in lowest form.
 pub fn read_entry(s: &[i64], at: usize, k: usize) -> Scalar
-    requires { ⌜ (entryPlace at k + entrySize ≤ length (now s)) × (exponentAt (now s) (entryPlace at k) ≡ true) ⌝ }
-    ensures { λ r. ⌜ r ≡ scalarOf (entryAt (now (s .entry)) at k) ⌝ }
+    requires { ⌜ Entries (now s) at (k + 1) ⌝ }
+    ensures { λ r. ⌜ r ≡ scalarOf (entryAt (channels (dimAt (now (s .entry)))) (now (s .entry)) at k) ⌝ }
 {
-    read_cell(s, entry_place(at, k))
+    let p = at + RECORD_HEAD + k * ENTRY;
+    let n0 = s[p];
+    let n1 = s[p + 1];
+    let n2 = s[p + 2];
+    let n3 = s[p + 3];
+    let x = s[at + EXPONENT];
+    let e = x as u32;
+    reduce([n0, n1, n2, n3], e)
 }
 
 // Whether a word is a number from 0 to n.
@@ -67,7 +69,7 @@ pub fn up_to(n: u64, x: i64) -> bool
 // Whether one of `count` records starts at index z.
 pub fn is_start(w: usize, count: usize, z: i64) -> bool
     requires { ⌜ w ≤ 256 ⌝ }
-    ensures { λ r. ⌜ r ≡ isStart w count z ⌝ }
+    ensures { λ r. ⌜ r ≡ isStart (full w) count z ⌝ }
 {
     if z < HEADER as i64 {
         return false;

@@ -1,5 +1,5 @@
 // The block of a store, as a part of the channel's words.
-use super::layout::RECORD_HEAD;
+use super::layout::EXPONENT;
 use super::layout::block_size;
 use super::layout::follow;
 use super::layout::read_store;
@@ -42,7 +42,7 @@ fn find_store(s: &[i64], store: u64, count: usize) -> usize
     0
 }
 
-// Where the entries of a store's block lie.
+// Where a store's block lies: its exponent, then its numerators.
 pub fn locate(s: &[i64], store: &[u8]) -> Span
     ensures { λ r. ⌜ r ≡ spanOf (now (s .entry)) (lookupOf (now (s .entry)) (now (store .entry))) ⌝ }
 {
@@ -61,12 +61,12 @@ pub fn locate(s: &[i64], store: &[u8]) -> Span
     }
     let w = h.dim * h.dim;
     Span {
-        start: at + RECORD_HEAD,
-        size: block_size(w),
+        start: at + EXPONENT,
+        size: 1 + block_size(w),
     }
 }
 
-// The part of the channel's words that holds the entries of a store's block: empty for a channel that is malformed or
+// The part of the channel's words that holds a store's block, its exponent and then its numerators: empty for a channel that is malformed or
 // has a block of zeros, for a store of the wrong length or with a byte above 1, and where the channel has no such block.
 pub fn lookup<'a>(channel: &'a [i64], store: &[u8]) -> &'a [i64]
     ensures { λ r. ⌜ now r ≡ partOf (now (channel .entry)) (lookupOf (now (channel .entry)) (now (store .entry))) ⌝ }

@@ -1,12 +1,14 @@
-// Whether words are a well-formed channel, and whether a block of it is zero. Each word is read once.
+// Whether words are a well-formed channel, and whether a block of it is zero. The words of a block are read in one pass.
 use super::Shape;
+use super::layout::EXPONENT;
 use super::layout::HEADER;
-use super::layout::entry_place;
+use super::layout::RECORD_HEAD;
+use super::layout::block_size;
 use super::layout::is_start;
 use super::layout::record_size;
 use super::layout::up_to;
-use cells::well_formed_at;
-use cells::zero_at;
+use exact::MAX_EXPONENT;
+use gather::see;
 use store::MAX_WORD;
 use store::comes_before;
 use store::fits_bits;
@@ -18,8 +20,8 @@ ghost use Prim.Native.Nat.{_+_, _*_, _≤_};
 ghost use lib.ListN.{length};
 ghost use lib.IntN.{natAbs};
 ghost use Rattle.store.specs.Store.{storeFrom};
-ghost use Rattle.channel.specs.Layout.{recordHead, recordSize, entryPlace, entryAt, storeAt, word, chain};
-ghost use Rattle.channel.specs.WellFormed.{isDim, wordsOk, storeOk, entriesOk, recordOk, chainOk, wellFormed, allZero, someZero, verdictBy};
+ghost use Rattle.channel.specs.Layout.{full, recordHead, recordSize, entryAt, storeAt, word, chain};
+ghost use Rattle.channel.specs.WellFormed.{isDim, wordsOk, storeOk, blockOk, recordOk, chainOk, wellFormed, allZero, someZero, verdictBy};
 ghost use Rattle.channel.specs.Inner.Shapes.{judged, Room, headerOf, shapeOf, noShape};
 
 // What is found of a record: whether its block is zero, and its store; or `ok` false, false and 0.
@@ -74,21 +76,20 @@ fn judge_store(s: &[i64], at: usize, m: u32) -> Judged
     judge_words(low, high, m)
 }
 
-// Whether n entries of the record at `at` are scalars in range and in lowest form, and whether all are zero.
-fn judge_entries(s: &[i64], at: usize, n: usize) -> Judged
-    requires { ⌜ entryPlace at n ≤ length (now s) ⌝ }
-    ensures { λ r. ⌜ r ≡ judged (entriesOk (now (s .entry)) at n) (allZero n (entryAt (now (s .entry)) at)) 0 ⌝ }
+// Whether the exponent and the numerators of the record at `at`, of w rows and columns, are a shared form in range, and whether all are zero.
+fn judge_block(s: &[i64], at: usize, w: usize) -> Judged
+    requires { ⌜ (w ≤ 256) × (at + recordSize (full w) ≤ length (now s)) ⌝ }
+    ensures { λ r. ⌜ r ≡ judged (blockOk (full w) (now (s .entry)) at) (allZero (w * w) (entryAt (full w) (now (s .entry)) at)) 0 ⌝ }
 {
-    let mut zero = true;
-    let mut k = 0;
-    while k < n {
-        let place = entry_place(at, k);
-        if !well_formed_at(s, place) {
-            return bad();
-        }
-        zero = zero & zero_at(s, place);
-        k += 1;
+    let e = s[at + EXPONENT];
+    if !up_to(MAX_EXPONENT as u64, e) {
+        return bad();
     }
+    let g = see(s, at + RECORD_HEAD, block_size(w));
+    if !(g.range & ((e == 0) | !g.even)) {
+        return bad();
+    }
+    let zero = g.zero;
     Judged {
         ok: true,
         zero,
@@ -98,8 +99,8 @@ fn judge_entries(s: &[i64], at: usize, n: usize) -> Judged
 
 // The record at `at`, whose store is to come after `prev` unless it is the first.
 fn judge_record(s: &[i64], at: usize, w: usize, m: u32, first: bool, prev: u64) -> Judged
-    requires { ⌜ (w ≤ 256) × ((m ≤ 64) × (at + recordSize w ≤ length (now s))) ⌝ }
-    ensures { λ r. ⌜ r ≡ judged (recordOk (now (s .entry)) w m at first prev) (allZero (w * w) (entryAt (now (s .entry)) at)) (storeAt (now (s .entry)) at) ⌝ }
+    requires { ⌜ (w ≤ 256) × ((m ≤ 64) × (at + recordSize (full w) ≤ length (now s))) ⌝ }
+    ensures { λ r. ⌜ r ≡ judged (recordOk (full w) (now (s .entry)) m at first prev) (allZero (w * w) (entryAt (full w) (now (s .entry)) at)) (storeAt (now (s .entry)) at) ⌝ }
 {
     let j = judge_store(s, at, m);
     if !j.ok {
@@ -109,7 +110,7 @@ fn judge_record(s: &[i64], at: usize, w: usize, m: u32, first: bool, prev: u64) 
     if !(first | comes_before(prev, store)) {
         return bad();
     }
-    let b = judge_entries(s, at, w * w);
+    let b = judge_block(s, at, w);
     if !b.ok {
         return bad();
     }
@@ -137,7 +138,7 @@ fn verdict_by(right: bool, blank: bool) -> Verdict
 // Whether the chain visits `count` records in rising order of their stores, and ends; then, whether a block is zero.
 fn judge_chain(s: &[i64], w: usize, m: u32, count: usize) -> Verdict
     requires { ⌜ Room (now s) w m count ⌝ }
-    ensures { λ r. ⌜ r ≡ verdictBy (chainOk (now (s .entry)) w m count count (word (now (s .entry)) 3) true 0) (someZero w (chain (now (s .entry)) count (natAbs (word (now (s .entry)) 3)))) ⌝ }
+    ensures { λ r. ⌜ r ≡ verdictBy (chainOk (full w) (now (s .entry)) m count count (word (now (s .entry)) 3) true 0) (someZero w (chain (full w) (now (s .entry)) count (natAbs (word (now (s .entry)) 3)))) ⌝ }
 {
     let mut z = s[3];
     let mut first = true;

@@ -1,24 +1,23 @@
 -- The walk along two chains in step, as the code makes it: which side has the next store, and the blocks there.
 use mathlib.Core.Path.{_≡_}
-use mathlib.Core.Bool.{Bool, true, false, cond}
+use mathlib.Core.Bool.{Bool, true, false, cond, _&&_}
 use mathlib.Core.List.{List}
-use Prim.Native.Nat.{ℕ, _+_, _-_, _≤_}
+use Prim.Native.Nat.{ℕ, _+_, _-_}
 use lib.Dec.{eqb, ltb}
-use lib.ListN.{length}
 use lib.IntN.{ℤ, natAbs}
+use Rattle.algebra.specs.Words.{eqℤ}
 use Rattle.exact.specs.Exact.{Exact, exact}
-use Rattle.cells.specs.Cells.{exponentAt}
 use Rattle.channel.specs.declared.compare.Turn.{Turn}
 use Rattle.channel.specs.declared.compare.Cursor.{Cursor}
 use Rattle.store.specs.Store.{before}
-use Rattle.channel.specs.Layout.{entrySize, side, dimAt, countAt, word, entryPlace, entryAt, storeAt}
+use Rattle.channel.specs.Layout.{channels, exponentPlace, side, dimAt, countAt, word, entryAt, storeAt}
 use Rattle.channel.specs.WellFormed.{wellFormed}
-use Rattle.channel.specs.Inner.Shapes.{Onward}
+use Rattle.channel.specs.Inner.Shapes.{Onward, Entries}
 use Rattle.channel.specs.Compare.{Both}
 
 -- a side that takes part has its block at `at`; else its block is missing
 abbrev pub sideAt : Bool → List ℤ → ℕ → ℕ → Exact
-sideAt has l at k = cond has (entryAt l at k) (exact .𝟘)
+sideAt has l at k = cond has (entryAt (channels (dimAt l)) l at k) (exact .𝟘)
 
 abbrev pub bothAt : Turn → List ℤ → ℕ → List ℤ → ℕ → Both
 bothAt t l i r j = record { store = t .store; left = sideAt (t .left) l i; right = sideAt (t .right) r j }
@@ -60,7 +59,11 @@ pub record Matched (l r : List ℤ) (m n w : ℕ) : Type 0 where
   pub leftSide : w ≡ side (dimAt l)
   pub rightSide : w ≡ side (dimAt r)
 
--- entry k can be read, if the side has a block
-pub record Held (has : Bool) (l : List ℤ) (at k : ℕ) : Type 0 where
-  pub inside : has ≡ true → entryPlace at k + entrySize ≤ length l
-  pub exponent : has ≡ true → exponentAt l (entryPlace at k) ≡ true
+-- both sides have a block, and both blocks one exponent
+abbrev pub alike : Turn → List ℤ → ℕ → List ℤ → ℕ → Bool
+alike t l i r j = (t .left && t .right) && eqℤ (word l (i + exponentPlace)) (word r (j + exponentPlace))
+
+-- n entries of each side that has a block can be read
+pub record Held (t : Turn) (l : List ℤ) (i : ℕ) (r : List ℤ) (j n : ℕ) : Type 0 where
+  pub left : t .left ≡ true → Entries l i n
+  pub right : t .right ≡ true → Entries r j n

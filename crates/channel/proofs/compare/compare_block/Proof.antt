@@ -1,138 +1,50 @@
--- `compare::compare_block` meets its contract.
+-- `compare::compare_block` meets its contract: the same words, or a search.
 use mathlib.Core.Path.{_≡_, sym, ap, _∙_}
-use Prim.Native.Nat.{ℕ, _+_, _*_, _-_, _≤_, _<_}
-use native.Mathlib.Nat.{zero-mul, sub-zero, mul-le-mul}
+use mathlib.Core.Bool.{true, _&&_}
+use Prim.Native.Nat.{ℕ, _+_, _*_, _<_}
+use native.Mathlib.Nat.{zero-add}
 use native.Mathlib.Omega.{arith}
-use lib.Arith.{digits-lt}
-use borrow.Author.Tests.{not-true, not-false}
+use Rattle.algebra.proofs.Tests.{and-split}
 use Rattle.exact.specs.Exact.{equal}
-use Rattle.scalar.specs.declared.Scalar.{Scalar}
-use Rattle.scalar.specs.Calls.{value}
-use Rattle.channel.specs.declared.compare.Difference.{Difference}
-use Rattle.channel.specs.declared.compare.Found.the-variants.{Same, Entry}
-use Rattle.channel.specs.Compare.{Both, plain, scan}
-use Rattle.channel.specs.Inner.Walk.{bothAt}
-use Rattle.channel.proofs.Scanning.{agrees, differs, done, next-row}
+use Rattle.gather.specs.Words.{sameWords}
+use Rattle.channel.specs.Layout.{recordHead}
+use Rattle.channel.specs.Compare.{Both}
+use Rattle.channel.specs.Inner.Walk.{alike, bothAt}
+use Rattle.channel.proofs.Alike.{alike-is, held-fewer, rows-decide, sides-alike}
+use Rattle.channel.proofs.Scanning.{all-agree}
 use Rattle.channel.proofs.compare.compare_block.Statement.{statement}
 use Rattle.channel.proofs.compare.compare_block.Tie as tie
 
-abbrev Inv-loop : tie.InvT-loop
-Inv-loop left i right j w on-left on-right store found₀ k₀ row col₀ found k col =
-    let b = bothAt (record { left = on-left; right = on-right; store = store }) left i right j in
-    ((col ≤ w) × ((row < w) × (k ≡ row * w + col))) × ((found ≡ plain Same) × (scan b w (w * w) 0 ≡ scan b w (w * w - k) k))
+are-alike-requires : tie.Need-are-alike-requires
+are-alike-requires c κs = held-fewer 0 (omega arith) (c .pre .1)
 
-abbrev μ-loop : tie.MeasureT-loop
-μ-loop left i right j w on-left on-right store found₀ k₀ row col₀ found k col = w - col
+same-block-requires : tie.Need-same-block-requires
+same-block-requires c κs =
+    let s = c .before in
+    (s .pre .0, λ e. let t = alike-is (s .args .t) (s .args .left .now) (s .args .i) (s .args .right .now) (s .args .j) (sym (c .are-alike .ensures) ∙ e) in (s .pre .1 .left (t .0), s .pre .1 .right (t .1 .0)))
 
-abbrev Inv-rows : tie.InvT-rows
-Inv-rows left i right j w on-left on-right store found₀ k₀ row₀ found k row =
-    let b = bothAt (record { left = on-left; right = on-right; store = store }) left i right j in
-    ((row ≤ w) × (k ≡ row * w)) × ((found ≡ plain Same) × (scan b w (w * w) 0 ≡ scan b w (w * w - k) k))
-
-abbrev μ-rows : tie.MeasureT-rows
-μ-rows left i right j w on-left on-right store found₀ k₀ row₀ found k row = w - row
-
-abbrev start : tie.In-loop Inv-loop μ-loop Inv-rows μ-rows → tie.Start Inv-loop μ-loop Inv-rows μ-rows
-start c = c .before .before .before .before .before
-
-abbrev both : tie.In-loop Inv-loop μ-loop Inv-rows μ-rows → Both
-both c = let s = start c .args in bothAt (s .t) (s .left .now) (s .i) (s .right .now) (s .j)
-
--- an answer with an entry
-abbrev found : ℕ → ℕ → ℕ → Scalar → Scalar → Difference
-found s r c x y = record { found = Entry (record { store = s; row = r; col = c }); left = x; right = y }
-
--- the test of the entries
-tested : (q : tie.After-equals Inv-loop μ-loop Inv-rows μ-rows) →
-    (let n = q .before .before .before in q .equals .result ≡ equal (both n .left (n .before .loop .k)) (both n .right (n .before .loop .k)))
-tested q = q .equals .ensures ∙ (λ i. equal (value (q .before .before .entry-or-zero .ensures i)) (value (q .before .entry-or-zero2 .ensures i)))
-
--- the entry is one of the block
-inside : (c : tie.In-loop Inv-loop μ-loop Inv-rows μ-rows) → c .before .loop .k < start c .args .w * start c .args .w
-inside c = omega (arith, digits-lt (c .before .loop .inv .0 .1 .0) (c .loop-test .taken))
-
-without-entry-requires : tie.Need-without-entry-requires Inv-loop μ-loop Inv-rows μ-rows
+without-entry-requires : tie.Need-without-entry-requires
 without-entry-requires c κs = tt
 
-rows-holds : tie.Need-rows-holds Inv-loop μ-loop Inv-rows μ-rows
-rows-holds c = ((omega arith, sym (zero-mul _)), (c .without-entry .ensures, rw sub-zero))
-
-loop-holds : tie.Need-loop-holds Inv-loop μ-loop Inv-rows μ-rows
-loop-holds c = ((omega arith, (omega arith, omega arith)), c .before .rows .inv .1)
-
-entry-or-zero-requires : tie.Need-entry-or-zero-requires Inv-loop μ-loop Inv-rows μ-rows
-entry-or-zero-requires c κs = start c .pre .1 (c .before .loop .k) (inside c) .0
-
-entry-or-zero-requires-2 : tie.Need-entry-or-zero-requires-2 Inv-loop μ-loop Inv-rows μ-rows
-entry-or-zero-requires-2 c κs = start (c .before) .pre .1 (c .before .before .loop .k) (inside (c .before)) .1
-
-equals-requires : tie.Need-equals-requires Inv-loop μ-loop Inv-rows μ-rows
-equals-requires c κs = tt
-
-add-k : tie.Need-add-k Inv-loop μ-loop Inv-rows μ-rows
-add-k c = let n = c .before .before .before .before in let q = inside n in let r = mul-le-mul (start n .pre .0) (start n .pre .0) in omega arith
-
-add-col : tie.Need-add-col Inv-loop μ-loop Inv-rows μ-rows
-add-col c = omega arith
-
-loop-less : tie.Need-loop-less Inv-loop μ-loop Inv-rows μ-rows
-loop-less c = omega arith
-
-loop-again : tie.Need-loop-again Inv-loop μ-loop Inv-rows μ-rows
-loop-again c =
-    let q = c .before in
-    let n = q .before .before .before in
-    let l = n .before .loop in (
-      (omega arith, (omega arith, omega arith)),
-      (l .inv .1 .0, l .inv .1 .1 ∙ agrees (both n) _ _ _ (inside n) (sym (tested q) ∙ not-false _ (c .if1 .left))),
-    )
-
-add-row : tie.Need-add-row Inv-loop μ-loop Inv-rows μ-rows
-add-row c = omega arith
-
-rows-less : tie.Need-rows-less Inv-loop μ-loop Inv-rows μ-rows
-rows-less c = omega arith
-
-rows-again : tie.Need-rows-again Inv-loop μ-loop Inv-rows μ-rows
-rows-again c = ((omega arith, omega (arith, next-row (c .before .before .before .rows .row) (c .before .before .before .before .before .args .w))), c .before .loop .inv .1)
-
-returns : tie.Need-returns Inv-loop μ-loop Inv-rows μ-rows
+returns : tie.Need-returns
 returns c =
-    let r = c .before .rows in
-    let s = c .before .before .before in
-    let all : r .row ≡ s .args .w = omega arith in
-    r .inv .1 .0 ∙ sym (r .inv .1 .1 ∙ done _ _ _ _ (r .inv .0 .1 ∙ ap (λ (x : ℕ). x * s .args .w) all))
+    let b = c .before .before in
+    let a = b .before in
+    let s = a .before .args in
+    let p = and-split (a .are-alike .result) _ (sym (b .same-block .ensures) ∙ c .before .if1 .taken) in
+    let t = alike-is (s .t) (s .left .now) (s .i) (s .right .now) (s .j) (sym (a .are-alike .ensures) ∙ p .0) in
+    c .without-entry .ensures
+    ∙ sym (all-agree (bothAt (s .t) (s .left .now) (s .i) (s .right .now) (s .j)) (s .w) (s .w * s .w) 0
+    (λ k h. ap (λ (n : ℕ). equal (bothAt (s .t) (s .left .now) (s .i) (s .right .now) (s .j) .left n) (bothAt (s .t) (s .left .now) (s .i) (s .right .now) (s .j) .right n)) (zero-add k)
+    ∙ sides-alike (s .t) (s .left .now) (s .i) (s .right .now) (s .j) k (t .0) (t .1 .0)
+    ∙ rows-decide (s .left .now) (s .i) (s .right .now) (s .j) (s .w * s .w) (t .1 .1) (p .1) k h))
 
-returns-2 : tie.Need-returns-2 Inv-loop μ-loop Inv-rows μ-rows
-returns-2 c =
-    let q = c .before in
-    let g = q .before in
-    let n = g .before .before in
-    let l = n .before .loop in
-    let row = n .before .before .before .rows .row in
-    (λ i. found (start n .args .t .store) row (l .col) (g .before .entry-or-zero .ensures i) (g .entry-or-zero2 .ensures i))
-    ∙ sym (l .inv .1 .1 ∙ differs (both n) _ _ _ (inside n) row (l .col) (l .inv .0 .1 .1) (n .loop-test .taken) (sym (tested q) ∙ not-true _ (c .if1 .taken)))
+search-block-requires : tie.Need-search-block-requires
+search-block-requires c κs = let a = c .before .before in let s = a .before in (s .pre .0, (s .pre .1, a .are-alike .ensures))
+
+returns-2 : tie.Need-returns-2
+returns-2 c = c .search-block .ensures
 
 pub compare-block-spec : {M : Type 1} → statement M
 compare-block-spec =
-    tie.close
-    (tie.spec
-    Inv-loop
-    μ-loop
-    Inv-rows
-    μ-rows
-    without-entry-requires
-    rows-holds
-    loop-holds
-    entry-or-zero-requires
-    entry-or-zero-requires-2
-    equals-requires
-    add-k
-    add-col
-    loop-less
-    loop-again
-    add-row
-    rows-less
-    rows-again
-    returns
-    returns-2)
+    tie.close (tie.spec are-alike-requires same-block-requires without-entry-requires returns search-block-requires returns-2)

@@ -13,7 +13,7 @@ use Rattle.channel.specs.Compare.{isSame, scan}
 use Rattle.channel.specs.Inner.Walk.{bothAt, turnOf, cursorAt, advance}
 use Rattle.channel.proofs.Judging.{formed}
 use Rattle.channel.proofs.Chain.{onward-begin, first-index, header-long}
-use Rattle.channel.proofs.Merging.{held, Walking, walking-begin, left-some, right-some, walking-stop, walking-on, walking-less, walking-done}
+use Rattle.channel.proofs.Merging.{entries-held, Walking, walking-begin, left-some, right-some, walking-stop, walking-on, walking-less, walking-done}
 use mathlib.Core.List.{List}
 use Rattle.channel.proofs.compare.compare_chains.Statement.{statement}
 use Rattle.channel.proofs.compare.compare_chains.Tie as tie
@@ -101,10 +101,10 @@ compare-block-requires c κs =
     let k = walk t in
     let s = start t in (
       subst (λ (v : ℕ). v ≤ 256) (sym (s .pre .leftSide)) (formed _ (s .pre .left) .head .room .width),
-      λ i q. (
-        held (c .choose .result .left) _ _ _ (s .args .w) i (k .left .walk) (λ e. left-some k (t .if1 .taken) (sym (ap (λ (t : Turn). t .left) (c .choose .ensures)) ∙ e)) (s .pre .leftSide) q,
-        held (c .choose .result .right) _ _ _ (s .args .w) i (k .right .walk) (λ e. right-some k (t .if1 .taken) (sym (ap (λ (t : Turn). t .right) (c .choose .ensures)) ∙ e)) (s .pre .rightSide) q,
-      ),
+      record {
+        left = λ e. entries-held _ _ _ (s .args .w) (k .left .walk) (left-some k (t .if1 .taken) (sym (ap (λ (t : Turn). t .left) (c .choose .ensures)) ∙ e)) (s .pre .leftSide);
+        right = λ e. entries-held _ _ _ (s .args .w) (k .right .walk) (right-some k (t .if1 .taken) (sym (ap (λ (t : Turn). t .right) (c .choose .ensures)) ∙ e)) (s .pre .rightSide);
+      },
     )
 
 is-same-requires : tie.Need-is-same-requires Inv-loop μ-loop

@@ -7,7 +7,7 @@ use Rattle.channel.proofs.compare.entry_or_zero.Statement.{statement}
 use Rattle.channel.proofs.compare.entry_or_zero.Tie as tie
 
 read-entry-requires : tie.Need-read-entry-requires
-read-entry-requires c κs = (c .before .pre .inside (c .if1 .taken), c .before .pre .exponent (c .if1 .taken))
+read-entry-requires c κs = c .before .pre (c .if1 .taken)
 
 returns : tie.Need-returns
 returns c =

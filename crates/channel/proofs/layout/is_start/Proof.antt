@@ -6,7 +6,7 @@ use lib.Dec.{eqb, ltb}
 use lib.IntN.{ℤ, pos, natAbs}
 use lib.Signed.{ltZ}
 use mir.Syntax.{w64}
-use Rattle.channel.specs.Layout.{headerSize}
+use Rattle.channel.specs.Layout.{full, headerSize}
 use Rattle.store.proofs.Words.{Casts, read, unread, casts, natural}
 use Rattle.channel.proofs.Words.{low-start, high-start}
 use borrow.Author.Needs.{needs}
@@ -21,7 +21,7 @@ cast-if1 : tie.Need-cast-if1
 cast-if1 c = search needs
 
 returns : tie.Need-returns
-returns c = low-start (c .before .args .w) (c .before .args .count) (c .before .args .z) (unread (c .before .fits .z) (λ (z : ℤ). ltZ z (pos headerSize) ≡ true) (c .if1 .taken))
+returns c = low-start (full (c .before .args .w)) (c .before .args .count) (c .before .args .z) (unread (c .before .fits .z) (λ (z : ℤ). ltZ z (pos headerSize) ≡ true) (c .if1 .taken))
 
 record-size-requires : tie.Need-record-size-requires
 record-size-requires c κs = search needs
@@ -43,7 +43,7 @@ returns-2 c =
     let s = c .before .before in
     ap (λ (m : ℕ). eqb (m % c .record-size .result) 0 && ltb (m / c .record-size .result) (s .args .count)) (read (s .fits .z) (λ (z : ℤ). natAbs z - headerSize ≡ natAbs (s .args .z) - headerSize) refl)
     ∙ ap (λ (n : ℕ). eqb ((natAbs (s .args .z) - headerSize) % n) 0 && ltb ((natAbs (s .args .z) - headerSize) / n) (s .args .count)) (c .record-size .ensures)
-    ∙ high-start (s .args .w) (s .args .count) (s .args .z) (high (c .before))
+    ∙ high-start (full (s .args .w)) (s .args .count) (s .args .z) (high (c .before))
 
 pub is-start-spec : {M : Type 1} → statement M
 is-start-spec =

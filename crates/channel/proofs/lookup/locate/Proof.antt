@@ -3,6 +3,7 @@ use mathlib.Core.Path.{_≡_, sym, ap, _∙_, subst}
 use mathlib.Core.Bool.{true}
 use mathlib.Core.List.{List}
 use Prim.Native.Nat.{ℕ, _+_, _*_, _≤_}
+use native.Mathlib.Nat.{mul-le-mul}
 use native.Mathlib.Omega.{arith}
 use lib.ListN.{length}
 use lib.Seq.{take-length}
@@ -12,7 +13,7 @@ use Rattle.algebra.specs.Words.{fromBits}
 use Rattle.store.proofs.Bytes.{fits-word}
 use Rattle.verdict.specs.Verdict.{accepted}
 use Rattle.channel.specs.declared.Shape.{Shape}
-use Rattle.channel.specs.Layout.{recordHead, blockSize, recordSize, word, side, dimAt, bitsAt}
+use Rattle.channel.specs.Layout.{exponentPlace, full, channels, blockSize, recordSize, word, dimAt, bitsAt}
 use Rattle.channel.specs.WellFormed.{wellFormed, formVerdict}
 use Rattle.channel.specs.Inner.Shapes.{shapeAt}
 use Rattle.store.specs.Store.{storeFits}
@@ -67,7 +68,7 @@ module _ (c : tie.Else3) where
   abbrev two : tie.Else2
   two = c .before .before .before
 
-  inside : c .before .find-store .result + recordSize (side (dimAt (words (known two)))) ≤ length (words (known two))
+  inside : c .before .find-store .result + recordSize (channels (dimAt (words (known two)))) ≤ length (words (known two))
   inside = index-inside (words (known two)) (bytes (known two)) (right (two .before .before)) (c .before .find-store .result) (sym (found-at (c .before))) (omega arith)
 
   width : shape (known two) .dim * shape (known two) .dim ≤ 256
@@ -102,7 +103,7 @@ returns-4 c =
     let f = c .before .before .before in
     let t = f .before .before in
     let k = known t in
-    ap (λ (n : ℕ). record { start = f .find-store .result + recordHead; size = n }) (c .block-size .ensures ∙ ap (λ (h : Shape). blockSize (h .dim * h .dim)) (is (t .before .before)))
+    ap (λ (n : ℕ). record { start = f .find-store .result + exponentPlace; size = 1 + n }) (c .block-size .ensures ∙ ap (λ (h : Shape). blockSize (full (h .dim * h .dim))) (is (t .before .before)))
     ∙ sym (ap (spanOf (words k)) (look t ∙ ap placed (sym (found-at f)) ∙ placed-found (f .find-store .result) (omega arith)))
 
 pub locate-spec : {M : Type 1} → statement M
@@ -110,4 +111,4 @@ locate-spec =
     tie.close
     (tie.spec (λ c κs. search needs) (λ c κs. search needs) (λ c κs. search needs) returns (λ c κs. search needs) (λ c κs. search needs) returns-2 pack-requires
     (λ c κs. let e = c .before .before .before in (right e, ap (λ (h : Shape). h .count) (is e))) (λ c κs. search needs) returns-3
-    (λ c. let q = width (c .before) in omega arith) (λ c. let q = inside (c .before) in omega arith) (λ c κs. width (c .before)) returns-4)
+    (λ c. let q = width (c .before) in omega arith) (λ c. let q = inside (c .before) in omega arith) (λ c κs. width (c .before)) (λ c. let q = mul-le-mul (width (c .before .before)) (width (c .before .before)) in omega (arith, c .block-size .ensures)) returns-4)

@@ -16,7 +16,7 @@ use Rattle.verdict.specs.declared.Verdict.the-variants.{Accepted, Malformed}
 use Rattle.algebra.proofs.Tests.{and-split}
 use Rattle.algebra.proofs.Signed.{cast-ok}
 use Rattle.channel.specs.declared.Shape.{Shape}
-use Rattle.channel.specs.Layout.{headerSize, word, recordSize, dimAt}
+use Rattle.channel.specs.Layout.{full, channels, headerSize, word, recordSize, dimAt}
 use Rattle.channel.specs.WellFormed.{isDim, counted, headerOk, verdictBy}
 use Rattle.channel.specs.Inner.Shapes.{shapeBy, noShape}
 use Rattle.store.proofs.Words.{Casts, read, casts-up, up-abs}
@@ -59,15 +59,15 @@ module _ (c : tie.Else2) where
   small = read (dim a) (λ (z : ℤ). natAbs z ≤ 16) (up-abs 16 (word (words a) 0) (range .0))
 
 -- room for the records
-counts : (c : tie.After-up-to2) → c .up-to2 .result ≡ counted (words (a (c .before .before)))
+counts : (c : tie.After-up-to2) → c .up-to2 .result ≡ counted (channels (dimAt (words (a (c .before .before))))) (words (a (c .before .before)))
 counts c =
     let l = words (a (c .before .before)) in
     c .up-to2 .ensures
     ∙ (λ i. upTo ((length l - headerSize) / c .before .record-size .ensures i) (toZ-ofZ (count (a (c .before .before))) i))
-    ∙ ap (λ (z : ℤ). upTo ((length l - headerSize) / recordSize (natAbs z * natAbs z)) (word l 2)) (toZ-ofZ (dim (a (c .before .before))))
+    ∙ ap (λ (z : ℤ). upTo ((length l - headerSize) / recordSize (full (natAbs z * natAbs z))) (word l 2)) (toZ-ofZ (dim (a (c .before .before))))
 
 -- the header by its three tests
-refused : (l : List ℤ) (s : Shape) → s ≡ noShape Malformed → headerOk l ≡ false → s ≡ shapeBy (verdictBy (headerOk l) false) l
+refused : (l : List ℤ) (s : Shape) → s ≡ noShape Malformed → headerOk (channels (dimAt l)) l ≡ false → s ≡ shapeBy (verdictBy (headerOk (channels (dimAt l)) l) false) l
 refused l s e f = e ∙ ap (λ (b : Bool). shapeBy (verdictBy b false) l) (sym f)
 
 no-shape-requires : tie.Need-no-shape-requires
@@ -76,7 +76,7 @@ no-shape-requires c κs = search needs
 returns : tie.Need-returns
 returns c =
     let l = c .before .before .args .s .now in
-    refused l _ (c .no-shape .ensures) (ap (λ (b : Bool). b && ((isDim (word l 0) && upTo 64 (word l 1)) && counted l)) (lt-leb headerSize (length l) (c .before .if1 .taken)))
+    refused l _ (c .no-shape .ensures) (ap (λ (b : Bool). b && ((isDim (word l 0) && upTo 64 (word l 1)) && counted (channels (dimAt l)) l)) (lt-leb headerSize (length l) (c .before .if1 .taken)))
 
 shared-slice-copy-out-dim : tie.Need-shared-slice-copy-out-dim
 shared-slice-copy-out-dim c = search needs
@@ -100,7 +100,7 @@ returns-2 : tie.Need-returns-2
 returns-2 c =
     let u = c .before .before in
     let l = words (u .before .before) in
-    refused l _ (c .no-shape2 .ensures) (λ i. long (u .before .before) i && ((sym (both u) ∙ not-true _ (c .before .if2 .taken)) i && counted l))
+    refused l _ (c .no-shape2 .ensures) (λ i. long (u .before .before) i && ((sym (both u) ∙ not-true _ (c .before .if2 .taken)) i && counted (channels (dimAt l)) l))
 
 cast-d : tie.Need-cast-d
 cast-d c = read (dim (a c)) (Casts w64) (cast-ok 16 (word (words (a c)) 0) (range c .0) (record { fits = lit< tt }))
@@ -140,7 +140,7 @@ cast-n : tie.Need-cast-n
 cast-n c =
     let e = c .before .before .before in
     let l = words (a e) in
-    read (count (a e)) (Casts w64) (casts-up ((length l - headerSize) / recordSize (dimAt l * dimAt l)) (word l 2) (count (a e)) (sym (counts (c .before)) ∙ not-false _ (c .if3 .left)))
+    read (count (a e)) (Casts w64) (casts-up ((length l - headerSize) / recordSize (channels (dimAt l))) (word l 2) (count (a e)) (sym (counts (c .before)) ∙ not-false _ (c .if3 .left)))
 
 returns-4 : tie.Need-returns-4
 returns-4 c =
@@ -150,7 +150,7 @@ returns-4 c =
     let d = toZ-ofZ (dim (a e)) in
     let b = toZ-ofZ (bits (a e)) in
     let n = toZ-ofZ (count (a e)) in
-    let ok : headerOk l ≡ true = λ i. long (a e) i && (right e i && (sym (counts u) ∙ not-false _ (c .if3 .left)) i) in
+    let ok : headerOk (channels (dimAt l)) l ≡ true = λ i. long (a e) i && (right e i && (sym (counts u) ∙ not-false _ (c .if3 .left)) i) in
     (λ i. record { verdict = Accepted; dim = natAbs (d i); bits = natAbs (b i); count = natAbs (n i) }) ∙ ap (λ (b : Bool). shapeBy (verdictBy b false) l) (sym ok)
 
 pub header-spec : {M : Type 1} → statement M

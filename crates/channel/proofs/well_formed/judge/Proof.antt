@@ -9,7 +9,7 @@ use borrow.Author.Tests.{not-true, not-false}
 use Rattle.verdict.specs.declared.Verdict.{Verdict}
 use Rattle.verdict.specs.Verdict.{accepted}
 use Rattle.channel.specs.declared.Shape.{Shape}
-use Rattle.channel.specs.Layout.{word, chain}
+use Rattle.channel.specs.Layout.{full, channels, word, dimAt, chain}
 use Rattle.channel.specs.WellFormed.{headerOk, chainOk, someZero, verdictBy, formVerdict}
 use Rattle.channel.specs.Inner.Shapes.{Room, shapeAt, noShape, shapeBy}
 use Rattle.channel.proofs.Judging.{headed, verdict-test, shape-test, shape-is, shape-no, shape-yes, shape-refused, bad-header, form-along}
@@ -24,14 +24,14 @@ abbrev shape : tie.After-is-accepted → Shape
 shape c = c .before .header .result
 
 abbrev headed-by : tie.After-is-accepted → Verdict
-headed-by c = verdictBy (headerOk (words c)) false
+headed-by c = verdictBy (headerOk (channels (dimAt (words c))) (words c)) false
 
-tested : (c : tie.After-is-accepted) → c .is-accepted .result ≡ headerOk (words c)
-tested c = c .is-accepted .ensures ∙ shape-test (words c) (headed-by c) (shape c) (c .before .header .ensures) ∙ verdict-test (headerOk (words c))
+tested : (c : tie.After-is-accepted) → c .is-accepted .result ≡ headerOk (channels (dimAt (words c))) (words c)
+tested c = c .is-accepted .ensures ∙ shape-test (words c) (headed-by c) (shape c) (c .before .header .ensures) ∙ verdict-test (headerOk (channels (dimAt (words c))) (words c))
 
 -- the header is right
 module _ (c : tie.Else1) where
-  right : headerOk (words (c .before)) ≡ true
+  right : headerOk (channels (dimAt (words (c .before)))) (words (c .before)) ≡ true
   right = sym (tested (c .before)) ∙ not-false _ (c .if1 .left)
 
   is : shape (c .before) ≡ shapeAt (words (c .before))
@@ -51,7 +51,7 @@ module _ (c : tie.After-is-accepted2) where
   chains : c .before .judge-chain .result ≡ formVerdict list
   chains =
       c .before .judge-chain .ensures
-      ∙ ap (λ (h : Shape). verdictBy (chainOk list (h .dim * h .dim) (h .bits) (h .count) (h .count) (word list 3) true 0) (someZero (h .dim * h .dim) (chain list (h .count) (natAbs (word list 3))))) (is one)
+      ∙ ap (λ (h : Shape). verdictBy (chainOk (full (h .dim * h .dim)) list (h .bits) (h .count) (h .count) (word list 3) true 0) (someZero (h .dim * h .dim) (chain (full (h .dim * h .dim)) list (h .count) (natAbs (word list 3))))) (is one)
       ∙ sym (form-along list (right one))
 
   passes : c .is-accepted2 .result ≡ accepted (formVerdict list)

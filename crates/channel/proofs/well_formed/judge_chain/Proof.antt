@@ -12,7 +12,7 @@ use mir.Syntax.{w64}
 use mir.Val.{toZ}
 use borrow.Author.Tests.{not-true, not-false}
 use Rattle.verdict.specs.declared.Verdict.{Verdict}
-use Rattle.channel.specs.Layout.{recordSize, word, entryAt, storeAt, chain}
+use Rattle.channel.specs.Layout.{full, recordSize, word, entryAt, storeAt, chain}
 use Rattle.channel.specs.WellFormed.{isStart, recordOk, chainOk, allZero, someZero, verdictBy}
 use Rattle.algebra.specs.Words.{eqℤ}
 use Rattle.algebra.proofs.Signed.{reads}
@@ -25,20 +25,20 @@ use Rattle.channel.proofs.well_formed.judge_chain.Tie as tie
 -- the verdict, `left` records from index z on, where `blank` tells of the blocks before them
 module _ (l : List ℤ) (w m count left : ℕ) where
   abbrev verdict : ℤ → Bool → ℕ → Bool → Verdict
-  verdict z first prev blank = verdictBy (chainOk l w m count left z first prev) (blank || someZero w (chain l left (natAbs z)))
+  verdict z first prev blank = verdictBy (chainOk (full w) l m count left z first prev) (blank || someZero w (chain (full w) l left (natAbs z)))
 
-  refused : (z : ℤ) (first : Bool) (prev : ℕ) (blank : Bool) → chainOk l w m count left z first prev ≡ false → verdict z first prev blank ≡ verdictBy false blank
-  refused z first prev blank e = ap (λ (b : Bool). verdictBy b (blank || someZero w (chain l left (natAbs z)))) e
+  refused : (z : ℤ) (first : Bool) (prev : ℕ) (blank : Bool) → chainOk (full w) l m count left z first prev ≡ false → verdict z first prev blank ≡ verdictBy false blank
+  refused z first prev blank e = ap (λ (b : Bool). verdictBy b (blank || someZero w (chain (full w) l left (natAbs z)))) e
 
-  further : (z : ℤ) (first : Bool) (prev : ℕ) (blank : Bool) → 0 < left → isStart w count z ≡ true → recordOk l w m (natAbs z) first prev ≡ true → verdict z first prev blank ≡ verdictBy
-      (chainOk l w m count (left - 1) (word l (natAbs z)) false (storeAt l (natAbs z))) ((blank || allZero (w * w) (entryAt l (natAbs z))) || someZero w (chain l (left - 1) (natAbs (word l (natAbs z)))))
+  further : (z : ℤ) (first : Bool) (prev : ℕ) (blank : Bool) → 0 < left → isStart (full w) count z ≡ true → recordOk (full w) l m (natAbs z) first prev ≡ true → verdict z first prev blank ≡ verdictBy
+      (chainOk (full w) l m count (left - 1) (word l (natAbs z)) false (storeAt l (natAbs z))) ((blank || allZero (w * w) (entryAt (full w) l (natAbs z))) || someZero w (chain (full w) l (left - 1) (natAbs (word l (natAbs z)))))
   further z first prev blank h e f =
-      λ i. verdictBy (goes-on l w m count left z first prev h e f i)
-      ((ap (λ (b : Bool). blank || b) (zero-step l w left (natAbs z) h) ∙ or-assoc blank (allZero (w * w) (entryAt l (natAbs z))) (someZero w (chain l (left - 1) (natAbs (word l (natAbs z)))))) i)
+      λ i. verdictBy (goes-on (full w) l m count left z first prev h e f i)
+      ((ap (λ (b : Bool). blank || b) (zero-step l w left (natAbs z) h) ∙ or-assoc blank (allZero (w * w) (entryAt (full w) l (natAbs z))) (someZero w (chain (full w) l (left - 1) (natAbs (word l (natAbs z)))))) i)
 
   ended : (z : ℤ) (first : Bool) (prev : ℕ) (blank ends : Bool) → left ≤ 0 → eqℤ z (pos 0) ≡ ends → verdict z first prev blank ≡ verdictBy ends blank
   ended z first prev blank ends h e =
-      λ i. verdictBy ((chain-end l w m count left z first prev h ∙ e) i) ((ap (λ (b : Bool). blank || b) (zero-end l w left (natAbs z) h) ∙ or-end blank) i)
+      λ i. verdictBy ((chain-end (full w) l m count left z first prev h ∙ e) i) ((ap (λ (b : Bool). blank || b) (zero-end l w left (natAbs z) h) ∙ or-end blank) i)
 
 abbrev Inv-loop : tie.InvT-loop
 Inv-loop s w m count z₀ first₀ prev₀ blank₀ left₀ z first prev blank left = (left ≤ count) × (verdict s w m count count (word s 3) true 0 false ≡ verdict s w m count left (toZ w64 z) first prev blank)
@@ -60,13 +60,13 @@ module _ (c : tie.Else1 Inv-loop μ-loop) where
   abbrev start : tie.Start Inv-loop μ-loop
   start = c .before .before .before .before .before
 
-  tested : isStart (start .args .w) (start .args .count) index ≡ true
+  tested : isStart (full (start .args .w)) (start .args .count) index ≡ true
   tested = sym (c .before .is-start .ensures) ∙ not-false _ (c .if1 .left)
 
-  found : T (nonNeg index) × Starts (start .args .w) (start .args .count) (natAbs index)
-  found = starts (start .args .w) (start .args .count) index tested
+  found : T (nonNeg index) × Starts (full (start .args .w)) (start .args .count) (natAbs index)
+  found = starts (full (start .args .w)) (start .args .count) index tested
 
-  inside : natAbs index + recordSize (start .args .w) ≤ length (start .args .s .now)
+  inside : natAbs index + recordSize (full (start .args .w)) ≤ length (start .args .s .now)
   inside = le-trans (starts-inside (found .1)) (start .pre .inside)
 
 is-start-requires : tie.Need-is-start-requires Inv-loop μ-loop

@@ -4,8 +4,8 @@ use mathlib.Core.Bool.{Bool, true, false, _&&_, _||_}
 use Prim.Native.Nat.{ℕ, _*_}
 use borrow.Author.Tests.{not-true, not-false}
 use Rattle.store.specs.Store.{before}
-use Rattle.channel.specs.Layout.{entryAt, storeAt}
-use Rattle.channel.specs.WellFormed.{rises, storeOk, entriesOk, allZero}
+use Rattle.channel.specs.Layout.{full, entryAt, storeAt}
+use Rattle.channel.specs.WellFormed.{rises, storeOk, blockOk, allZero}
 use Rattle.channel.proofs.Judging.{good, bad, is-bad, is-good}
 use borrow.Author.Needs.{needs}
 use Rattle.channel.proofs.well_formed.judge_record.Statement.{statement}
@@ -21,11 +21,11 @@ module _ (s : tie.Start) where
   abbrev inOrder : Bool
   inOrder = rises (s .args .first) (s .args .prev) store
 
-  abbrev inEntries : Bool
-  inEntries = entriesOk (s .args .s .now) (s .args .at) (s .args .w * s .args .w)
+  abbrev inBlock : Bool
+  inBlock = blockOk (full (s .args .w)) (s .args .s .now) (s .args .at)
 
   abbrev blank : Bool
-  blank = allZero (s .args .w * s .args .w) (entryAt (s .args .s .now) (s .args .at))
+  blank = allZero (s .args .w * s .args .w) (entryAt (full (s .args .w)) (s .args .s .now) (s .args .at))
 
 abbrev start : tie.Else1 → tie.Start
 start c = c .before .before .before
@@ -52,7 +52,7 @@ returns : tie.Need-returns
 returns c =
     let j = c .before .before .before in
     let s = j .before in
-    is-bad _ (inStore s && (inOrder s && inEntries s)) _ _ (c .bad .ensures) (ap (λ (b : Bool). b && (inOrder s && inEntries s)) (bad _ (inStore s) false (store s) (j .judge-store .ensures) (not-true _ (c .before .if1 .taken))))
+    is-bad _ (inStore s && (inOrder s && inBlock s)) _ _ (c .bad .ensures) (ap (λ (b : Bool). b && (inOrder s && inBlock s)) (bad _ (inStore s) false (store s) (j .judge-store .ensures) (not-true _ (c .before .if1 .taken))))
 
 comes-before-requires : tie.Need-comes-before-requires
 comes-before-requires c κs = search needs
@@ -64,13 +64,10 @@ returns-2 : tie.Need-returns-2
 returns-2 c =
     let b = c .before .before in
     let s = start (b .before) in
-    is-bad _ (inStore s && (inOrder s && inEntries s)) _ _ (c .bad2 .ensures) (λ i. fine (b .before) .0 i && ((sym (ordered b) ∙ not-true _ (c .before .if2 .taken)) i && inEntries s))
+    is-bad _ (inStore s && (inOrder s && inBlock s)) _ _ (c .bad2 .ensures) (λ i. fine (b .before) .0 i && ((sym (ordered b) ∙ not-true _ (c .before .if2 .taken)) i && inBlock s))
 
-mul-judge-entries : tie.Need-mul-judge-entries
-mul-judge-entries c = search needs
-
-judge-entries-requires : tie.Need-judge-entries-requires
-judge-entries-requires c κs = search needs
+judge-block-requires : tie.Need-judge-block-requires
+judge-block-requires c κs = search needs
 
 bad-requires-3 : tie.Need-bad-requires-3
 bad-requires-3 c κs = search needs
@@ -80,7 +77,7 @@ returns-3 c =
     let e = c .before .before .before in
     let o = e .before in
     let s = start (o .before .before) in
-    is-bad _ (inStore s && (inOrder s && inEntries s)) _ _ (c .bad3 .ensures) (λ i. fine (o .before .before) .0 i && (rising o i && bad _ (inEntries s) (blank s) 0 (e .judge-entries .ensures) (not-true _ (c .before .if3 .taken)) i))
+    is-bad _ (inStore s && (inOrder s && inBlock s)) _ _ (c .bad3 .ensures) (λ i. fine (o .before .before) .0 i && (rising o i && bad _ (inBlock s) (blank s) 0 (e .judge-block .ensures) (not-true _ (c .before .if3 .taken)) i))
 
 returns-4 : tie.Need-returns-4
 returns-4 c =
@@ -88,8 +85,8 @@ returns-4 c =
     let o = e .before in
     let f = fine (o .before .before) in
     let s = start (o .before .before) in
-    let g = good _ (inEntries s) (blank s) 0 (e .judge-entries .ensures) (not-false _ (c .if3 .left)) in
-    is-good _ _ (inStore s && (inOrder s && inEntries s)) _ _ (g .1 .1) (f .1) (λ i. f .0 i && (rising o i && g .0 i))
+    let g = good _ (inBlock s) (blank s) 0 (e .judge-block .ensures) (not-false _ (c .if3 .left)) in
+    is-good _ _ (inStore s && (inOrder s && inBlock s)) _ _ (g .1 .1) (f .1) (λ i. f .0 i && (rising o i && g .0 i))
 
 pub judge-record-spec : {M : Type 1} → statement M
 judge-record-spec =
@@ -101,8 +98,7 @@ judge-record-spec =
     comes-before-requires
     bad-requires-2
     returns-2
-    mul-judge-entries
-    judge-entries-requires
+    judge-block-requires
     bad-requires-3
     returns-3
     returns-4)

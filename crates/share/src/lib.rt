@@ -1,0 +1,53 @@
+// Numerators over one power of two, brought to their shared form in place: the power of two that all of them have in common is taken out at once.
+use exact::numerators::common_zeros;
+use exact::numerators::least;
+ghost use mathlib.Core.Path.{_≡_};
+ghost use Prim.Native.Nat.{ℕ, _+_, _*_, _^_, _<_, _≤_};
+ghost use lib.ListN.{length, getD};
+ghost use lib.IntN.{pos};
+ghost use lib.Signed.{shrZ};
+ghost use mir.Syntax.{w64};
+ghost use mir.Val.{SFits, ofZ};
+ghost use Rattle.algebra.specs.Words.{fillWords};
+ghost use Rattle.share.specs.Share.{orWords, sharedFrom, withNumerators};
+
+// The bits that some of n words has.
+fn or_words(s: &[i64], at: usize, n: usize) -> i64
+    requires { ⌜ at + n ≤ length (now s) ⌝ }
+    ensures bits { λ r. ⌜ ofZ w64 r ≡ orWords (now (s .entry)) at n ⌝ }
+    ensures fit { λ r. ⌜ ((i : ℕ) → i < n → SFits w64 (getD (now (s .entry)) (at + i) (pos 0))) ⌝ }
+{
+    let mut g = 0i64;
+    let mut i = 0;
+    while i < n {
+        g = g | s[at + i];
+        i += 1;
+    }
+    g
+}
+
+// Shift each of n words by t.
+fn shift_words(s: &mut [i64], at: usize, n: usize, t: u32)
+    requires { ⌜ (at + n ≤ length (now s)) × (t ≤ 63) ⌝ }
+    ensures { λ _. ⌜ now (s .exit) ≡ fillWords (now (s .entry)) at n (λ (i : ℕ). shrZ (getD (now (s .entry)) (at + i) (pos 0)) (2 ^ t)) ⌝ }
+{
+    let mut i = 0;
+    while i < n {
+        let x = s[at + i];
+        s[at + i] = x >> t;
+        i += 1;
+    }
+}
+
+// Bring n numbers from `at` on, four numerators each, over 2^e, to their shared form; its exponent.
+pub fn share(s: &mut [i64], at: usize, n: usize, e: u32) -> u32
+    requires { ⌜ (at + n * 4 ≤ length (now s)) × (e ≤ 63) ⌝ }
+    ensures exponent { λ r. ⌜ r ≡ sharedFrom (now (s .entry)) at n e .exp ⌝ }
+    ensures numerators { λ r. ⌜ now (s .exit) ≡ withNumerators (now (s .entry)) at n (sharedFrom (now (s .entry)) at n e .num) ⌝ }
+{
+    let m = n * 4;
+    let g = or_words(s, at, m);
+    let t = least(common_zeros(g, 0, 0, 0), e);
+    shift_words(s, at, m, t);
+    e - t
+}
