@@ -11,7 +11,7 @@ use Rattle.verdict.specs.declared.Verdict.{Verdict}
 use Rattle.verdict.specs.declared.Verdict.the-variants.{Accepted, ShortBuffer, TooLarge}
 use Rattle.verdict.specs.Verdict.{accepted}
 use Rattle.channel.specs.declared.Shape.{Shape}
-use Rattle.channel.specs.Layout.{headerSize, recordSize, word, dimAt, countAt}
+use Rattle.channel.specs.Layout.{effects, headerSize, recordSize, word, dimAt, countAt}
 use Rattle.channel.specs.WellFormed.{formVerdict}
 use Rattle.channel.specs.Inner.Shapes.{shapeAt, shapeOf, noShape, shapeBy}
 use Rattle.channel.proofs.Judging.{form-right, shape-verdict}
@@ -65,8 +65,8 @@ module _ (l res : List ℤ) (d n : ℕ) (r : Ready l res d n) where
   pub ready-fit : sumsFit l d n ≡ true
   ready-fit = (λ i. sumsFit l (r .dim i) (r .count i)) ∙ r .fit
 
-  pub ready-room : headerSize + n * recordSize d ≤ length res
+  pub ready-room : headerSize + n * recordSize (effects d) ≤ length res
   ready-room = subst (λ (k : ℕ). k ≤ length res) (sym size) (r .room)
     where
-      size : headerSize + n * recordSize d ≡ effectsSize l
-      size = λ i. headerSize + r .count i * recordSize (r .dim i)
+      size : headerSize + n * recordSize (effects d) ≡ effectsSize l
+      size = λ i. headerSize + r .count i * recordSize (effects (r .dim i))

@@ -1,4 +1,5 @@
 pub mod Summing
+pub mod Entries
 pub mod Linking
 pub mod Strides
 pub mod Records

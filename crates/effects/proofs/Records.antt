@@ -2,31 +2,31 @@
 use mathlib.Core.Path.{_≡_, sym, ap, _∙_, subst}
 use mathlib.Core.Bool.{true}
 use mathlib.Core.List.{List}
-use Prim.Native.Nat.{ℕ, suc, _+_, _*_, _-_, _≤_}
+use Prim.Native.Nat.{ℕ, suc, _+_, _-_, _≤_}
 use native.Mathlib.Nat.{mul-le-mul, le-refl}
 use native.Mathlib.Omega.{arith}
 use lib.ListN.{length}
 use lib.IntN.{ℤ, pos, natAbs}
 use Rattle.exact.specs.Exact.{Exact}
-use Rattle.cells.proofs.Cell.{length-cells}
-use Rattle.channel.specs.Layout.{headerSize, recordHead, entrySize, recordSize, recordAt, side, word, dimAt, countAt}
+use Rattle.channel.specs.Layout.{channels, effects, headerSize, recordHead, blockSize, recordSize, recordAt, word, dimAt, countAt}
 use Rattle.channel.specs.WellFormed.{wellFormed}
 use Rattle.channel.specs.Inner.Shapes.{Onward}
-use Rattle.channel.proofs.Judging.{formed}
-use Rattle.channel.proofs.Chain.{onward-begin, first-index, chain-from, on-inside, on-entry, on-index, on-next}
+use Rattle.channel.proofs.Judging.{in-channel, formed}
+use Rattle.channel.proofs.Chain.{onward-begin, first-index, chain-from, on-inside, on-block, on-index, on-next}
+use Rattle.channel.proofs.Restore.{length-block}
 use Rattle.channel.proofs.Visits.{each-record}
-use Rattle.effects.specs.Effects.{effectRecord}
+use Rattle.effects.specs.Effects.{effectShared, effectRecord}
 use Rattle.effects.specs.Inner.Readable.{Dim, Linked, Readable, Records}
 use Rattle.effects.proofs.Linking.{record-less}
 
-pub record-length : (entry : List ℤ → ℕ → ℕ → ℕ → Exact) (l : List ℤ) (d at : ℕ) → length (effectRecord entry l d at) ≡ recordSize d
-record-length entry l d at = ap (λ (n : ℕ). suc (suc (suc n))) (length-cells (entry l at d) (d * d)) ∙ by (d * d * entrySize)
+pub record-length : (entry : List ℤ → ℕ → ℕ → ℕ → Exact) (l : List ℤ) (d at : ℕ) → length (effectRecord entry l d at) ≡ recordSize (effects d)
+record-length entry l d at = ap (λ (n : ℕ). suc (suc (suc (suc n)))) (length-block (effects d) (effectShared entry l at d .num)) ∙ by (blockSize (effects d))
   where
-    by : (n : ℕ) → suc (suc (suc n)) ≡ recordHead + n
+    by : (n : ℕ) → suc (suc (suc (suc n))) ≡ recordHead + n
     by n = omega arith
 
 -- the effects' records are no longer than the channel's
-pub shorter : {d : ℕ} → Dim d → (n : ℕ) → recordAt d n ≤ recordAt (side d) n
+pub shorter : {d : ℕ} → Dim d → (n : ℕ) → recordAt (effects d) n ≤ recordAt (channels d) n
 shorter m n = let p = mul-le-mul (le-refl n) (record-less m) in omega arith
 
 -- ---- what a well-formed channel says of its records
@@ -48,10 +48,10 @@ module _ (l : List ℤ) (e : wellFormed l ≡ true) where
   records-of = record {
     dim = dim-of;
     inside = formed l e .head .room .inside;
-    each = each-record l e (λ (at : ℕ). Readable l at (dimAt l)) (λ n at o h. record {
+    each = each-record (channels (dimAt l)) l (sym (in-channel l) ∙ e) (λ (at : ℕ). Readable l at (dimAt l)) (λ n at o h. record {
       dim = dim-of;
       inside = on-inside o h;
-      formed = on-entry o h;
+      formed = on-block o h;
       next = linked (n - 1) (natAbs (word l at)) (on-next o h) (word l at) (on-index o h);
     });
   }

@@ -57,6 +57,11 @@ module _ (x y : Exact) (a : Answer) (p : wellFormed x ≡ true) (q : wellFormed 
   add-value : isAccepted (a .verdict) ≡ true → a .value ≡ scalarOf (exact ._⊕_ x y)
   add-value t = ap (λ (b : Answer). b .value) (is-fitting ∙ ap (λ (b : Bool). cond b (accepted (exact ._⊕_ x y)) (refusedWith TooLarge)) (sym add-tests ∙ t))
 
+-- ---- a sum whose partial sums are in range
+pub sum-formed : (f : ℕ → Exact) (o : ℕ) → partialsFit o f ≡ true → wellFormed (sum exact o f) ≡ true
+sum-formed f zero e = refl
+sum-formed f (suc o) e = λ i. all-at (suc o) (λ (m : ℕ). inRange (sum exact (suc m) f)) e o (omega arith) i && add-lowest (sum exact o f) (f o) i
+
 -- ---- acc is the sum of the first o of d terms, and all sums up to it are in range
 pub record Summed (f : ℕ → Exact) (d o : ℕ) (acc : Scalar) : Type 0 where
   pub count : o ≤ d
@@ -65,11 +70,7 @@ pub record Summed (f : ℕ → Exact) (d o : ℕ) (acc : Scalar) : Type 0 where
 
 module _ (f : ℕ → Exact) (d o : ℕ) (acc : Scalar) (s : Summed f d o acc) where
   formed : wellFormed (sum exact o f) ≡ true
-  formed = by o (s .fit)
-    where
-      by : (o : ℕ) → partialsFit o f ≡ true → wellFormed (sum exact o f) ≡ true
-      by zero e = refl
-      by (suc o) e = λ i. all-at (suc o) (λ (m : ℕ). inRange (sum exact (suc m) f)) e o (omega arith) i && add-lowest (sum exact o f) (f o) i
+  formed = sum-formed f o (s .fit)
 
   module _ (x : Scalar) (a : Answer) (h : o < d) (q : wellFormed (f o) ≡ true) (r : x ≡ scalarOf (f o)) (e : a ≡ addAnswer (value acc) (value x)) where
     added : a ≡ addAnswer (sum exact o f) (f o)

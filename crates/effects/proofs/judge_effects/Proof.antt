@@ -13,7 +13,7 @@ use Rattle.verdict.specs.declared.Verdict.{Verdict}
 use Rattle.verdict.specs.declared.Verdict.the-variants.{Accepted, ShortBuffer, TooLarge}
 use Rattle.verdict.specs.Verdict.{accepted}
 use Rattle.channel.specs.declared.Shape.{Shape}
-use Rattle.channel.specs.Layout.{headerSize, recordSize, dimAt, countAt}
+use Rattle.channel.specs.Layout.{effects, headerSize, recordSize, dimAt, countAt}
 use Rattle.channel.specs.WellFormed.{wellFormed, formVerdict}
 use Rattle.channel.specs.Inner.Shapes.{shapeAt, shapeBy}
 use Rattle.channel.proofs.Judging.{form-right, shape-test, shape-is}
@@ -61,11 +61,11 @@ module _ (c : tie.Else1) where
   records = subst (λ (h : Shape). Records (words known) (h .dim) (h .count)) (sym is) (records-of (words known) right)
 
 module _ (c : tie.After-record-size) where
-  size : headerSize + shape (known (c .before)) .count * c .record-size .result ≡ headerSize + shape (known (c .before)) .count * recordSize (shape (known (c .before)) .dim)
+  size : headerSize + shape (known (c .before)) .count * c .record-size .result ≡ headerSize + shape (known (c .before)) .count * recordSize (effects (shape (known (c .before)) .dim))
   size = ap (λ (r : ℕ). headerSize + shape (known (c .before)) .count * r) (c .record-size .ensures)
 
   need-is : headerSize + shape (known (c .before)) .count * c .record-size .result ≡ effectsSize (words (known (c .before)))
-  need-is = size ∙ ap (λ (h : Shape). headerSize + h .count * recordSize (h .dim)) (is (c .before))
+  need-is = size ∙ ap (λ (h : Shape). headerSize + h .count * recordSize (effects (h .dim))) (is (c .before))
 
   inside : headerSize + shape (known (c .before)) .count * c .record-size .result ≤ length (words (known (c .before)))
   inside = subst (λ (n : ℕ). n ≤ length (words (known (c .before)))) (sym size) (le-trans (shorter (dim (c .before)) (shape (known (c .before)) .count)) (records (c .before) .inside))

@@ -1,75 +1,43 @@
 -- `record_fits` meets its contract.
-use mathlib.Core.Path.{_≡_, refl, sym, ap, _∙_}
-use mathlib.Core.Bool.{true}
-use Prim.Native.Nat.{ℕ, _*_, _-_, _≤_}
-use native.Mathlib.Omega.{arith}
+use mathlib.Core.Path.{_≡_, sym, ap, _∙_}
+use mathlib.Core.Bool.{Bool, true, _&&_}
+use Prim.Native.Nat.{_*_}
 use borrow.Author.Tests.{not-true, not-false}
-use Rattle.algebra.specs.Lists.{allBelow}
-use Rattle.algebra.proofs.Tests.{all-step, all-no}
-use Rattle.effects.specs.Effects.{term, partialsFit}
-use Rattle.effects.proofs.Summing.{dim-square, answer-tests}
+use Rattle.channel.specs.Shared.{shared, sharedFits}
+use Rattle.effects.specs.Effects.{effectAt, termsFit}
+use Rattle.effects.proofs.Entries.{fits-by}
 use Rattle.effects.proofs.record_fits.Statement.{statement}
 use Rattle.effects.proofs.record_fits.Tie as tie
 
-abbrev Inv-loop : tie.InvT-loop
-Inv-loop s at d n i₀ i = (i ≤ d * d) × (allBelow i (λ (k : ℕ). partialsFit d (term s at d k)) ≡ true)
+terms : (c : tie.Else1) → (let s = c .before .before .args in termsFit (s .s .now) (s .at) (s .d) ≡ true)
+terms c = sym (c .before .terms-fit .ensures) ∙ not-false _ (c .if1 .left)
 
-abbrev μ-loop : tie.MeasureT-loop
-μ-loop s at d n i₀ i = d * d - i
+terms-fit-requires : tie.Need-terms-fit-requires
+terms-fit-requires c κs = c .pre
 
-tested : (v : tie.After-is-accepted Inv-loop μ-loop) → (let l = v .before .before .before in let s = l .before .args in v .is-accepted .result ≡ partialsFit (s .d) (term (s .s .now) (s .at) (s .d) (l .loop .i)))
-tested v = let l = v .before .before .before in let s = l .before .args in v .is-accepted .ensures ∙ answer-tests (term (s .s .now) (s .at) (s .d) (l .loop .i)) (s .d) _ (v .before .sum-entry .ensures)
-
-mul-n : tie.Need-mul-n Inv-loop μ-loop
-mul-n c = let q = dim-square (c .pre .dim) in omega arith
-
-loop-holds : tie.Need-loop-holds Inv-loop μ-loop
-loop-holds c = (omega arith, refl)
-
-sum-entry-requires : tie.Need-sum-entry-requires Inv-loop μ-loop
-sum-entry-requires c κs = (c .before .before .pre, c .loop-test .taken)
-
-is-accepted-requires : tie.Need-is-accepted-requires Inv-loop μ-loop
-is-accepted-requires c κs = tt
-
-returns : tie.Need-returns Inv-loop μ-loop
+returns : tie.Need-returns
 returns c =
-    let v = c .before in
-    let l = v .before .before .before in
-    let s = l .before .args in
-    sym (all-no (s .d * s .d) (l .loop .i) (λ (k : ℕ). partialsFit (s .d) (term (s .s .now) (s .at) (s .d) k)) (v .before .before .loop-test .taken) (sym (tested v) ∙ not-true _ (c .if1 .taken)))
+    let s = c .before .before .args in
+    sym (ap (λ (b : Bool). b && sharedFits (s .d * s .d) (shared (s .d * s .d) (effectAt (s .s .now) (s .at) (s .d)))) (sym (c .before .terms-fit .ensures) ∙ not-true _ (c .if1 .taken)))
 
-add-i : tie.Need-add-i Inv-loop μ-loop
-add-i c = let q = dim-square (c .before .before .before .before .before .pre .dim) in omega arith
+effect-exponent-requires : tie.Need-effect-exponent-requires
+effect-exponent-requires c κs = (c .before .before .pre, terms c)
 
-loop-less : tie.Need-loop-less Inv-loop μ-loop
-loop-less c = omega arith
+entries-fit-requires : tie.Need-entries-fit-requires
+entries-fit-requires c κs = (c .before .before .before .pre, (terms (c .before), c .effect-exponent .ensures))
 
-loop-again : tie.Need-loop-again Inv-loop μ-loop
-loop-again c =
-    let v = c .before in
-    let l = v .before .before .before in
-    (omega arith, all-step (l .loop .i) _ (l .loop .inv .1) (sym (tested v) ∙ not-false _ (c .if1 .left)))
-
-returns-2 : tie.Need-returns-2 Inv-loop μ-loop
+returns-2 : tie.Need-returns-2
 returns-2 c =
-    let l = c .before in
-    let s = l .before .args in
-    let e : l .loop .i ≡ s .d * s .d = omega arith in
-    sym (ap (λ (m : ℕ). allBelow m (λ (k : ℕ). partialsFit (s .d) (term (s .s .now) (s .at) (s .d) k))) (sym e) ∙ l .loop .inv .1)
+    let e = c .before in
+    let s = e .before .before .before .args in
+    c .entries-fit .ensures ∙ sym (fits-by (s .s .now) (s .at) (s .d) (terms (e .before)) _ (e .effect-exponent .ensures))
 
 pub record-fits-spec : {M : Type 1} → statement M
 record-fits-spec =
     tie.close
     (tie.spec
-    Inv-loop
-    μ-loop
-    mul-n
-    loop-holds
-    sum-entry-requires
-    is-accepted-requires
+    terms-fit-requires
     returns
-    add-i
-    loop-less
-    loop-again
+    effect-exponent-requires
+    entries-fit-requires
     returns-2)

@@ -9,9 +9,9 @@ use lib.Signed.{nonNeg}
 use mir.Syntax.{w64}
 use mir.Val.{SFits, toZ, ofZ}
 use mir.Facts.{toZ-ofZ, toZ-pos}
-use Rattle.channel.specs.Layout.{headerSize, recordSize, side}
+use Rattle.channel.specs.Layout.{channels, effects, headerSize, recordSize}
+use Rattle.channel.specs.Recast.{relink}
 use Rattle.store.proofs.Words.{Casts, read, fits-abs}
-use Rattle.effects.specs.Effects.{relink}
 use Rattle.effects.proofs.Summing.{dim-square}
 use Rattle.effects.proofs.Linking.{zero-word, link-start, relink-at, record-less, link-less}
 use borrow.Author.Needs.{needs}
@@ -28,14 +28,14 @@ less c =
     let d = s .args .d in
     let bound : natAbs (s .args .z) < 2 ^ 63 = small (s .args .z) (s .fits .z) (starts (c .before .before) .0) in
     subst (λ (n : ℕ). n < 2 ^ 63) (sym (λ i. headerSize + (natAbs (toZ-ofZ (s .fits .z) i) - headerSize) / c .before .record-size .ensures i * c .record-size2 .ensures i))
-    (lt-of-le-of-lt (link-less (natAbs (s .args .z)) (recordSize (side d)) (recordSize d) (record-less (s .pre .dim)) (starts (c .before .before) .1)) bound)
+    (lt-of-le-of-lt (link-less (natAbs (s .args .z)) (recordSize (channels d)) (recordSize (effects d)) (record-less (s .pre .dim)) (starts (c .before .before) .1)) bound)
   where
     small : (z : ℤ) → SFits w64 z → T (nonNeg z) → natAbs z < 2 ^ 63
     small (pos a) f t = f .sfits
     small (negsuc a) f t = absurd t
 
 returns : tie.Need-returns
-returns c = let s = c .before in sym (ap (relink (s .args .d)) (zero-word (s .args .z) (s .fits .z) (c .if1 .taken)))
+returns c = let s = c .before in sym (ap (relink (channels (s .args .d)) (effects (s .args .d))) (zero-word (s .args .z) (s .fits .z) (c .if1 .taken)))
 
 mul-record-size : tie.Need-mul-record-size
 mul-record-size c = let q = dim-square (c .before .pre .dim) in omega arith
@@ -69,7 +69,7 @@ returns-2 c =
     let s = c .before .before .before in
     toZ-pos w64 (less c)
     ∙ (λ i. pos (headerSize + (natAbs (toZ-ofZ (s .fits .z) i) - headerSize) / c .before .record-size .ensures i * c .record-size2 .ensures i))
-    ∙ sym (relink-at (s .args .d) (s .args .z) (s .pre .index) (starts (c .before .before) .1))
+    ∙ sym (relink-at (s .args .d) (s .args .z) (starts (c .before .before) .1))
 
 pub relinked-spec : {M : Type 1} → statement M
 relinked-spec =

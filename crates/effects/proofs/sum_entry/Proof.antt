@@ -3,16 +3,14 @@ use mathlib.Core.Path.{_≡_, refl, sym, ap, _∙_, subst}
 use mathlib.Core.Bool.{Bool, true, cond}
 use Prim.Native.Nat.{ℕ, _+_, _*_, _-_, _/_, _%_, _≤_, _<_}
 use native.Mathlib.Omega.{arith}
-use lib.ListN.{length}
 use borrow.Author.Tests.{not-true, not-false}
-use Rattle.algebra.proofs.Tests.{and-split}
 use Rattle.exact.specs.Exact.{Exact, wellFormed}
 use Rattle.verdict.specs.declared.Verdict.the-variants.{TooLarge}
 use Rattle.scalar.specs.Calls.{scalarOf, acceptedAs, accepted, refusedWith}
-use Rattle.cells.specs.Cells.{exponentAt, wellFormedAt}
-use Rattle.channel.specs.Layout.{entrySize, entryPlace, entryAt, recordSize, side}
+use Rattle.channel.specs.Layout.{channels, entryAt, side}
 use Rattle.effects.specs.Effects.{term, effectAt}
 use Rattle.effects.proofs.Summing.{row-below, col-below, place-below, Summed, stops, goes-on, done}
+use Rattle.effects.proofs.Entries.{entries-in, entry-formed}
 use Rattle.effects.proofs.sum_entry.Statement.{statement}
 use Rattle.effects.proofs.sum_entry.Tie as tie
 
@@ -41,24 +39,16 @@ module _ (c : tie.After-term-place Inv-loop μ-loop) where
       let p = place-below (start .args .d) _ _ (c .before .before .loop .o) (row start) (col start) (c .before .loop-test .taken) in
       subst (λ (k : ℕ). k < side (start .args .d) * side (start .args .d)) (sym (c .term-place .ensures)) p
 
-  inside : entryPlace (start .args .at) (c .term-place .result) + entrySize ≤ length (start .args .s .now)
-  inside = by (side (start .args .d)) (start .pre .0 .inside) below
-    where
-      by : (v : ℕ) → start .args .at + recordSize v ≤ length (start .args .s .now) → c .term-place .result < v * v → entryPlace (start .args .at) (c .term-place .result) + entrySize ≤ length (start .args .s .now)
-      by v p q = omega arith
-
-  right : wellFormedAt (start .args .s .now) (entryPlace (start .args .at) (c .term-place .result)) ≡ true
-  right = start .pre .0 .formed (c .term-place .result) below
-
 read : (a : tie.After-add Inv-loop μ-loop) → (let n = a .before .before .before in a .before .read-entry .result ≡ scalarOf (terms n (n .before .loop .o)))
 read a =
     let t = a .before .before in
-    a .before .read-entry .ensures ∙ ap (λ (k : ℕ). scalarOf (entryAt (start t .args .s .now) (start t .args .at) k)) (t .term-place .ensures)
+    a .before .read-entry .ensures ∙ ap (λ (k : ℕ). scalarOf (entryAt (channels (start t .args .d)) (start t .args .s .now) (start t .args .at) k)) (t .term-place .ensures)
 
 formed : (a : tie.After-add Inv-loop μ-loop) → (let n = a .before .before .before in wellFormed (terms n (n .before .loop .o)) ≡ true)
 formed a =
     let t = a .before .before in
-    subst (λ (k : ℕ). wellFormed (entryAt (start t .args .s .now) (start t .args .at) k) ≡ true) (t .term-place .ensures) (and-split (exponentAt (start t .args .s .now) (entryPlace (start t .args .at) (t .term-place .result))) _ (right t) .1)
+    subst (λ (k : ℕ). wellFormed (entryAt (channels (start t .args .d)) (start t .args .s .now) (start t .args .at) k) ≡ true) (t .term-place .ensures)
+    (entry-formed (start t .args .s .now) (start t .args .at) (start t .args .d) (start t .pre .0) (t .term-place .result) (below t))
 
 div-r : tie.Need-div-r Inv-loop μ-loop
 div-r c = let q = c .pre .0 .dim .some in omega arith
@@ -73,7 +63,7 @@ term-place-requires : tie.Need-term-place-requires Inv-loop μ-loop
 term-place-requires c κs = let s = c .before .before in (s .pre .0 .dim, (row s, (col s, c .loop-test .taken)))
 
 read-entry-requires : tie.Need-read-entry-requires Inv-loop μ-loop
-read-entry-requires c κs = (inside c, and-split (exponentAt (start c .args .s .now) (entryPlace (start c .args .at) (c .term-place .result))) _ (right c) .0)
+read-entry-requires c κs = let b = below c in entries-in (start c .args .s .now) (start c .args .at) (start c .args .d) (start c .pre .0) (c .term-place .result + 1) (omega arith)
 
 add-requires : tie.Need-add-requires Inv-loop μ-loop
 add-requires c κs = tt

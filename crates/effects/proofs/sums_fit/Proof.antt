@@ -6,7 +6,7 @@ use native.Mathlib.Omega.{arith}
 use lib.ListN.{length}
 use borrow.Author.Tests.{not-true, not-false}
 use Rattle.algebra.proofs.Tests.{all-step, all-no}
-use Rattle.channel.specs.Layout.{headerSize, recordAt, side}
+use Rattle.channel.specs.Layout.{channels, headerSize, recordAt}
 use Rattle.effects.specs.Effects.{recordFits, sumsFit}
 use Rattle.effects.specs.Inner.Readable.{Readable}
 use Rattle.effects.proofs.Summing.{dim-square}
@@ -23,13 +23,13 @@ abbrev start : tie.In-loop Inv-loop μ-loop → tie.Start Inv-loop μ-loop
 start c = c .before .before .before
 
 -- the record's index
-at : (c : tie.In-loop Inv-loop μ-loop) → headerSize + c .before .loop .j * c .before .before .record-size .result ≡ recordAt (side (start c .args .d)) (c .before .loop .j)
+at : (c : tie.In-loop Inv-loop μ-loop) → headerSize + c .before .loop .j * c .before .before .record-size .result ≡ recordAt (channels (start c .args .d)) (c .before .loop .j)
 at c = ap (λ (r : ℕ). headerSize + c .before .loop .j * r) (c .before .before .record-size .ensures)
 
 inside : (c : tie.In-loop Inv-loop μ-loop) → headerSize + c .before .loop .j * c .before .before .record-size .result ≤ length (start c .args .s .now)
 inside c = subst (λ (a : ℕ). a ≤ length (start c .args .s .now)) (sym (at c)) (let q = start c .pre .each (c .before .loop .j) (c .loop-test .taken) .inside in omega arith)
 
-tested : (f : tie.After-record-fits Inv-loop μ-loop) → (let s = start (f .before) .args in f .record-fits .result ≡ recordFits (s .s .now) (recordAt (side (s .d)) (f .before .before .loop .j)) (s .d))
+tested : (f : tie.After-record-fits Inv-loop μ-loop) → (let s = start (f .before) .args in f .record-fits .result ≡ recordFits (s .s .now) (recordAt (channels (s .d)) (f .before .before .loop .j)) (s .d))
 tested f = let s = start (f .before) .args in f .record-fits .ensures ∙ ap (λ (a : ℕ). recordFits (s .s .now) a (s .d)) (at (f .before))
 
 mul-record-size : tie.Need-mul-record-size Inv-loop μ-loop
@@ -55,7 +55,7 @@ returns c =
     let f = c .before in
     let n = f .before in
     let s = start n .args in
-    sym (all-no (s .n) (n .before .loop .j) (λ (j : ℕ). recordFits (s .s .now) (recordAt (side (s .d)) j) (s .d)) (n .loop-test .taken) (sym (tested f) ∙ not-true _ (c .if1 .taken)))
+    sym (all-no (s .n) (n .before .loop .j) (λ (j : ℕ). recordFits (s .s .now) (recordAt (channels (s .d)) j) (s .d)) (n .loop-test .taken) (sym (tested f) ∙ not-true _ (c .if1 .taken)))
 
 add-j : tie.Need-add-j Inv-loop μ-loop
 add-j c = omega arith

@@ -4,7 +4,7 @@ use Prim.Native.Nat.{ℕ, _+_, _*_, _≤_}
 use native.Mathlib.Omega.{arith}
 use lib.ListN.{length, length-set}
 use lib.Seq.{sets}
-use Rattle.channel.specs.Layout.{headerSize, recordSize}
+use Rattle.channel.specs.Layout.{effects, headerSize, recordSize}
 use Rattle.channel.proofs.Chain.{header-long}
 use Rattle.effects.specs.Effects.{effectHeader, withRecords}
 use Rattle.effects.specs.Inner.Strides.{stridedAt}
@@ -32,7 +32,7 @@ write-records-requires c κs =
         s .pre .1,
         (
           ready-fit _ _ _ _ r,
-          subst (λ (m : ℕ). headerSize + s .args .n * recordSize (s .args .d) ≤ m) (sym e) (ready-room _ _ _ _ r),
+          subst (λ (m : ℕ). headerSize + s .args .n * recordSize (effects (s .args .d)) ≤ m) (sym e) (ready-room _ _ _ _ r),
         ),
       ),
     )

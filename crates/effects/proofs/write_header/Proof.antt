@@ -3,9 +3,9 @@ use mathlib.Core.Path.{ap, _∙_}
 use mathlib.Core.List.{[], _∷_}
 use lib.ListN.{set}
 use lib.Seq.{sets}
-use Rattle.channel.specs.Layout.{word}
+use Rattle.channel.specs.Layout.{channels, effects, word}
+use Rattle.channel.specs.Recast.{relink}
 use Rattle.algebra.proofs.Signed.{reads}
-use Rattle.effects.specs.Effects.{relink}
 use borrow.Author.Needs.{needs}
 use Rattle.effects.proofs.write_header.Statement.{statement}
 use Rattle.effects.proofs.write_header.Tie as tie
@@ -42,8 +42,8 @@ returns c =
     let n = f .before in
     let s = n .before .before .before .args in
     let l = s .s .now in
-    (λ i. set (p .put-three .ensures i) 3 ((reads (k .relinked .result) (k .relinked .ok) ∙ k .relinked .ensures ∙ ap (relink (s .d)) (reads (word l 3) (f .first .given))) i))
-    ∙ (λ i. set (sets (s .result .now) 0 (reads (word l 0) (n .before .before .dim .given) i ∷ reads (word l 1) (n .before .bits .given) i ∷ reads (word l 2) (n .count .given) i ∷ [])) 3 (relink (s .d) (word l 3)))
+    (λ i. set (p .put-three .ensures i) 3 ((reads (k .relinked .result) (k .relinked .ok) ∙ k .relinked .ensures ∙ ap (relink (channels (s .d)) (effects (s .d))) (reads (word l 3) (f .first .given))) i))
+    ∙ (λ i. set (sets (s .result .now) 0 (reads (word l 0) (n .before .before .dim .given) i ∷ reads (word l 1) (n .before .bits .given) i ∷ reads (word l 2) (n .count .given) i ∷ [])) 3 (relink (channels (s .d)) (effects (s .d)) (word l 3)))
 
 pub write-header-spec : {M : Type 1} → statement M
 write-header-spec =

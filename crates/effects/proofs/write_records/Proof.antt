@@ -7,7 +7,7 @@ use lib.ListN.{length}
 use lib.Seq.{sets}
 use Rattle.algebra.proofs.Tests.{all-at}
 use Rattle.algebra.proofs.Blocks.{Writing, begin, again, done, long, block-in}
-use Rattle.channel.specs.Layout.{headerSize, recordSize, recordAt, side}
+use Rattle.channel.specs.Layout.{channels, effects, headerSize, recordSize, recordAt}
 use Rattle.effects.specs.Effects.{recordFits, effectRecord}
 use Rattle.effects.specs.Inner.Readable.{Readable}
 use Rattle.effects.specs.Inner.Strides.{stridedAt}
@@ -18,7 +18,7 @@ use Rattle.effects.proofs.write_records.Tie as tie
 
 abbrev Inv-loop : tie.InvT-loop
 Inv-loop s d n rows cols result₀ from to j₀ result j =
-    Writing (recordSize d) result₀ headerSize n (λ (k : ℕ). effectRecord (stridedAt rows cols) s d (recordAt (side d) k)) result j
+    Writing (recordSize (effects d)) result₀ headerSize n (λ (k : ℕ). effectRecord (stridedAt rows cols) s d (recordAt (channels d) k)) result j
 
 abbrev μ-loop : tie.MeasureT-loop
 μ-loop s d n rows cols result₀ from to j₀ result j = n - j
@@ -31,23 +31,23 @@ module _ (c : tie.In-loop Inv-loop μ-loop) where
   j = c .before .loop .j
 
   -- where the block lies, and where its effect goes
-  at : headerSize + j * c .before .before .before .record-size .result ≡ recordAt (side (start .args .d)) j
+  at : headerSize + j * c .before .before .before .record-size .result ≡ recordAt (channels (start .args .d)) j
   at = ap (λ (r : ℕ). headerSize + j * r) (c .before .before .before .record-size .ensures)
 
-  to : headerSize + j * c .before .before .record-size2 .result ≡ recordAt (start .args .d) j
+  to : headerSize + j * c .before .before .record-size2 .result ≡ recordAt (effects (start .args .d)) j
   to = ap (λ (r : ℕ). headerSize + j * r) (c .before .before .record-size2 .ensures)
 
   inside : headerSize + j * c .before .before .before .record-size .result ≤ length (start .args .s .now)
   inside = subst (λ (a : ℕ). a ≤ length (start .args .s .now)) (sym at) (let q = start .pre .0 .each j (c .loop-test .taken) .inside in omega arith)
 
-  fits : recordAt (start .args .d) j + recordSize (start .args .d) ≤ length (c .before .loop .result)
-  fits = by (recordSize (start .args .d)) (start .pre .1 .1 .1) (long (c .before .loop .inv))
+  fits : recordAt (effects (start .args .d)) j + recordSize (effects (start .args .d)) ≤ length (c .before .loop .result)
+  fits = by (recordSize (effects (start .args .d))) (start .pre .1 .1 .1) (long (c .before .loop .inv))
     where
       by : (r : ℕ) → headerSize + start .args .n * r ≤ length (start .args .result .now) → length (c .before .loop .result) ≡ length (start .args .result .now) → headerSize + j * r + r ≤ length (c .before .loop .result)
       by r p e = let q = block-in (c .loop-test .taken) r in omega arith
 
-  room-for : headerSize + j * c .before .before .record-size2 .result + recordSize (start .args .d) ≤ length (c .before .loop .result)
-  room-for = subst (λ (a : ℕ). a + recordSize (start .args .d) ≤ length (c .before .loop .result)) (sym to) fits
+  room-for : headerSize + j * c .before .before .record-size2 .result + recordSize (effects (start .args .d)) ≤ length (c .before .loop .result)
+  room-for = subst (λ (a : ℕ). a + recordSize (effects (start .args .d)) ≤ length (c .before .loop .result)) (sym to) fits
 
   room : headerSize + j * c .before .before .record-size2 .result ≤ length (start .args .result .now)
   room = let q = room-for in let e = long (c .before .loop .inv) in omega arith
@@ -62,7 +62,7 @@ record-size-requires-2 : tie.Need-record-size-requires-2 Inv-loop μ-loop
 record-size-requires-2 c κs = let q = c .before .pre .0 .dim .small in omega arith
 
 loop-holds : tie.Need-loop-holds Inv-loop μ-loop
-loop-holds c = let s = c .before .before .args in begin (λ k. le-of-eq (record-length (stridedAt (s .rows) (s .cols)) (s .s .now) (s .d) (recordAt (side (s .d)) k)))
+loop-holds c = let s = c .before .before .args in begin (λ k. le-of-eq (record-length (stridedAt (s .rows) (s .cols)) (s .s .now) (s .d) (recordAt (channels (s .d)) k)))
 
 mul-write-record : tie.Need-mul-write-record Inv-loop μ-loop
 mul-write-record c = let q = inside c in omega arith
@@ -81,15 +81,13 @@ write-record-requires c κs =
     let n = c .before in
     let s = start n in
     let j = n .before .loop .j in (
-      subst (λ (a : ℕ). Readable (s .args .s .now) a (s .args .d)) (sym (at n)) (s .pre .0 .each j (n .loop-test .taken)),
-      (
-        s .pre .1 .0,
-        (
-          ap (λ (a : ℕ). recordFits (s .args .s .now) a (s .args .d)) (at n)
-              ∙ all-at (s .args .n) (λ (k : ℕ). recordFits (s .args .s .now) (recordAt (side (s .args .d)) k) (s .args .d)) (s .pre .1 .1 .0) j (n .loop-test .taken),
-          room-for n,
-        ),
-      ),
+      record {
+        block = subst (λ (a : ℕ). Readable (s .args .s .now) a (s .args .d)) (sym (at n)) (s .pre .0 .each j (n .loop-test .taken));
+        strides = s .pre .1 .0;
+        fit = ap (λ (a : ℕ). recordFits (s .args .s .now) a (s .args .d)) (at n)
+            ∙ all-at (s .args .n) (λ (k : ℕ). recordFits (s .args .s .now) (recordAt (channels (s .args .d)) k) (s .args .d)) (s .pre .1 .1 .0) j (n .loop-test .taken);
+      },
+      room-for n,
     )
 
 add-j : tie.Need-add-j Inv-loop μ-loop

@@ -2,12 +2,11 @@
 use mathlib.Core.Path.{_≡_}
 use mathlib.Core.Bool.{true}
 use mathlib.Core.List.{List}
-use Prim.Native.Nat.{ℕ, _+_, _*_, _<_, _≤_}
+use Prim.Native.Nat.{ℕ, _+_, _<_, _≤_}
 use lib.ListN.{length}
 use lib.IntN.{ℤ, pos, natAbs}
-use Rattle.cells.specs.Cells.{wellFormedAt}
-use Rattle.channel.specs.Layout.{headerSize, recordSize, recordAt, entryPlace, side, word, dimAt, countAt}
-use Rattle.channel.specs.WellFormed.{wellFormed}
+use Rattle.channel.specs.Layout.{channels, headerSize, recordSize, recordAt, word, dimAt, countAt}
+use Rattle.channel.specs.WellFormed.{blockOk, wellFormed}
 use Rattle.effects.specs.Effects.{effectsSize, sumsFit}
 
 -- a dimension
@@ -21,18 +20,18 @@ pub record Linked (d : ℕ) (z : ℤ) : Type 0 where
   pub index : z ≡ pos (natAbs z)
   pub from : (z ≡ pos 0 → ⊥) → headerSize ≤ natAbs z
 
--- a record of a block of dimension d at `at`, with well-formed entries
+-- a record of a block of dimension d at `at`, in its shared form
 pub record Readable (l : List ℤ) (at d : ℕ) : Type 0 where
   pub dim : Dim d
-  pub inside : at + recordSize (side d) ≤ length l
-  pub formed : (k : ℕ) → k < side d * side d → wellFormedAt l (entryPlace at k) ≡ true
+  pub inside : at + recordSize (channels d) ≤ length l
+  pub formed : blockOk (channels d) l at ≡ true
   pub next : Linked d (word l at)
 
 -- n such records, end to end
 pub record Records (l : List ℤ) (d n : ℕ) : Type 0 where
   pub dim : Dim d
-  pub inside : recordAt (side d) n ≤ length l
-  pub each : (j : ℕ) → j < n → Readable l (recordAt (side d) j) d
+  pub inside : recordAt (channels d) n ≤ length l
+  pub each : (j : ℕ) → j < n → Readable l (recordAt (channels d) j) d
 
 -- a channel of dimension d with n blocks, and a result, that the call accepts
 pub record Ready (l res : List ℤ) (d n : ℕ) : Type 0 where
