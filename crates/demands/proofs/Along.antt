@@ -16,7 +16,7 @@ use Rattle.gate.proofs.Bits.{Word}
 use Rattle.kraus.specs.Branch.{Store, Branch}
 use Rattle.kraus.specs.Blocks.{stores, block}
 use Rattle.kraus.proofs.Effect.{effect}
-use Rattle.channel.specs.Layout.{Block, side, effectOf, readBack}
+use Rattle.channel.specs.Layout.{Block, channels, side, effectOf, readBack}
 use Rattle.channel.specs.Claims.{Writable}
 use Rattle.collect.specs.Delivered.{blockNo, branchesWords}
 use Rattle.demands.proofs.Reading.{SameBlock, SameBlocks, range-map, chained, chained-perm, read-blocks}
@@ -34,11 +34,11 @@ module _ (n : ℕ) (bs : List Branch) where
 
 -- branches whose channel has words: n qubits, m bits
 pub record Deliverable (n m : ℕ) (bs : List Branch) : Type 0 where
-  pub writable : Writable (2 ^ n) m (length (stores bs)) (blockNo (2 ^ n) bs)
+  pub writable : Writable (channels (2 ^ n)) (2 ^ n) m (length (stores bs)) (blockNo (2 ^ n) bs)
   pub words : All (Word m) (stores bs)
 
 module _ {n m : ℕ} {bs : List Branch} (dl : Deliverable n m bs) (rest : List ℤ) where
-  abbrev wr : Writable (2 ^ n) m (length (stores bs)) (blockNo (2 ^ n) bs)
+  abbrev wr : Writable (channels (2 ^ n)) (2 ^ n) m (length (stores bs)) (blockNo (2 ^ n) bs)
   wr = dl .writable
 
   abbrev storeAt : ℕ → Store

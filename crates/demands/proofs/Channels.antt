@@ -30,7 +30,7 @@ use Rattle.collect.proofs.Held.{branches-square}
 use Rattle.store.proofs.Bytes.{bits-word}
 use Rattle.judge.specs.Delivered.{circuitWords}
 use Rattle.demands.specs.Demands.{IsChannel}
-use Rattle.demands.proofs.Reading.{SameBlock, SameBlocks, back}
+use Rattle.demands.proofs.Reading.{SameBlock, SameBlocks, formed-back}
 use Rattle.demands.proofs.Stores.{some-stores}
 use Rattle.demands.proofs.Positive.{blocks-not-zero}
 use Rattle.demands.proofs.Agreeing.{agrees-some, agrees-all, agrees-fold}
@@ -94,7 +94,7 @@ module _ {n m : ℕ} {σ : List ℕ} {gs : List Gate} {result work : ℕ} (s : S
 
   pub is-channel : IsChannel n m (survivors (branches n σ gs)) (circuitWords n m σ gs ++ rest)
   is-channel = record {
-    formed = back (writable s) rest .right;
+    formed = formed-back (writable s) rest;
     full = none-zero;
     dim = refl;
     bitCount = refl;

@@ -37,7 +37,7 @@ use Rattle.verdict.specs.Questions.{Question, firstNo, decidedBy}
 use Rattle.verdict.proofs.Questions.{decided}
 use Rattle.circuit.proofs.Answers.{channel-accepts}
 use Rattle.demands.proofs.Verdicts.{Matching, same-accepts, same-fault, same-refusal}
-use Rattle.demands.proofs.Reading.{SameBlocks, blocks-sym, blocks-stores, blocks-at, compare-same, back, read-alike}
+use Rattle.demands.proofs.Reading.{SameBlocks, blocks-sym, blocks-stores, blocks-at, compare-same, formed-back, read-alike}
 use Rattle.demands.proofs.Stores.{covers, stores-perm}
 use Rattle.judge.proofs.Accepted.{Sound, sound, enough, block-fine, writable, channel-room}
 use Rattle.demands.proofs.Channels.{none-zero, is-channel}
@@ -114,10 +114,10 @@ module _ {n m : ℕ} {σ : List ℕ} {gs hs : List Gate} {rg wg rh wh : ℕ} (s 
   alike = read-alike (writable s) (writable t) after behind (covers (2 ^ n) (perm-sym p)) (stores-perm (2 ^ n) (perm-sym p))
 
   sound-left : claims.Sound (circuitWords n m σ gs ++ after)
-  sound-left = record { right = back (writable s) after .right; full = none-zero s after }
+  sound-left = record { right = formed-back (writable s) after; full = none-zero s after }
 
   sound-right : claims.Sound (circuitWords n m σ hs ++ behind)
-  sound-right = record { right = back (writable t) behind .right; full = none-zero t behind }
+  sound-right = record { right = formed-back (writable t) behind; full = none-zero t behind }
 
   same-channel : SameChannel (circuitWords n m σ gs ++ after) (circuitWords n m σ hs ++ behind)
   same-channel = record {

@@ -16,11 +16,13 @@ use Rattle.algebra.proofs.Trace.{nil, keep, swap, join, all-of, all-back, lengt
 use Rattle.algebra.proofs.Perm.{Perm, perm-path, perm-sym, map-of, filter-of}
 use Rattle.channel.specs.declared.compare.Found.the-variants.{Same}
 use Rattle.store.specs.Store.{before}
-use Rattle.channel.specs.Layout.{Block, side, word, dimAt, channelWords, readBack}
+use Rattle.channel.specs.Layout.{Block, Form, channels, side, word, dimAt, words, channelWords, readBackIn, readBack}
+use Rattle.channel.specs.WellFormed.{wellFormed}
 use Rattle.channel.specs.Compare.{plain, compareOf}
-use Rattle.channel.specs.Claims.{look, entryOf, Comparable, places, visits, Writable, ReadsBack}
+use Rattle.channel.specs.Claims.{look, Comparable, places, visits, Writable, ReadsBack}
 use Rattle.store.proofs.Order.{before-irrefl, before-trans, before-apart}
-use Rattle.channel.proofs.Sorted.{Above, Sorted, keys, sorted}
+use Rattle.channel.proofs.Sorted.{Above, Sorted, keys, sorted-in}
+use Rattle.channel.proofs.Judging.{in-channel}
 use Rattle.channel.proofs.Visits.{length-places}
 use Rattle.channel.proofs.Claims.{same-exactly}
 use Rattle.channel.proofs.RoundTrip.{round-trip}
@@ -162,37 +164,40 @@ look-self (x ∷ xs) s = ((λ k. ap (λ (t : Bool). cond t (x .entry k) (look xs
       later ys (a .1) (h .1),
     )
 
--- ---- the words of a channel, and any after them
-module _ {d m n : ℕ} {block : ℕ → Block} (wr : Writable d m n block) (rest : List ℤ) where
+-- ---- the words of a form, and any after them
+module _ {F : Form} {d m n : ℕ} {block : ℕ → Block} (wr : Writable F d m n block) (rest : List ℤ) where
   abbrev l : List ℤ
-  l = channelWords d m n block ++ rest
+  l = words F d m n block ++ rest
 
-  pub back : ReadsBack d m n block (channelWords d m n block ++ rest)
-  back = round-trip d m n block wr rest
+  pub back : ReadsBack F d m n block (words F d m n block ++ rest)
+  back = round-trip F d m n block wr rest
 
   -- the places of the blocks, in the order of the chain
   abbrev pub chained : List ℕ
-  chained = places (channelWords d m n block ++ rest) n (natAbs (word (channelWords d m n block ++ rest) 3))
+  chained = places F (words F d m n block ++ rest) n (natAbs (word (words F d m n block ++ rest) 3))
 
   pub chained-perm : Perm chained (range 0 n)
-  chained-perm = once-perm 0 n chained (length-places l n (natAbs (word l 3))) (λ j k h. back .once j (omega arith))
+  chained-perm = once-perm 0 n chained (length-places F l n (natAbs (word l 3))) (λ j k h. back .once j (omega arith))
 
   pub chained-below : All (λ (j : ℕ). j < n) chained
   chained-below = all-back (λ (j : ℕ). j < n) chained-perm (range-all _ 0 n (λ j k h. omega arith))
 
-  pub read-blocks : SameBlocks (side d) (readBack l) (map block chained)
-  read-blocks = go (readBack l) chained (back .order) (look-self (readBack l) (sorted l (back .right))) chained-below
+  pub read-blocks : SameBlocks (F .side) (readBackIn F l) (map block chained)
+  read-blocks = go (readBackIn F l) chained (back .order) (look-self (readBackIn F l) (sorted-in F l (back .right))) chained-below
     where
-      go : (xs : List Block) (ps : List ℕ) → keys xs ≡ map (λ (j : ℕ). block j .store) ps → All (λ (a : Block). (k : ℕ) → entryOf l (a .store) k ≡ a .entry k) xs → All (λ (j : ℕ). j < n) ps
-          → SameBlocks (side d) xs (map block ps)
+      go : (xs : List Block) (ps : List ℕ) → keys xs ≡ map (λ (j : ℕ). block j .store) ps → All (λ (a : Block). (k : ℕ) → look (readBackIn F l) (a .store) k ≡ a .entry k) xs → All (λ (j : ℕ). j < n) ps
+          → SameBlocks (F .side) xs (map block ps)
       go [] [] e h b = tt
       go [] (p ∷ ps) e h b = absurd (omega (arith, ap length e))
       go (x ∷ xs) [] e h b = absurd (omega (arith, ap length e))
       go (x ∷ xs) (p ∷ ps) e h b =
           let s : x .store ≡ block p .store = ap (λ (ys : List ℕ). getD ys 0 0) e in (
-            record { store = s; entries = λ k q. sym (h .0 k) ∙ ap (λ (y : ℕ). entryOf l y k) s ∙ back .entries p k (b .0) q },
+            record { store = s; entries = λ k q. sym (h .0 k) ∙ ap (λ (y : ℕ). look (readBackIn F l) y k) s ∙ back .entries p k (b .0) q },
             go xs ps (ap (drop 1) e) (h .1) (b .1),
           )
+
+pub formed-back : {d m n : ℕ} {block : ℕ → Block} → Writable (channels d) d m n block → (rest : List ℤ) → wellFormed (channelWords d m n block ++ rest) ≡ true
+formed-back {d} {m} {n} {block} wr rest = in-channel (channelWords d m n block ++ rest) ∙ back wr rest .right
 
 -- ---- every block of one channel is one of the other
 pub record Found (w n : ℕ) (block : ℕ → Block) (a : Block) : Type 0 where
@@ -203,31 +208,31 @@ pub record Found (w n : ℕ) (block : ℕ → Block) (a : Block) : Type 0 where
 abbrev pub Covers : ℕ → ℕ → (ℕ → Block) → ℕ → (ℕ → Block) → Type 0
 Covers w n a k b = (j : ℕ) → j < n → Found w k b (a j)
 
-module _ {d m n k : ℕ} {a b : ℕ → Block} (u : Writable d m n a) (v : Writable d m k b) (after behind : List ℤ)
-    (to : Covers (side d) n a k b) (stores : Perm (map (λ (j : ℕ). a j .store) (range 0 n)) (map (λ (j : ℕ). b j .store) (range 0 k))) where
+module _ {F : Form} {d m n k : ℕ} {a b : ℕ → Block} (u : Writable F d m n a) (v : Writable F d m k b) (after behind : List ℤ)
+    (to : Covers (F .side) n a k b) (stores : Perm (map (λ (j : ℕ). a j .store) (range 0 n)) (map (λ (j : ℕ). b j .store) (range 0 k))) where
   abbrev left : List ℤ
-  left = channelWords d m n a ++ after
+  left = words F d m n a ++ after
 
   abbrev right : List ℤ
-  right = channelWords d m k b ++ behind
+  right = words F d m k b ++ behind
 
   same-order : map (λ (j : ℕ). a j .store) (chained u after) ≡ map (λ (j : ℕ). b j .store) (chained v behind)
   same-order =
-      one-order _ _ (subst Sorted (back u after .order) (sorted left (back u after .right))) (subst Sorted (back v behind .order) (sorted right (back v behind .right)))
+      one-order _ _ (subst Sorted (back u after .order) (sorted-in F left (back u after .right))) (subst Sorted (back v behind .order) (sorted-in F right (back v behind .right)))
       (join (map-of (λ (j : ℕ). a j .store) (chained-perm u after)) (join stores (perm-sym (map-of (λ (j : ℕ). b j .store) (chained-perm v behind)))))
 
-  in-step : (ps qs : List ℕ) → map (λ (j : ℕ). a j .store) ps ≡ map (λ (j : ℕ). b j .store) qs → All (λ (j : ℕ). j < n) ps → All (λ (j : ℕ). j < k) qs → SameBlocks (side d) (map a ps) (map b qs)
+  in-step : (ps qs : List ℕ) → map (λ (j : ℕ). a j .store) ps ≡ map (λ (j : ℕ). b j .store) qs → All (λ (j : ℕ). j < n) ps → All (λ (j : ℕ). j < k) qs → SameBlocks (F .side) (map a ps) (map b qs)
   in-step [] [] e p q = tt
   in-step [] (j ∷ qs) e p q = absurd (omega (arith, ap length e))
   in-step (i ∷ ps) [] e p q = absurd (omega (arith, ap length e))
   in-step (i ∷ ps) (j ∷ qs) e p q =
-      let f : Found (side d) k b (a i) = to i (p .0) in
+      let f : Found (F .side) k b (a i) = to i (p .0) in
       let is : f .place ≡ j = v .different (f .place) j (f .below) (q .0) (sym (f .agree .store) ∙ ap (λ (ys : List ℕ). getD ys 0 0) e) in
-      (subst (λ (x : ℕ). SameBlock (side d) (a i) (b x)) is (f .agree), in-step ps qs (ap (drop 1) e) (p .1) (q .1))
+      (subst (λ (x : ℕ). SameBlock (F .side) (a i) (b x)) is (f .agree), in-step ps qs (ap (drop 1) e) (p .1) (q .1))
 
-  pub read-alike : SameBlocks (side d) (readBack (channelWords d m n a ++ after)) (readBack (channelWords d m k b ++ behind))
+  pub read-alike : SameBlocks (F .side) (readBackIn F (words F d m n a ++ after)) (readBackIn F (words F d m k b ++ behind))
   read-alike =
-      blocks-trans (side d) (readBack left) (map a (chained u after)) (readBack right) (read-blocks u after)
-      (blocks-trans (side d) (map a (chained u after)) (map b (chained v behind)) (readBack right)
+      blocks-trans (F .side) (readBackIn F left) (map a (chained u after)) (readBackIn F right) (read-blocks u after)
+      (blocks-trans (F .side) (map a (chained u after)) (map b (chained v behind)) (readBackIn F right)
       (in-step (chained u after) (chained v behind) same-order (chained-below u after) (chained-below v behind))
-      (blocks-sym (side d) (readBack right) (map b (chained v behind)) (read-blocks v behind)))
+      (blocks-sym (F .side) (readBackIn F right) (map b (chained v behind)) (read-blocks v behind)))

@@ -22,7 +22,7 @@ use Rattle.verdict.specs.Questions.{Question, firstNo, decidedBy}
 use Rattle.circuit.specs.declared.limits.Limits.{Limits}
 use Rattle.channel.specs.declared.compare.Found.the-variants.{Same}
 use Rattle.store.specs.Store.{bits}
-use Rattle.channel.specs.Layout.{Block, side, effectOf, dimAt, bitsAt, countAt, readBack}
+use Rattle.channel.specs.Layout.{Block, effects, side, effectOf, dimAt, bitsAt, countAt, readBackIn, readBack}
 use Rattle.channel.specs.WellFormed.{wellFormed, hasZeroBlock}
 use Rattle.channel.specs.Compare.{plain, compareOf}
 use Rattle.effects.specs.Effects.{effectsVerdict, resultOf, povmOf}
@@ -57,8 +57,8 @@ Demand1 = (n m : ℕ) (σ : List ℕ) (l : Limits) (ws : List ℕ) (r w : List �
 pub record AreEffects (n m : ℕ) (l e : List ℤ) (x : Store → ℕ → ℕ → Exact) : Type 0 where
   pub dim : dimAt e ≡ 2 ^ n
   pub bitCount : bitsAt e ≡ m
-  pub stores : map (λ (a : Block). a .store) (readBack e) ≡ map (λ (a : Block). a .store) (readBack l)
-  pub entries : All (λ (a : Block). (r c : ℕ) → r < 2 ^ n → c < 2 ^ n → a .entry (r * 2 ^ n + c) ≡ x (bits m (a .store)) r c) (readBack e)
+  pub stores : map (λ (a : Block). a .store) (readBackIn (effects (2 ^ n)) e) ≡ map (λ (a : Block). a .store) (readBack l)
+  pub entries : All (λ (a : Block). (r c : ℕ) → r < 2 ^ n → c < 2 ^ n → a .entry (r * 2 ^ n + c) ≡ x (bits m (a .store)) r c) (readBackIn (effects (2 ^ n)) e)
 
 -- of the result of an accepted call; bs are the surviving branches. The stores along the chain are theirs, each with its block, which is Hermitian and not zero;
 -- the effects add up to the identity; what povm_effects leaves where it accepts is each store's Σ K†K, and what classical_blocks leaves its transpose

@@ -10,14 +10,14 @@ use Rattle.algebra.specs.Sum.{δ}
 use Rattle.exact.specs.Exact.{Exact, exact, conj}
 use Rattle.verdict.specs.declared.Verdict.the-variants.{Accepted}
 use Rattle.circuit.specs.declared.limits.Limits.{Limits}
-use Rattle.channel.specs.Layout.{Block, readBack}
+use Rattle.channel.specs.Layout.{Block, effects, readBackIn}
 use Rattle.effects.specs.Effects.{effectsSize, effectsVerdict, resultOf, povmOf}
 use Rattle.judge.specs.Call.{accepts, resultAfter}
 
 -- effects of dimension d, read back from the words e along the chain: each is Hermitian, and over the stores they add up to the identity
 pub record AddUp (d : ℕ) (e : List ℤ) : Type 0 where
-  pub hermitian : All (λ (a : Block). (r c : ℕ) → r < d → c < d → a .entry (r * d + c) ≡ conj (a .entry (c * d + r))) (readBack e)
-  pub identity : (r c : ℕ) → r < d → c < d → foldl (λ (x : Exact) (a : Block). exact ._⊕_ x (a .entry (r * d + c))) (exact .𝟘) (readBack e) ≡ δ exact r c
+  pub hermitian : All (λ (a : Block). (r c : ℕ) → r < d → c < d → a .entry (r * d + c) ≡ conj (a .entry (c * d + r))) (readBackIn (effects d) e)
+  pub identity : (r c : ℕ) → r < d → c < d → foldl (λ (x : Exact) (a : Block). exact ._⊕_ x (a .entry (r * d + c))) (exact .𝟘) (readBackIn (effects d) e) ≡ δ exact r c
 
 -- of a channel l of dimension d: no refusal, and both forms add up
 pub record Probabilities (d : ℕ) (l : List ℤ) : Type 0 where

@@ -50,7 +50,7 @@ exponent-small : (n : ℕ) (x : ℕ → Exact) (e : ℕ) → ((k : ℕ) → k < 
 exponent-small zero x e h = omega arith
 exponent-small (suc n) x e h = omega (arith, exponent-small n x e (λ k p. h k (omega arith)), h n (omega arith))
 
-block-fits-shared : (n : ℕ) (x : ℕ → Exact) → ((k : ℕ) → k < n → (t : ℕ) → t ≤ roomExponent → Room t (x k)) → sharedFits n (shared n x) ≡ true
+pub block-fits-shared : (n : ℕ) (x : ℕ → Exact) → ((k : ℕ) → k < n → (t : ℕ) → t ≤ roomExponent → Room t (x k)) → sharedFits n (shared n x) ≡ true
 block-fits-shared n x h =
     λ i. le-leb e maxExponent (omega (arith, small)) i
     && all-by n _ (λ k p. of-within maxNumerator (shared n x .num k) (subst (Within maxNumerator) (scaled-is (x k .num) (e - x k .exp)) (h k p e small .size))) i
