@@ -28,7 +28,7 @@ use Rattle.collect.specs.Delivered.{branchesWords, overwritten}
 use Rattle.collect.proofs.Held.{Held, circuit-held, bank-is, deliverable}
 use Rattle.judge.specs.Delivered.{circuitWords}
 use Rattle.judge.specs.Call.{accepts, resultAfter, workAfter}
-use Rattle.judge.proofs.Accepted.{Sound, sound, channel-long, channel-room}
+use Rattle.judge.proofs.Accepted.{Sound, sound, words-long, channel-room}
 use Rattle.judge.specs.Inner.Accepted.{Accepted}
 
 -- ---- zeros at the start of a buffer
@@ -50,7 +50,7 @@ zeroed-is k l h =
     blocks-parts 1 (λ (i : ℕ). pos 0 ∷ []) (λ i. refl) l 0 k (omega arith) ∙ (λ i. zeros-joined k i ++ drop (e i) l)
 
 -- so many splits make the largest number of branches
-at-most : (s : ℕ) → 2 ^ s ≤ maxBranches → s ≤ maxSplits
+pub at-most : (s : ℕ) → 2 ^ s ≤ maxBranches → s ≤ maxSplits
 at-most s h = go (decLt maxSplits s)
   where
     go : Dec (maxSplits < s) → s ≤ maxSplits
@@ -115,7 +115,7 @@ module _ {n m : ℕ} {σ : List ℕ} {ws : List ℕ} {r w : List ℤ} (a : Accep
 
       pub delivers : Deliverable r b at d m k
       delivers = subst₂ (λ (d k : ℕ). Deliverable r b at d m k) (sym e) (ran .counted)
-          (deliverable held r (subst (λ (x : ℕ). x ≤ length r) (channel-long known) (channel-room known)))
+          (deliverable held r (subst (λ (x : ℕ). x ≤ length r) (words-long (2 ^ n) m (survivors bs)) (channel-room known)))
 
       pub delivered : {q : List ℤ} → q ≡ overwritten (branchesWords d m (survivors (bankIn b at d m k))) r → q ≡ overwritten (circuitWords n m σ (gatesOf ws)) r
       delivered h =
@@ -139,10 +139,10 @@ module _ {n m : ℕ} {σ : List ℕ} {ws : List ℕ} {r w : List ℤ} (a : Accep
             ∙ zeroed-is (workSize d k) w (runs .room) ∙ ap (λ (x : ℕ). zeroed x w) ((λ i. workSize (e i) (f i)) ∙ size-is (2 ^ n) B)
 
 -- ---- what a call leaves, accepted or refused
-chosen : {A : Type 0} (x y : A) {b : Bool} → b ≡ true → {q : A} → q ≡ x → q ≡ cond b x y
+pub chosen : {A : Type 0} (x y : A) {b : Bool} → b ≡ true → {q : A} → q ≡ x → q ≡ cond b x y
 chosen x y e h = h ∙ sym (ap (λ (b : Bool). cond b x y) e)
 
-unchosen : {A : Type 0} (x y : A) {b : Bool} → b ≡ false → y ≡ cond b x y
+pub unchosen : {A : Type 0} (x y : A) {b : Bool} → b ≡ false → y ≡ cond b x y
 unchosen x y e = sym (ap (λ (b : Bool). cond b x y) e)
 
 module _ (n m : ℕ) (σ : List ℕ) (l : Limits) (ws : List ℕ) (r w : List ℤ) where

@@ -2,8 +2,10 @@
 use mathlib.Core.Path.{_≡_, refl, sym, ap, _∙_, subst}
 use mathlib.Core.Bool.{true, false, _&&_, true≢false}
 use mathlib.Core.List.{List, [], _∷_}
-use Prim.Native.Nat.{ℕ, zero, suc, _*_, _-_, _^_, _<_, _≤_}
+use Prim.Native.Nat.{ℕ, zero, suc, _*_, _-_, _/_, _%_, _^_, _<_, _≤_}
+use native.Mathlib.Nat.{mod-lt, div-lt-iff-lt-mul, mul-le-mul}
 use native.Mathlib.Omega.{arith}
+use lib.Pow.{pow-pos}
 use lib.ListN.{length, getD}
 use lib.IntN.{pos}
 use borrow.Author.Tests.{le-leb}
@@ -11,7 +13,8 @@ use Rattle.algebra.specs.Lists.{All}
 use Rattle.algebra.specs.Words.{fromBits}
 use Rattle.algebra.proofs.Bits.{bits-below}
 use Rattle.algebra.proofs.Lists.{all-getD}
-use Rattle.algebra.proofs.Tests.{and-split, all-by}
+use Rattle.algebra.proofs.Tests.{and-split, all-by, exhaust, holds-true}
+use Rattle.algebra.proofs.Totals.{sub-whole, sub-filter}
 use Rattle.exact.specs.Exact.{Exact, inRange, isLowest, maxNumerator, maxExponent}
 use Rattle.exact.specs.Inner.Sizes.{Within, Room, roomExponent}
 use Rattle.exact.proofs.Align.{scaled-is}
@@ -19,9 +22,9 @@ use Rattle.exact.proofs.Sizes.{of-within}
 use Rattle.gate.specs.Operators.{sameBits}
 use Rattle.gate.proofs.Bits.{Word, same-refl}
 use Rattle.kraus.specs.Branch.{Store, Branch}
-use Rattle.kraus.specs.Blocks.{stores}
+use Rattle.kraus.specs.Blocks.{alive, survivors, stores}
 use Rattle.kraus.proofs.Stores.{Distinct, stores-distinct}
-use Rattle.kraus.proofs.Limits.{Fitting}
+use Rattle.kraus.proofs.Limits.{Fitting, Enough, krausExponent, block-fits}
 use Rattle.store.specs.Store.{bits}
 use Rattle.channel.specs.Shared.{sharedExponent, shared, sharedFits}
 use Rattle.channel.specs.Layout.{channels, side, entries}
@@ -61,7 +64,7 @@ block-fits-shared n x h =
     small : e ≤ roomExponent
     small = exponent-small n x roomExponent (λ k p. h k p 0 (omega arith) .exponent)
 
-pub blocks-writable : (d m : ℕ) (bs : List Branch) → isDim (pos d) ≡ true → m ≤ 64 → All (Word m) (stores bs)
+blocks-writable : (d m : ℕ) (bs : List Branch) → isDim (pos d) ≡ true → m ≤ 64 → All (Word m) (stores bs)
     → ((j k : ℕ) → j < length (stores bs) → k < side d * side d → Fitting roomExponent (blockNo d bs j .entry k)) → Writable (channels d) d m (length (stores bs)) (blockNo d bs)
 blocks-writable d m bs dim few h fine = record {
   dim = dim;
@@ -78,3 +81,18 @@ blocks-writable d m bs dim few h fine = record {
 
     word : (j : ℕ) → j < length (stores bs) → Word m (getD (stores bs) j [])
     word j l = all-getD (Word m) (stores bs) h j l []
+
+-- ---- the surviving branches of any that leave room for all sums
+module _ {n m : ℕ} {all : List Branch} (small : n ≤ 4) (few : m ≤ 64) (enough : Enough krausExponent n all) (words : All (Word m) (stores (survivors all))) where
+  abbrev d : ℕ
+  d = 2 ^ n
+
+  abbrev bs : List Branch
+  bs = survivors all
+
+  some-row : 0 < side d
+  some-row = mul-le-mul (pow-pos n) (pow-pos n)
+
+  pub survivors-writable : Writable (channels (2 ^ n)) (2 ^ n) m (length (stores (survivors all))) (blockNo (2 ^ n) (survivors all))
+  survivors-writable = blocks-writable d m bs (holds-true (exhaust (λ (k : ℕ). isDim (pos (2 ^ k))) 5 tt n (omega (arith, small)))) few words
+      (λ j k p q. block-fits enough (sub-filter alive (sub-whole all)) (getD (stores bs) j []) (k / side d) (k % side d) (div-lt-iff-lt-mul some-row .1 q) (mod-lt k some-row))
