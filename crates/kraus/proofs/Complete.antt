@@ -29,7 +29,7 @@ module _ (n : ℕ) where
   abbrev pub gram : List Branch → ℕ → ℕ → Exact
   gram bs c c′ = listSum exact (norm c c′) bs
 
-  gram-start : (σ : Store) (c c′ : ℕ) → c < d → c′ < d → gram (start n σ) c c′ ≡ δ exact c c′
+  pub gram-start : (σ : Store) (c c′ : ℕ) → c < 2 ^ n → c′ < 2 ^ n → gram (start n σ) c c′ ≡ δ exact c c′
   gram-start σ c c′ l m =
       exacts .add-comm (dot exacts conjugation d (cell exact d (table d (δ exact))) c c′) (exact .𝟘)
       ∙ zero-sum exacts d _
@@ -41,7 +41,7 @@ module _ (n : ℕ) where
   Complete Ks = (k l : ℕ) → k < 2 ^ n → l < 2 ^ n → listSum exact (λ (K : KrausOperator). dot exacts conjugation (2 ^ n) (K .entry) k l) Ks ≡ δ exact k l
 
   module _ (Ks : List KrausOperator) (complete : Complete Ks) where
-    one-branch : (b : Branch) (c c′ : ℕ) → c < d → c′ < d → gram (map (apply n b) Ks) c c′ ≡ norm c c′ b
+    pub one-branch : (b : Branch) (c c′ : ℕ) → c < 2 ^ n → c′ < 2 ^ n → gram (map (apply n b) Ks) c c′ ≡ norm c c′ b
     one-branch b c c′ l m =
         listSum-map exacts (norm c c′) (apply n b) Ks
         ∙ listSum-same exacts _ _ Ks (λ K.

@@ -12,7 +12,7 @@ use borrow.Author.Tests.{eq-eqb, leb-true, leb-false, not-true}
 use Rattle.algebra.specs.Lists.{All, some, total, marks, filterBy}
 use Rattle.algebra.proofs.Tests.{or-right}
 use Rattle.algebra.proofs.Lists.{all-imp, all-both, all-map, all-concat, some-append, filter-all, filter-true, filter-length, filter-keep, concat-length}
-use Rattle.gate.specs.Gate.{Gate, bits, splits, measure, reset}
+use Rattle.gate.specs.Gate.{Gate, bits, elem, splits, measure, reset}
 use Rattle.gate.specs.Operators.{Operator, operators, sameBits}
 use Rattle.gate.proofs.Gate.{elem-all}
 use Rattle.gate.proofs.Bits.{Word, same-true, same-refl}
@@ -153,7 +153,7 @@ member mark (v ∷ σ) (w ∷ τ) h = go (mark 0) w (h .0) (member (later mark) 
     go true (suc (suc w)) l r = absurd (omega arith)
     go false w e r = ap (λ (x : ℕ). some (sameBits (x ∷ τ)) (map (λ (ρ : Store). v ∷ ρ) vs)) e ∙ some-cons v τ vs ∙ r
 
-fit-start : (mark : ℕ → Bool) (σ : Store) → All (λ (v : ℕ). v < 2) σ → Fit mark σ σ
+pub fit-start : (mark : ℕ → Bool) (σ : Store) → All (λ (v : ℕ). v < 2) σ → Fit mark σ σ
 fit-start mark [] h = tt
 fit-start mark (v ∷ σ) h = (go (mark 0), fit-start (later mark) σ (h .1))
   where
@@ -180,7 +180,7 @@ fit-bits mark (v ∷ σ) (w ∷ τ) h k = let (l, m) = fit-bits (later mark) σ 
     go false e = omega (arith, k .0)
 
 module _ (mark : ℕ → Bool) (n : ℕ) (σ : Store) where
-  fit-write : (τ : Store) (is : List ℕ) (o : ℕ) → Fit mark σ τ → All (λ (i : ℕ). mark i ≡ true) is → o < 2 → Fit mark σ (write is o τ)
+  pub fit-write : (τ : Store) (is : List ℕ) (o : ℕ) → Fit mark σ τ → All (λ (i : ℕ). mark i ≡ true) is → o < 2 → Fit mark σ (write is o τ)
   fit-write τ [] o h m b = h
   fit-write τ (i ∷ is) o h m b = fit-set mark σ (write is o τ) i o (fit-write τ is o h (m .1) b) (m .0) b
 
@@ -210,59 +210,69 @@ module _ (mark : ℕ → Bool) (n : ℕ) (σ : Store) where
       keeping : (g : Gate) → All (λ (i : ℕ). mark i ≡ true) (bits g) → (b : Branch) → Fits b → All (Keeping b) (operatorsOf n g)
       keeping g k b f = all-map Out (Keeping b) (krausOperator n g) (λ o x. fit-write (b .store) (bits g) (o .out) f k x) (operators g) (outs g)
 
--- ---- the marks are the bits that some gate writes
-abbrev written : List Gate → ℕ → Bool
-written gs i = some (λ (g : Gate). writes g i) gs
-
-all-written : (gs us : List Gate) → ((i : ℕ) → written gs i ≡ true → written us i ≡ true) → All (λ (g : Gate). All (λ (i : ℕ). written us i ≡ true) (bits g)) gs
-all-written [] us h = tt
-all-written (g ∷ gs) us h = (
-  all-imp (λ (i : ℕ). writes g i ≡ true) (λ (i : ℕ). written us i ≡ true) (bits g)
-      (λ i e. h i (ap (λ (b : Bool). b || written gs i) e)) (elem-all (bits g) (bits g) (λ i e. e)),
-  all-written gs us (λ i e. h i (or-right (writes g i) (written gs i) e)),
+-- ---- the marks are the bits that some of a list writes
+pub all-written : {A : Type 0} (bits : A → List ℕ) (gs us : List A) → ((i : ℕ) → some (λ (g : A). elem i (bits g)) gs ≡ true → some (λ (g : A). elem i (bits g)) us ≡ true)
+    → All (λ (g : A). All (λ (i : ℕ). some (λ (g : A). elem i (bits g)) us ≡ true) (bits g)) gs
+all-written bits [] us h = tt
+all-written {A} bits (g ∷ gs) us h = (
+  all-imp (λ (i : ℕ). elem i (bits g) ≡ true) (λ (i : ℕ). some (λ (g : A). elem i (bits g)) us ≡ true) (bits g)
+      (λ i e. h i (ap (λ (b : Bool). b || some (λ (g : A). elem i (bits g)) gs) e)) (elem-all (bits g) (bits g) (λ i e. e)),
+  all-written bits gs us (λ i e. h i (or-right (elem i (bits g)) (some (λ (g : A). elem i (bits g)) gs) e)),
 )
 
-marks-tally : (n : ℕ) (gs : List Gate) → marks n writes gs ≡ tally n (written gs)
+marks-tally : {A : Type 0} (mark : A → ℕ → Bool) (n : ℕ) (xs : List A) → marks n mark xs ≡ tally n (λ (i : ℕ). some (λ (a : A). mark a i) xs)
 unfolding tally
-marks-tally zero gs = refl
-marks-tally (suc n) gs = ap (λ (x : ℕ). x + cond (written gs n) 1 0) (marks-tally n gs)
+marks-tally mark zero xs = refl
+marks-tally {A} mark (suc n) xs = ap (λ (x : ℕ). x + cond (some (λ (a : A). mark a n) xs) 1 0) (marks-tally mark n xs)
 
+-- ---- branches whose stores differ from the initial one in the bits alone that some of xs marks
+module _ {A : Type 0} (mark : A → ℕ → Bool) (xs : List A) (σ : Store) (given : All (λ (v : ℕ). v < 2) σ) where
+  abbrev pub marked : ℕ → Bool
+  marked i = some (λ (a : A). mark a i) xs
+
+  pub record Marked (bs : List Branch) : Type 0 where
+    pub fits : All (λ (b : Branch). Fit marked σ (b .store)) bs
+
+  module _ (bs : List Branch) (h : Marked bs) where
+    pub marked-bits : All (λ (b : Branch). Word (length σ) (b .store)) bs
+    marked-bits = all-imp (λ (b : Branch). Fit marked σ (b .store)) _ bs (λ b f. fit-bits marked σ (b .store) f given) (h .fits)
+
+    stores-fit : All (Fit marked σ) (stores (survivors bs))
+    stores-fit = stores-all (Fit marked σ) (survivors bs) (filter-all (λ (b : Branch). Fit marked σ (b .store)) alive bs (h .fits))
+
+    -- each store has as many bits as the initial one
+    pub marked-stores : All (Word (length σ)) (stores (survivors bs))
+    marked-stores = all-imp (Fit marked σ) (Word (length σ)) (stores (survivors bs)) (λ τ f. fit-bits marked σ τ f given) stores-fit
+
+    pub marked-count : (s : ℕ) → length bs ≡ 2 ^ s → length (stores (survivors bs)) ≤ 2 ^ min s (marks (length σ) mark xs)
+    marked-count s e = go (leb s t) refl
+      where
+        t : ℕ
+        t = marks (length σ) mark xs
+
+        by-branches : length (stores (survivors bs)) ≤ 2 ^ s
+        by-branches = omega (arith, stores-length (survivors bs), filter-length alive bs)
+
+        by-marks : length (stores (survivors bs)) ≤ 2 ^ t
+        by-marks =
+            subst (λ (k : ℕ). length (stores (survivors bs)) ≤ k) (variants-length marked σ ∙ ap (λ (k : ℕ). 2 ^ k) (sym (marks-tally mark (length σ) xs)))
+            (fewer (variants marked σ) (stores (survivors bs)) (stores-distinct (survivors bs))
+            (all-imp (Fit marked σ) (λ (τ : Store). some (sameBits τ) (variants marked σ) ≡ true) (stores (survivors bs)) (member marked σ) stores-fit))
+
+        go : (b : Bool) → leb s t ≡ b → length (stores (survivors bs)) ≤ 2 ^ min s t
+        go true e = let f : min s t ≡ s = omega (arith, leb-true s t e) in rw f by-branches
+        go false e = let f : min s t ≡ t = omega (arith, leb-false s t e) in rw f by-marks
+
+-- ---- of a circuit
 module _ (n : ℕ) (σ : Store) (gs : List Gate) (given : All (λ (v : ℕ). v < 2) σ) where
-  branches-fit : All (Fits (written gs) n σ) (branches n σ gs)
-  branches-fit = fit-run (written gs) n σ gs (all-written gs gs (λ i e. e)) (start n σ) (fit-start (written gs) σ given, tt)
+  branches-marked : Marked writes gs σ given (branches n σ gs)
+  branches-marked = record { fits = fit-run (marked writes gs σ given) n σ gs (all-written bits gs gs (λ i e. e)) (start n σ) (fit-start (marked writes gs σ given) σ given, tt) }
 
   pub branches-bits : All (λ (b : Branch). Word (length σ) (b .store)) (branches n σ gs)
-  branches-bits = all-imp (Fits (written gs) n σ) _ (branches n σ gs) (λ b f. fit-bits (written gs) σ (b .store) f given) branches-fit
+  branches-bits = marked-bits writes gs σ given (branches n σ gs) branches-marked
 
-  stores-fit : All (Fit (written gs) σ) (stores (survivors (branches n σ gs)))
-  stores-fit = stores-all (Fit (written gs) σ) (survivors (branches n σ gs)) (filter-all (Fits (written gs) n σ) alive (branches n σ gs) branches-fit)
-
-  -- each store has as many bits as the initial one
   pub stores-bits : All (Word (length σ)) (stores (survivors (branches n σ gs)))
-  stores-bits = all-imp (Fit (written gs) σ) (Word (length σ)) (stores (survivors (branches n σ gs)))
-      (λ τ f. fit-bits (written gs) σ τ f given) stores-fit
+  stores-bits = marked-stores writes gs σ given (branches n σ gs) branches-marked
 
   pub store-count : length (stores (survivors (branches n σ gs))) ≤ 2 ^ min (total splits gs) (marks (length σ) writes gs)
-  store-count = go (leb s t) refl
-    where
-      bs : List Branch
-      bs = survivors (branches n σ gs)
-
-      s : ℕ
-      s = total splits gs
-
-      t : ℕ
-      t = marks (length σ) writes gs
-
-      by-branches : length (stores bs) ≤ 2 ^ s
-      by-branches = omega (arith, stores-length bs, filter-length alive (branches n σ gs), branch-count n σ gs)
-
-      by-marks : length (stores bs) ≤ 2 ^ t
-      by-marks =
-          subst (λ (k : ℕ). length (stores bs) ≤ k) (variants-length (written gs) σ ∙ ap (λ (k : ℕ). 2 ^ k) (sym (marks-tally (length σ) gs)))
-          (fewer (variants (written gs) σ) (stores bs) (stores-distinct bs)
-          (all-imp (Fit (written gs) σ) (λ (τ : Store). some (sameBits τ) (variants (written gs) σ) ≡ true) (stores bs) (member (written gs) σ) stores-fit))
-
-      go : (b : Bool) → leb s t ≡ b → length (stores bs) ≤ 2 ^ min s t
-      go true e = let f : min s t ≡ s = omega (arith, leb-true s t e) in rw f by-branches
-      go false e = let f : min s t ≡ t = omega (arith, leb-false s t e) in rw f by-marks
+  store-count = marked-count writes gs σ given (branches n σ gs) branches-marked (total splits gs) (branch-count n σ gs)

@@ -25,7 +25,7 @@ use Rattle.gate.proofs.Bits.{same-true, same-refl}
 use Rattle.kraus.specs.Branch.{Store, Branch, branches}
 use Rattle.kraus.specs.Blocks.{alive, survivors, having, overlap, block, squared, povm, stores}
 use Rattle.kraus.proofs.Stores.{Distinct, stores-distinct, stores-some}
-use Rattle.kraus.proofs.Complete.{completeness}
+use Rattle.kraus.proofs.Complete.{gram, completeness}
 
 -- ---- store by store
 module _ (𝓡 : Semi) where
@@ -113,15 +113,13 @@ module _ (d : ℕ) where
       ∙ listSum-same exacts _ _ (filterBy (having τ) bs) (turned r c)
       ∙ sym (foldl-listSum exacts (squared d c r) (filterBy (having τ) bs))
 
-module _ (n m : ℕ) (σ : Store) (gs : List Gate) (ok : every (valid n m) gs ≡ true) where
+-- branches whose K†K add up to the identity
+module _ (n : ℕ) (all : List Branch) (complete : (c c′ : ℕ) → c < 2 ^ n → c′ < 2 ^ n → gram n all c c′ ≡ δ exact c c′) where
   abbrev d : ℕ
   d = 2 ^ n
 
-  abbrev all : List Branch
-  all = branches n σ gs
-
   abbrev bs : List Branch
-  bs = survivors (branches n σ gs)
+  bs = survivors all
 
   alive-all : (r c : ℕ) → listSum exact (one-branch d r c) bs ≡ listSum exact (one-branch d r c) all
   unfolding one-branch
@@ -140,11 +138,16 @@ module _ (n m : ℕ) (σ : Store) (gs : List Gate) (ok : every (valid n m) gs �
       ∙ sum-listSum exacts d (λ (o : ℕ) (b : Branch). overlap (o * d + r) (o * d + c) b) bs
       ∙ alive-all r c
       ∙ listSum-same exacts _ _ all (turned d r c)
-      ∙ completeness n m σ gs ok c r l k ∙ δ-turn exact c r
+      ∙ complete c r l k ∙ δ-turn exact c r
 
-  -- the effects of the channel's stores, in any order, add up to the identity
-  pub probabilities : (ts : List Store) → Perm ts (stores (survivors (branches n σ gs))) → (r c : ℕ) → r < 2 ^ n → c < 2 ^ n
-      → gather (exact ._⊕_) (λ (τ : Store). effect (2 ^ n) (survivors (branches n σ gs)) τ r c) (exact .𝟘) ts ≡ δ exact r c
-  probabilities ts p r c k l =
+  -- the effects of their stores, in any order, add up to the identity
+  pub effects-whole : (ts : List Store) → Perm ts (stores (survivors all)) → (r c : ℕ) → r < 2 ^ n → c < 2 ^ n
+      → gather (exact ._⊕_) (λ (τ : Store). effect (2 ^ n) (survivors all) τ r c) (exact .𝟘) ts ≡ δ exact r c
+  effects-whole ts p r c k l =
       gather-of (exact ._⊕_) (exacts .add-assoc) (exacts .add-comm) (λ (τ : Store). effect d bs τ r c) p (exact .𝟘)
       ∙ foldl-listSum exacts (λ (τ : Store). effect d bs τ r c) (stores bs) ∙ in-order r c k l
+
+-- those of a circuit
+pub probabilities : (n m : ℕ) (σ : Store) (gs : List Gate) → every (valid n m) gs ≡ true → (ts : List Store) → Perm ts (stores (survivors (branches n σ gs))) → (r c : ℕ) → r < 2 ^ n → c < 2 ^ n
+    → gather (exact ._⊕_) (λ (τ : Store). effect (2 ^ n) (survivors (branches n σ gs)) τ r c) (exact .𝟘) ts ≡ δ exact r c
+probabilities n m σ gs ok = effects-whole n (branches n σ gs) (completeness n m σ gs ok)

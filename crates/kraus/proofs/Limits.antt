@@ -40,7 +40,7 @@ use Rattle.kraus.proofs.Enough.{Entry, Sum, Fit, Whole, Matrix, Everywh
 abbrev pub exponentOf : ℕ → ℕ
 exponentOf W = W / 2 + 1
 
-part-fits : (w E : ℕ) (x : Exact) → Exp w ≤ E → graded .Part w x → Fit E x
+pub part-fits : (w E : ℕ) (x : Exact) → Exp w ≤ E → graded .Part w x → Fit E x
 part-fits w E x l (z, h) = fits-grow ℤ√2i exactHalving (Exp w) E x l (fits-low ℤ√2i exactHalving (Exp w) x _ h)
 
 pub circuit-whole : (W n m : ℕ) (σ : Store) (gs : List Gate) → every (valid n m) gs ≡ true → total weight gs ≤ W → Whole n (exponentOf W) (branches n σ gs)
@@ -160,5 +160,8 @@ never-too-large W suits n m σ gs ok light k =
 abbrev pub krausExponent : ℕ
 krausExponent = exponentOf maxWeight
 
+pub suits : Suits krausExponent
+suits = record { narrow-exponent = omega arith; narrow-numerator = omega arith; exponent = omega arith; numerator = omega arith }
+
 pub circuit-enough : (n m : ℕ) (σ : Store) (gs : List Gate) → every (valid n m) gs ≡ true → total weight gs ≤ maxWeight → (k : ℕ) → Enough krausExponent n (branches n σ (take k gs))
-circuit-enough = never-too-large maxWeight (record { narrow-exponent = omega arith; narrow-numerator = omega arith; exponent = omega arith; numerator = omega arith })
+circuit-enough = never-too-large maxWeight suits

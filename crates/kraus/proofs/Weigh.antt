@@ -55,7 +55,7 @@ module _ (𝓖 : Graded) where
     abbrev pub Weighing : ℕ → List KrausOperator → Type 0
     Weighing v = All (λ (K : KrausOperator). (r c : ℕ) → Part v (K .entry r c))
 
-    apply-entries : (v w : ℕ) (b : Branch) → Entries w b → (K : KrausOperator) → ((r c : ℕ) → Part v (K .entry r c)) → Entries (v + w) (apply n b K)
+    pub apply-entries : (v w : ℕ) (b : Branch) → Entries w b → (K : KrausOperator) → ((r c : ℕ) → Part v (K .entry r c)) → Entries (v + w) (apply n b K)
     apply-entries v w b e K u i =
         tabulate-all (Part (v + w)) (2 ^ n * 2 ^ n) 0 _ (exact .𝟘)
         (λ p. sum-part (v + w) (2 ^ n) _ (λ q. 𝓖 .mul v w (K .entry (p / 2 ^ n) q) (cell exact (2 ^ n) (b .matrix) q (p % 2 ^ n)) (u (p / 2 ^ n) q) (e (q * 2 ^ n + p % 2 ^ n))))

@@ -199,7 +199,7 @@ light g = go (heavy (g .kind))
     go true = omega arith
     go false = omega arith
 
-start-parts : (n : ℕ) (σ : Store) → All (Entries graded 0) (start n σ)
+pub start-parts : (n : ℕ) (σ : Store) → All (Entries graded 0) (start n σ)
 start-parts n σ = (
   tabulate-all (Part 0) (2 ^ n * 2 ^ n) 0 (λ (p : ℕ). δ exact (p / 2 ^ n) (p % 2 ^ n)) none
       (λ p. choose 0 (eqb (p / 2 ^ n) (p % 2 ^ n)) one none (one-at false) (none-at 0)) (none-at 0),

@@ -1,0 +1,3 @@
+pub mod Delivered
+pub mod Call
+pub mod Known

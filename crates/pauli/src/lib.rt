@@ -1,0 +1,1 @@
+// The channel of a Pauli program: definitions and laws; nothing here runs.

@@ -1,0 +1,3 @@
+// Pauli programs, run on branches in lent words.
+pub mod operators;
+pub mod run;
