@@ -12,7 +12,7 @@ termsNeeded g b d = 2 * g * b * d ^ 3 + b * d ^ 4
 
 -- question 10
 abbrev pub resultWords : ℕ → ℕ → ℕ
-resultWords v d = 4 + v * (3 + cellSize * d ^ 4)
+resultWords v d = 4 + v * (4 + 4 * d ^ 4)
 
 abbrev pub workWords : ℕ → ℕ → ℕ
 workWords b d = (2 * b + 2) * (cellSize * d ^ 2 + 2)

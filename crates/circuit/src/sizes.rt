@@ -72,7 +72,7 @@ pub fn result_words(v: u64, d: u64) -> u64
     requires { ⌜ (v ≤ maxBranches) × (d ≤ maxRows) ⌝ }
     ensures { λ r. ⌜ r ≡ resultWords v d ⌝ }
 {
-    4 + v * (3 + CELL as u64 * fourth(d))
+    4 + v * (4 + 4 * fourth(d))
 }
 
 fn work_words(b: u64, d: u64) -> u64

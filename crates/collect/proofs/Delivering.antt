@@ -12,7 +12,7 @@ use Rattle.algebra.proofs.Signed.{word-is}
 use Rattle.kraus.specs.Blocks.{survivors}
 use Rattle.store.specs.Inner.Held.{StoreAt}
 use Rattle.store.specs.Store.{maxWord, storeFrom}
-use Rattle.channel.specs.Layout.{Block, headerSize, recordSize, side, word}
+use Rattle.channel.specs.Layout.{Block, headerSize, recordSize, channels, word}
 use Rattle.collect.specs.Inner.Bank.{storesOf, blockOf, records, bankIn, Deliverable}
 use Rattle.collect.specs.Inner.Links.{linked, headed, Records}
 use Rattle.collect.specs.Delivered.{branchesWords, overwritten}
@@ -32,7 +32,7 @@ module _ {result work : List ℤ} {at d m count : ℕ} (p : Deliverable result w
   blockAt j = blockOf work at d count (getD stores j 0)
 
   abbrev collected : List ℤ
-  collected = blocks (recordSize (side d)) result headerSize (length stores) (records work at d count)
+  collected = blocks (recordSize (channels d)) result headerSize (length stores) (records work at d count)
 
   module _ {n : ℕ} (e : n ≡ length stores) {a : List ℤ} (f : a ≡ collected) where
     pub collected-records : Records a d n

@@ -15,7 +15,7 @@ use Rattle.algebra.proofs.Lists.{all-getD, all-map, all-concat}
 use Rattle.algebra.proofs.Totals.{sub-whole, sub-filter, sub-take}
 use Rattle.algebra.proofs.Bits.{bits-below, bits-parts}
 use Rattle.exact.specs.Exact.{Exact, exact}
-use Rattle.exact.specs.Inner.Sizes.{Room}
+use Rattle.exact.specs.Inner.Sizes.{Room, roomExponent}
 use Rattle.cells.specs.Cells.{cellSize}
 use Rattle.matrix.specs.Inner.Factors.{Factor}
 use Rattle.gate.specs.Gate.{Gate, weight, splits, maxWeight}
@@ -30,7 +30,7 @@ use Rattle.store.specs.Inner.Held.{Bits}
 use Rattle.branches.specs.Inner.Bank.{bankWords, Holds}
 use Rattle.branches.proofs.Banks.{read-factor, bank-room, bank-read, bank-low, bank-high, store-at}
 use Rattle.store.specs.Store.{bits, storeFrom}
-use Rattle.channel.specs.Layout.{headerSize, recordSize, side}
+use Rattle.channel.specs.Layout.{headerSize, recordSize, channels}
 use Rattle.collect.specs.Inner.Bank.{place, entry, storeOf, overlaps, bankIn, Bank, Deliverable}
 use Rattle.store.proofs.Bytes.{bits-word}
 use Rattle.collect.proofs.Branching.{branchIn, block-is, store-count}
@@ -130,15 +130,14 @@ module _ {l : List ℤ} {at n m : ℕ} {bs : List Branch} (h : Held l at n m bs)
   pub bank-is : bankIn l at (2 ^ n) m (length bs) ≡ bs
   bank-is = bank-first (length bs) (omega arith) ∙ take-length bs
 
-  sums-of : (b j r c : ℕ) → b < length bs → j < length bs → r < d * d → c < d * d → Room (entry l at d j r .exp + entry l at d j c .exp) (overlaps l at d j (storeOf l at d b) r c)
+  sums-of : (b j r c : ℕ) → b < length bs → j ≤ length bs → r < d * d → c < d * d → Room roomExponent (overlaps l at d j (storeOf l at d b) r c)
   sums-of b j r c hb hj hr hc =
       let τ = bits m (storeOf l at d b) in
       let xs = survivors (take j bs) in
       let f = h .enough .blocks (filterBy (having τ) xs) (sub-filter (having τ) (sub-filter alive (sub-take j (sub-whole bs)))) r c hr hc in
       let e : block xs τ r c ≡ overlaps l at d j (storeOf l at d b) r c =
-      ap (λ (ys : List Branch). block (survivors ys) τ r c) (sym (bank-first j (omega arith))) ∙ block-is l at d m (length bs) (λ i p. store-below i p) j (storeOf l at d b) r c (omega arith) (store-below b hb) hr hc in
-      subst₂ (λ (x y : Exact). Room (x .exp + y .exp) (overlaps l at d j (storeOf l at d b) r c)) (sym (entry-of j hj r hr)) (sym (entry-of j hj c hc))
-      (subst (Room _) e (f .room (getD (at-place j .matrix) r (exact .𝟘) .exp + getD (at-place j .matrix) c (exact .𝟘) .exp) (omega (arith, kraus-of j hj r hr .coords .exponent, kraus-of j hj c hc .coords .exponent))))
+      ap (λ (ys : List Branch). block (survivors ys) τ r c) (sym (bank-first j hj)) ∙ block-is l at d m (length bs) (λ i p. store-below i p) j (storeOf l at d b) r c hj (store-below b hb) hr hc in
+      subst (Room roomExponent) e (f .room roomExponent (omega arith))
 
   pub held-bank : Bank l at (2 ^ n) (length bs)
   held-bank = record {
@@ -151,9 +150,9 @@ module _ {l : List ℤ} {at n m : ℕ} {bs : List Branch} (h : Held l at n m bs)
   }
 
   -- with room for a record for each store
-  pub deliverable : (result : List ℤ) → headerSize + length (stores (survivors bs)) * recordSize (side (2 ^ n)) ≤ length result → Deliverable result l at (2 ^ n) m (length bs)
+  pub deliverable : (result : List ℤ) → headerSize + length (stores (survivors bs)) * recordSize (channels (2 ^ n)) ≤ length result → Deliverable result l at (2 ^ n) m (length bs)
   deliverable result room = record {
     bank = held-bank;
     bits = store-below;
-    room = subst (λ (k : ℕ). headerSize + k * recordSize (side d) ≤ length result) (sym (store-count l at d m (length bs) store-below ∙ ap (λ (ys : List Branch). length (stores (survivors ys))) bank-is)) room;
+    room = subst (λ (k : ℕ). headerSize + k * recordSize (channels d) ≤ length result) (sym (store-count l at d m (length bs) store-below ∙ ap (λ (ys : List Branch). length (stores (survivors ys))) bank-is)) room;
   }

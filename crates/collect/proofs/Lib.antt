@@ -1,8 +1,7 @@
-pub mod Words
 pub mod Finding
-pub mod Sizes
-pub mod Adding
+pub mod Numerators
 pub mod Summing
+pub mod Sharing
 pub mod Recording
 pub mod Rising
 pub mod Linking

@@ -13,17 +13,16 @@ use lib.IntN.{ℤ, pos, natAbs}
 use Rattle.algebra.specs.Words.{blocks}
 use Rattle.algebra.proofs.Blocks.{Writing, begin, again, done, long, block-in, append-block}
 use Rattle.algebra.proofs.Signed.{word-is}
-use Rattle.exact.specs.Exact.{Exact}
-use Rattle.cells.specs.Cells.{cells, fill}
-use Rattle.cells.proofs.Cell.{fill-block, length-cells}
 use Rattle.store.specs.Inner.Held.{StoreAt}
 use Rattle.store.specs.Store.{maxWord, storeFrom}
-use Rattle.channel.specs.Layout.{recordHead, headerSize, recordSize, side, word, recordWords, Block}
-use Rattle.collect.specs.Inner.Bank.{storeOf, starts, storesOf, overlaps, recordOf, records, Bank, Begun}
+use Rattle.channel.specs.Shared.{Shared}
+use Rattle.channel.specs.Layout.{headerSize, recordSize, channels, word, recordWords}
+use Rattle.channel.proofs.Restore.{length-block}
+use Rattle.collect.specs.Inner.Bank.{storeOf, starts, storesOf, sharedOf, recordOf, records, Bank, Begun}
 
 -- ---- one record
-pub length-record : (w next : ℕ) (b : Block) → length (recordWords w next b) ≡ recordSize w
-length-record w next b = omega (arith, length-cells (b .entry) (w * w))
+pub length-record : (d next s : ℕ) (b : Shared) → length (recordWords (channels d) next s b) ≡ recordSize (channels d)
+length-record d next s b = omega (arith, length-block (channels d) (b .num))
 
 -- the two words of a store, from its number
 module _ {l : List ℤ} {at : ℕ} (s : StoreAt l at) where
@@ -42,12 +41,12 @@ module _ {l : List ℤ} {at : ℕ} (s : StoreAt l at) where
   pub high-word : word l (at + 1) ≡ pos (number / 2 ^ 32)
   high-word = word-is maxWord (word l (at + 1)) (s .high) .0 ∙ ap pos (sym (ap (λ (x : ℕ). x / 2 ^ 32) swapped ∙ digits-div (natAbs (word l (at + 1))) low))
 
--- three words, then the entries
-pub record-written : (m : List ℤ) (to : ℕ) {l : List ℤ} {at : ℕ} → StoreAt l at → (n : ℕ) (f : ℕ → Exact) {x y : ℤ} → x ≡ word l at → y ≡ word l (at + 1) → {b : List ℤ}
-    → b ≡ fill (set (set (set m to (pos 0)) (to + 1) x) (to + 2) y) (to + recordHead) n f
-    → b ≡ sets m to (pos 0 ∷ pos (storeFrom (word l at) (word l (at + 1)) % 2 ^ 32) ∷ pos (storeFrom (word l at) (word l (at + 1)) / 2 ^ 32) ∷ cells n f)
-record-written m to {l} {at} s n f {x} {y} p q {b} e =
-    append-block m (pos 0 ∷ pos (number s % 2 ^ 32) ∷ pos (number s / 2 ^ 32) ∷ []) (cells n f) to recordHead refl heads (e ∙ fill-block f _ (to + recordHead) n)
+-- three words, then the exponent and the numerators
+pub record-written : (m : List ℤ) (to : ℕ) {l : List ℤ} {at : ℕ} → StoreAt l at → (ws : List ℤ) {x y : ℤ} → x ≡ word l at → y ≡ word l (at + 1) → {b : List ℤ}
+    → b ≡ sets (set (set (set m to (pos 0)) (to + 1) x) (to + 2) y) (to + 3) ws
+    → b ≡ sets m to (pos 0 ∷ pos (storeFrom (word l at) (word l (at + 1)) % 2 ^ 32) ∷ pos (storeFrom (word l at) (word l (at + 1)) / 2 ^ 32) ∷ ws)
+record-written m to {l} {at} s ws {x} {y} p q {b} e =
+    append-block m (pos 0 ∷ pos (number s % 2 ^ 32) ∷ pos (number s / 2 ^ 32) ∷ []) ws to 3 refl heads e
   where
     first : to + 1 ≡ suc to
     first = omega arith
@@ -113,8 +112,8 @@ module _ (l : List ℤ) (at d : ℕ) where
         ∙ getD-append-add (storesOf l at d b) (storeOf l at d b ∷ []) 0 0
 
 -- the record that a branch starts lies in the room for all
-pub record-room : {m : List ℤ} {n : ℕ} {l : List ℤ} {at d count b : ℕ} → Begun m n l at d count b → starts l at d b ≡ true → headerSize + n * recordSize (side d) + recordSize (side d) ≤ length m
-record-room {m} {n} {l} {at} {d} {count} {b} g e = by (recordSize (side d)) (length (storesOf l at d count)) (started-place l at d b count (g .branch) e) (g .so-far) (g .room)
+pub record-room : {m : List ℤ} {n : ℕ} {l : List ℤ} {at d count b : ℕ} → Begun m n l at d count b → starts l at d b ≡ true → headerSize + n * recordSize (channels d) + recordSize (channels d) ≤ length m
+record-room {m} {n} {l} {at} {d} {count} {b} g e = by (recordSize (channels d)) (length (storesOf l at d count)) (started-place l at d b count (g .branch) e) (g .so-far) (g .room)
   where
     by : (s k : ℕ) → length (storesOf l at d b) < k → n ≡ length (storesOf l at d b) → headerSize + k * s ≤ length m → headerSize + n * s + s ≤ length m
     by s k h q r = omega (arith, block-in {i = n} {n = k} (omega arith) s)
@@ -122,7 +121,7 @@ record-room {m} {n} {l} {at} {d} {count} {b} g e = by (recordSize (side d)) (len
 -- what one branch answers, and leaves
 module _ (m : List ℤ) (n : ℕ) (l : List ℤ) (at d count b : ℕ) where
   abbrev new : List ℤ
-  new = sets m (headerSize + n * recordSize (side d)) (recordOf l at d count (storeOf l at d b))
+  new = sets m (headerSize + n * recordSize (channels d)) (recordOf l at d count (storeOf l at d b))
 
   pub unstarted : starts l at d b ≡ false → (n ≡ cond (starts l at d b) (n + 1) n) × (m ≡ cond (starts l at d b) new m)
   unstarted e = (sym (ap (λ (t : Bool). cond t (n + 1) n) e), sym (ap (λ (t : Bool). cond t new m) e))
@@ -134,23 +133,23 @@ module _ (m : List ℤ) (n : ℕ) (l : List ℤ) (at d count b : ℕ) where
 pub record Collected (m l : List ℤ) (at d count : ℕ) (q : List ℤ) (n b : ℕ) : Type 0 where
   pub upto : b ≤ count
   pub so-far : n ≡ length (storesOf l at d b)
-  pub writing : Writing (recordSize (side d)) m headerSize (length (storesOf l at d count)) (records l at d count) q n
+  pub writing : Writing (recordSize (channels d)) m headerSize (length (storesOf l at d count)) (records l at d count) q n
 
 pub none-collected : (m l : List ℤ) (at d count : ℕ) → Collected m l at d count m 0 0
 none-collected m l at d count = record { upto = omega arith; so-far = sym (no-stores l at d); writing = begin (λ k. sized k) }
   where
-    sized : (k : ℕ) → length (records l at d count k) ≤ recordSize (side d)
-    sized k = omega (arith, length-record (side d) 0 (record { store = 0; entry = λ i. overlaps l at d count (getD (storesOf l at d count) k 0) (i / side d) (i % side d) }))
+    sized : (k : ℕ) → length (records l at d count k) ≤ recordSize (channels d)
+    sized k = let s = getD (storesOf l at d count) k 0 in omega (arith, length-record d 0 s (sharedOf l at d count s))
 
 module _ {m l : List ℤ} {at d count : ℕ} {q : List ℤ} {n b : ℕ} (g : Collected m l at d count q n b) where
-  pub begun : Bank l at d count → headerSize + length (storesOf l at d count) * recordSize (side d) ≤ length m → b < count → Begun q n l at d count b
+  pub begun : Bank l at d count → headerSize + length (storesOf l at d count) * recordSize (channels d) ≤ length m → b < count → Begun q n l at d count b
   begun bank room h = record { bank = bank; branch = h; so-far = g .so-far; room = omega (arith, long (g .writing)) }
 
-  pub collected-more : b < count → {p : List ℤ} {k : ℕ} → k ≡ cond (starts l at d b) (n + 1) n → p ≡ cond (starts l at d b) (sets q (headerSize + n * recordSize (side d)) (recordOf l at d count (storeOf l at d b))) q
+  pub collected-more : b < count → {p : List ℤ} {k : ℕ} → k ≡ cond (starts l at d b) (n + 1) n → p ≡ cond (starts l at d b) (sets q (headerSize + n * recordSize (channels d)) (recordOf l at d count (storeOf l at d b))) q
       → Collected m l at d count p k (b + 1)
   collected-more h {p} {k} e f = go (starts l at d b) refl e f
     where
-      go : (t : Bool) → starts l at d b ≡ t → k ≡ cond t (n + 1) n → p ≡ cond t (sets q (headerSize + n * recordSize (side d)) (recordOf l at d count (storeOf l at d b))) q → Collected m l at d count p k (b + 1)
+      go : (t : Bool) → starts l at d b ≡ t → k ≡ cond t (n + 1) n → p ≡ cond t (sets q (headerSize + n * recordSize (channels d)) (recordOf l at d count (storeOf l at d b))) q → Collected m l at d count p k (b + 1)
       go true u e f = record {
         upto = omega arith;
         so-far = e ∙ ap (λ (i : ℕ). i + 1) (g .so-far) ∙ sym (stores-count l at d b true u);
@@ -164,7 +163,7 @@ module _ {m l : List ℤ} {at d count : ℕ} {q : List ℤ} {n b : ℕ} (g : Col
             (record { sized = g .writing .sized; count = g .writing .count; is = f ∙ g .writing .is });
       }
 
-  pub all-collected : count ≤ b → (n ≡ length (storesOf l at d count)) × (q ≡ blocks (recordSize (side d)) m headerSize (length (storesOf l at d count)) (records l at d count))
+  pub all-collected : count ≤ b → (n ≡ length (storesOf l at d count)) × (q ≡ blocks (recordSize (channels d)) m headerSize (length (storesOf l at d count)) (records l at d count))
   all-collected h =
       let e : b ≡ count = omega (arith, g .upto) in
       let k : n ≡ length (storesOf l at d count) = g .so-far ∙ ap (λ (i : ℕ). length (storesOf l at d i)) e in

@@ -13,14 +13,16 @@ use borrow.Author.Tests.{le-leb}
 use Rattle.algebra.specs.Words.{blocks, upTo}
 use Rattle.algebra.specs.Words as words
 use Rattle.algebra.proofs.Blocks.{wrote, rest, block-in, length-blocks, blocks-at, blocks-same, blocks-over, blocks-parts, length-joined, joined-same}
-use Rattle.cells.specs.Cells.{cells}
-use Rattle.cells.proofs.Cell.{cells-same}
 use Rattle.store.specs.Store.{maxWord, storeFrom, before}
-use Rattle.channel.specs.Layout.{Block, headerSize, recordSize, recordAt, word, side, link, next, first, header, recordWords, channelWords}
+use Rattle.channel.specs.Shared.{Shared, shared}
+use Rattle.channel.specs.Forms.{Alike}
+use Rattle.channel.specs.Layout.{Block, channels, side, entries, headerSize, recordSize, recordAt, word, link, next, first, header, blockWords, recordWords, channelWords}
+use Rattle.channel.proofs.Shared.{shared-same}
+use Rattle.channel.proofs.Restore.{block-same}
 use Rattle.channel.proofs.Words.{square-small}
 use Rattle.collect.specs.Inner.Links.{blockIn, linked, headed, Records}
 use Rattle.collect.specs.Delivered.{overwritten}
-use Rattle.collect.proofs.Words.{sets-there}
+use Rattle.overlaps.proofs.Numbers.{sets-there}
 use Rattle.collect.proofs.Recording.{length-record}
 use Rattle.collect.proofs.Linking.{least-same, storesIn, Linked, store-kept}
 
@@ -47,19 +49,22 @@ heads-whole s l at y t h (suc n) e =
         ∙ rest (wrote {s = s} {l = l} {at = at} {n = n} {f = λ (i : ℕ). y i ∷ t i} h refl) p s (le-refl p) .word (p + suc k) (omega arith) (omega (arith, h n))
         ∙ e n k (omega arith) q
 
-module _ (l : List ℤ) (d m n : ℕ) (B : ℕ → Block) (room : headerSize + n * recordSize (side d) ≤ length l) where
+module _ (l : List ℤ) (d m n : ℕ) (B : ℕ → Block) (room : headerSize + n * recordSize (channels d) ≤ length l) where
+  abbrev S : ℕ → Shared
+  S j = shared (entries (channels d)) (B j .entry)
+
   -- the records, and with next indices
   abbrev unlinked : List ℤ
-  unlinked = blocks (recordSize (side d)) l headerSize n (λ (j : ℕ). recordWords (side d) 0 (B j))
+  unlinked = blocks (recordSize (channels d)) l headerSize n (λ (j : ℕ). recordWords (channels d) 0 (B j .store) (S j))
 
   abbrev whole : List ℤ
-  whole = blocks (recordSize (side d)) l headerSize n (λ (j : ℕ). recordWords (side d) (next d m n B j) (B j))
+  whole = blocks (recordSize (channels d)) l headerSize n (λ (j : ℕ). recordWords (channels d) (next (channels d) d m n B j) (B j .store) (S j))
 
-  sized : (x j : ℕ) → length (recordWords (side d) x (B j)) ≡ recordSize (side d)
-  sized x j = length-record (side d) x (B j)
+  sized : (x j : ℕ) → length (recordWords (channels d) x (B j .store) (S j)) ≡ recordSize (channels d)
+  sized x j = length-record d x (B j .store) (S j)
 
-  word-read : (j k : ℕ) → j < n → k < recordSize (side d) → word unlinked (recordAt (side d) j + k) ≡ getD (recordWords (side d) 0 (B j)) k (pos 0)
-  word-read j k h q = blocks-at (recordSize (side d)) l headerSize (λ (j : ℕ). recordWords (side d) 0 (B j)) (λ i. omega (arith, sized 0 i)) n j k h (omega (arith, sized 0 j)) room
+  word-read : (j k : ℕ) → j < n → k < recordSize (channels d) → word unlinked (recordAt (channels d) j + k) ≡ getD (recordWords (channels d) 0 (B j .store) (S j)) k (pos 0)
+  word-read j k h q = blocks-at (recordSize (channels d)) l headerSize (λ (j : ℕ). recordWords (channels d) 0 (B j .store) (S j)) (λ i. omega (arith, sized 0 i)) n j k h (omega (arith, sized 0 j)) room
 
   store-read : (j : ℕ) → j < n → storesIn unlinked d j ≡ B j .store
   store-read j h =
@@ -68,34 +73,34 @@ module _ (l : List ℤ) (d m n : ℕ) (B : ℕ → Block) (room : headerSize + n
 
   linked-whole : linked d n unlinked ≡ whole
   linked-whole =
-      blocks-same (recordSize (side d)) unlinked headerSize n _ (λ (j : ℕ). pos (next d m n B j) ∷ [])
-      (λ j h. ap (λ (k : ℕ). pos (link (side d) k) ∷ []) (least-same n (storesIn unlinked d) (λ (i : ℕ). B i .store) (before (storesIn unlinked d j)) (before (B j .store)) store-read (ap before (store-read j h))))
-      ∙ heads-whole (recordSize (side d)) unlinked headerSize (λ (j : ℕ). pos (next d m n B j)) (λ (j : ℕ). pos (B j .store % 2 ^ 32) ∷ pos (B j .store / 2 ^ 32) ∷ cells (side d * side d) (B j .entry))
+      blocks-same (recordSize (channels d)) unlinked headerSize n _ (λ (j : ℕ). pos (next (channels d) d m n B j) ∷ [])
+      (λ j h. ap (λ (k : ℕ). pos (link (channels d) k) ∷ []) (least-same n (storesIn unlinked d) (λ (i : ℕ). B i .store) (before (storesIn unlinked d j)) (before (B j .store)) store-read (ap before (store-read j h))))
+      ∙ heads-whole (recordSize (channels d)) unlinked headerSize (λ (j : ℕ). pos (next (channels d) d m n B j)) (λ (j : ℕ). pos (B j .store % 2 ^ 32) ∷ pos (B j .store / 2 ^ 32) ∷ pos (S j .exp) ∷ blockWords (channels d) (S j .num))
       (λ j. omega (arith, sized 0 j)) n (λ j k h q. word-read j (suc k) h (omega (arith, sized 0 j)))
-      ∙ blocks-over (recordSize (side d)) l headerSize n (λ (j : ℕ). recordWords (side d) 0 (B j)) (λ (j : ℕ). recordWords (side d) (next d m n B j) (B j)) (sized 0) (λ j. sized (next d m n B j) j) room
+      ∙ blocks-over (recordSize (channels d)) l headerSize n (λ (j : ℕ). recordWords (channels d) 0 (B j .store) (S j)) (λ (j : ℕ). recordWords (channels d) (next (channels d) d m n B j) (B j .store) (S j)) (sized 0) (λ j. sized (next (channels d) d m n B j) j) room
 
-  first-whole : {b : List ℤ} → b ≡ linked d n unlinked → first d m n (blockIn b (side d)) ≡ first d m n B
-  first-whole {b} e = ap (link (side d)) (least-same n (storesIn b d) (λ (i : ℕ). B i .store) (λ (s : ℕ). true) (λ (s : ℕ). true) (λ i h. store-kept linking i ∙ store-read i h) refl)
+  first-whole : {b : List ℤ} → b ≡ linked d n unlinked → first (channels d) d m n (blockIn b (side d)) ≡ first (channels d) d m n B
+  first-whole {b} e = ap (link (channels d)) (least-same n (storesIn b d) (λ (i : ℕ). B i .store) (λ (s : ℕ). true) (λ (s : ℕ). true) (λ i h. store-kept linking i ∙ store-read i h) refl)
     where
       linking : Linked unlinked d n b n
       linking = record { writing = wrote (λ k. omega arith) e }
 
   -- the header over the first words
-  headed-whole : sets whole 0 (header d m n B) ≡ overwritten (channelWords d m n B) l
+  headed-whole : sets whole 0 (header (channels d) d m n B) ≡ overwritten (channelWords d m n B) l
   headed-whole =
-      sets-eq (header d m n B) whole 0 (omega (arith, length-blocks (recordSize (side d)) l headerSize (λ (j : ℕ). recordWords (side d) (next d m n B j) (B j)) n))
-      ∙ ap (λ (t : List ℤ). header d m n B ++ t)
-      (ap (drop headerSize) (blocks-parts (recordSize (side d)) (λ (j : ℕ). recordWords (side d) (next d m n B j) (B j)) (λ j. sized (next d m n B j) j) l headerSize n room
-      ∙ append-assoc (take headerSize l) recs (drop (headerSize + n * recordSize (side d)) l))
-      ∙ drop-at (take headerSize l) (recs ++ drop (headerSize + n * recordSize (side d)) l) headerSize (simp length-take (omega arith)))
-      ∙ sym (append-assoc (header d m n B) recs (drop (headerSize + n * recordSize (side d)) l))
-      ∙ ap (λ (k : ℕ). (header d m n B ++ recs) ++ drop k l) (sym size)
+      sets-eq (header (channels d) d m n B) whole 0 (omega (arith, length-blocks (recordSize (channels d)) l headerSize (λ (j : ℕ). recordWords (channels d) (next (channels d) d m n B j) (B j .store) (S j)) n))
+      ∙ ap (λ (t : List ℤ). header (channels d) d m n B ++ t)
+      (ap (drop headerSize) (blocks-parts (recordSize (channels d)) (λ (j : ℕ). recordWords (channels d) (next (channels d) d m n B j) (B j .store) (S j)) (λ j. sized (next (channels d) d m n B j) j) l headerSize n room
+      ∙ append-assoc (take headerSize l) recs (drop (headerSize + n * recordSize (channels d)) l))
+      ∙ drop-at (take headerSize l) (recs ++ drop (headerSize + n * recordSize (channels d)) l) headerSize (simp length-take (omega arith)))
+      ∙ sym (append-assoc (header (channels d) d m n B) recs (drop (headerSize + n * recordSize (channels d)) l))
+      ∙ ap (λ (k : ℕ). (header (channels d) d m n B ++ recs) ++ drop k l) (sym size)
     where
       recs : List ℤ
-      recs = words.joined n (λ (j : ℕ). recordWords (side d) (next d m n B j) (B j))
+      recs = words.joined n (λ (j : ℕ). recordWords (channels d) (next (channels d) d m n B j) (B j .store) (S j))
 
-      size : length (header d m n B ++ recs) ≡ headerSize + n * recordSize (side d)
-      size = length-append (header d m n B) recs ∙ ap (λ (k : ℕ). headerSize + k) (length-joined (recordSize (side d)) (λ (j : ℕ). recordWords (side d) (next d m n B j) (B j)) (λ j. sized (next d m n B j) j) n)
+      size : length (header (channels d) d m n B ++ recs) ≡ headerSize + n * recordSize (channels d)
+      size = length-append (header (channels d) d m n B) recs ∙ ap (λ (k : ℕ). headerSize + k) (length-joined (recordSize (channels d)) (λ (j : ℕ). recordWords (channels d) (next (channels d) d m n B j) (B j .store) (S j)) (λ j. sized (next (channels d) d m n B j) j) n)
 
   -- what is left once the records are linked and headed
   pub delivered : {a b c : List ℤ} → a ≡ unlinked → b ≡ linked d n a → c ≡ headed d m n b → c ≡ overwritten (channelWords d m n B) l
@@ -113,23 +118,32 @@ module _ (l : List ℤ) (d m n : ℕ) (B : ℕ → Block) (room : headerSize + n
     long = omega (arith, room, size);
     stored = λ j h. record {
       width = square-small d small;
-      room = omega (arith, room, size, block-in h (recordSize (side d)));
-      low = ap (λ (b : List ℤ). upTo maxWord (word b (recordAt (side d) j + 1))) e ∙ ap (upTo maxWord) (word-read j 1 h (omega arith)) ∙ le-leb (B j .store % 2 ^ 32) maxWord (omega (arith, mod-lt (B j .store) (pow-pos 32)));
-      high = ap (λ (b : List ℤ). upTo maxWord (word b (recordAt (side d) j + 2))) e ∙ ap (upTo maxWord) (word-read j 2 h (omega arith)) ∙ le-leb (B j .store / 2 ^ 32) maxWord (omega (arith, narrow j h));
+      room = omega (arith, room, size, block-in h (recordSize (channels d)));
+      low = ap (λ (b : List ℤ). upTo maxWord (word b (recordAt (channels d) j + 1))) e ∙ ap (upTo maxWord) (word-read j 1 h (omega arith)) ∙ le-leb (B j .store % 2 ^ 32) maxWord (omega (arith, mod-lt (B j .store) (pow-pos 32)));
+      high = ap (λ (b : List ℤ). upTo maxWord (word b (recordAt (channels d) j + 2))) e ∙ ap (upTo maxWord) (word-read j 2 h (omega arith)) ∙ le-leb (B j .store / 2 ^ 32) maxWord (omega (arith, narrow j h));
     };
   }
     where
       size : length a ≡ length l
-      size = ap length e ∙ length-blocks (recordSize (side d)) l headerSize (λ (j : ℕ). recordWords (side d) 0 (B j)) n
+      size = ap length e ∙ length-blocks (recordSize (channels d)) l headerSize (λ (j : ℕ). recordWords (channels d) 0 (B j .store) (S j)) n
 
 -- ---- two ways to give the same blocks
 pub channel-same : (d m n : ℕ) (B C : ℕ → Block) → ((j : ℕ) → j < n → B j .store ≡ C j .store) → ((j k : ℕ) → j < n → k < side d * side d → B j .entry k ≡ C j .entry k)
     → channelWords d m n B ≡ channelWords d m n C
 channel-same d m n B C e f =
-    λ i. (pos d ∷ pos m ∷ pos n ∷ pos (link (side d) (least-same n (λ (j : ℕ). B j .store) (λ (j : ℕ). C j .store) (λ (s : ℕ). true) (λ (s : ℕ). true) e refl i)) ∷ [])
-    ++ joined-same n (λ (j : ℕ). recordWords (side d) (next d m n B j) (B j)) (λ (j : ℕ). recordWords (side d) (next d m n C j) (C j)) one i
+    λ i. (pos d ∷ pos m ∷ pos n ∷ pos (link (channels d) (least-same n (λ (j : ℕ). B j .store) (λ (j : ℕ). C j .store) (λ (s : ℕ). true) (λ (s : ℕ). true) e refl i)) ∷ [])
+    ++ joined-same n (recordFor B) (recordFor C) one i
   where
-    one : (j : ℕ) → j < n → recordWords (side d) (next d m n B j) (B j) ≡ recordWords (side d) (next d m n C j) (C j)
+    form : (ℕ → Block) → ℕ → Shared
+    form A j = shared (entries (channels d)) (A j .entry)
+
+    recordFor : (ℕ → Block) → ℕ → List ℤ
+    recordFor A j = recordWords (channels d) (next (channels d) d m n A j) (A j .store) (form A j)
+
+    alike : (j : ℕ) → j < n → Alike (entries (channels d)) (form B j) (form C j)
+    alike j h = shared-same (entries (channels d)) (B j .entry) (C j .entry) (λ k q. f j k h q)
+
+    one : (j : ℕ) → j < n → recordFor B j ≡ recordFor C j
     one j h = λ i.
-        pos (link (side d) (least-same n (λ (j : ℕ). B j .store) (λ (j : ℕ). C j .store) (before (B j .store)) (before (C j .store)) e (ap before (e j h)) i))
-        ∷ pos (e j h i % 2 ^ 32) ∷ pos (e j h i / 2 ^ 32) ∷ cells-same (side d * side d) (B j .entry) (C j .entry) (λ k q. f j k h q) i
+        pos (link (channels d) (least-same n (λ (j : ℕ). B j .store) (λ (j : ℕ). C j .store) (before (B j .store)) (before (C j .store)) e (ap before (e j h)) i))
+        ∷ pos (e j h i % 2 ^ 32) ∷ pos (e j h i / 2 ^ 32) ∷ pos (alike j h .exp i) ∷ block-same (channels d) (form B j .num) (form C j .num) (alike j h .num) i

@@ -1,4 +1,3 @@
 -- What inner functions ask and proofs need.
-pub mod Overlap
 pub mod Bank
 pub mod Links

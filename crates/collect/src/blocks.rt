@@ -1,18 +1,27 @@
-// The block of one store.
+// The block of one store: integer products over one power of two, summed on and above the diagonal, mirrored, and brought to their shared form at once.
 use super::bank::branch_store;
 use super::bank::find_branch;
-use super::overlaps::add_overlaps;
-use super::overlaps::write_overlaps;
 use cells::CELL;
+use channel::layout::ENTRY;
+use matrix::words::clear;
+use overlaps::add_upper;
+use overlaps::mirror;
+use share::share;
 ghost use mathlib.Core.Path.{_≡_};
-ghost use mathlib.Core.Bool.{true};
-ghost use Prim.Native.Nat.{_+_, _*_, _/_, _%_, _<_, _≤_};
+ghost use mathlib.Core.List.{_∷_};
+ghost use Prim.Native.Nat.{_+_, _*_, _<_, _≤_};
 ghost use lib.ListN.{length};
-ghost use Rattle.cells.specs.Cells.{cellSize, fill};
-ghost use Rattle.collect.specs.Inner.Bank.{storeOf, starts, overlaps, Bank};
+ghost use lib.Seq.{sets};
+ghost use lib.IntN.{pos};
+ghost use Rattle.channel.specs.Layout.{channels, blockWords};
+ghost use Rattle.share.specs.Share.{withNumerators};
+ghost use Rattle.collect.specs.Inner.Bank.{storeOf, upper, sharedOf, Bank};
 
-// Write the block of the store of branch b, the first to survive with it, of a bank of `count` branches, to `out` on.
-pub fn write_block(
+// The largest power of two that a factor is over: all factors are brought over it.
+const SCALE: u32 = 29;
+
+// Write the sums of the store of branch b over a bank of `count` branches to `out` on, on and above the diagonal of its block, and zeros below it.
+fn sum_block(
     result: &mut [i64],
     out: usize,
     work: &[i64],
@@ -21,17 +30,37 @@ pub fn write_block(
     count: usize,
     b: usize,
 )
-    requires { ⌜ (b < count) × ((starts (now work) at d b ≡ true) × ((out + d * d * (d * d) * cellSize ≤ length (now result)) × Bank (now work) at d count)) ⌝ }
-    ensures { λ _. ⌜ now (result .exit) ≡ fill (now (result .entry)) out (d * d * (d * d)) (λ k. overlaps (now (work .entry)) at d count (storeOf (now (work .entry)) at d b) (k / (d * d)) (k % (d * d))) ⌝ }
+    requires { ⌜ (b < count) × ((out + d * d * (d * d) * 4 ≤ length (now result)) × Bank (now work) at d count) ⌝ }
+    ensures { λ _. ⌜ now (result .exit) ≡ withNumerators (now (result .entry)) out (d * d * (d * d)) (upper (now (work .entry)) at d count (storeOf (now (work .entry)) at d b)) ⌝ }
 {
     let store = branch_store(work, at, d, b);
     let w = d * d;
-    let p = at + b * (w * CELL + 2);
-    write_overlaps(result, out, work, p, w);
-    let mut j = find_branch(work, at, d, b + 1, count, store);
+    clear(result, out, w * w * ENTRY);
+    let mut j = find_branch(work, at, d, 0, count, store);
     while j < count {
         let q = at + j * (w * CELL + 2);
-        add_overlaps(result, out, work, q, w);
+        add_upper(result, out, work, q, w, SCALE);
         j = find_branch(work, at, d, j + 1, count, store);
     }
+}
+
+// Write the exponent and then the numerators of the block of the store of branch b of a bank of `count` branches to `to` on.
+pub fn write_block(
+    result: &mut [i64],
+    to: usize,
+    work: &[i64],
+    at: usize,
+    d: usize,
+    count: usize,
+    b: usize,
+)
+    requires { ⌜ (b < count) × ((to + 1 + d * d * (d * d) * 4 ≤ length (now result)) × Bank (now work) at d count) ⌝ }
+    ensures { λ _. ⌜ now (result .exit) ≡ sets (now (result .entry)) to (pos (sharedOf (now (work .entry)) at d count (storeOf (now (work .entry)) at d b) .exp) ∷ blockWords (channels d) (sharedOf (now (work .entry)) at d count (storeOf (now (work .entry)) at d b) .num)) ⌝ }
+{
+    let out = to + 1;
+    let w = d * d;
+    sum_block(result, out, work, at, d, count, b);
+    mirror(result, out, w);
+    let e = share(result, out, w * w, SCALE + SCALE);
+    result[to] = e as i64;
 }

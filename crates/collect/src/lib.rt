@@ -2,7 +2,6 @@
 pub mod bank;
 pub mod blocks;
 pub mod links;
-pub mod overlaps;
 pub mod records;
 
 use links::link_records;

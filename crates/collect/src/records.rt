@@ -3,18 +3,18 @@ use super::bank::is_alive;
 use super::bank::is_first;
 use super::blocks::write_block;
 use cells::CELL;
+use channel::layout::EXPONENT;
 use channel::layout::HEADER;
-use channel::layout::RECORD_HEAD;
 use channel::layout::record_size;
 ghost use mathlib.Core.Path.{_≡_};
-ghost use mathlib.Core.Bool.{true, cond};
+ghost use mathlib.Core.Bool.{cond};
 ghost use Prim.Native.Nat.{_+_, _*_, _<_, _≤_};
 ghost use lib.ListN.{length};
 ghost use lib.Seq.{sets};
-ghost use Rattle.channel.specs.Layout.{headerSize, recordSize, side};
+ghost use Rattle.channel.specs.Layout.{headerSize, recordSize, channels};
 ghost use Rattle.collect.specs.Inner.Bank.{storeOf, starts, storesOf, recordOf, recorded, recordedBranch, Bank, Begun};
 
-// Write the record of the store of branch b, the first to survive with it, of a bank of `count` branches, to `to` on, as the last of a chain.
+// Write the record of the store of branch b of a bank of `count` branches, to `to` on, as the last of a chain.
 fn write_record(
     result: &mut [i64],
     to: usize,
@@ -24,7 +24,7 @@ fn write_record(
     count: usize,
     b: usize,
 )
-    requires { ⌜ (b < count) × ((starts (now work) at d b ≡ true) × ((to + recordSize (side d) ≤ length (now result)) × Bank (now work) at d count)) ⌝ }
+    requires { ⌜ (b < count) × ((to + recordSize (channels d) ≤ length (now result)) × Bank (now work) at d count) ⌝ }
     ensures { λ _. ⌜ now (result .exit) ≡ sets (now (result .entry)) to (recordOf (now (work .entry)) at d count (storeOf (now (work .entry)) at d b)) ⌝ }
 {
     let n = d * d * CELL;
@@ -34,7 +34,7 @@ fn write_record(
     result[to] = 0;
     result[to + 1] = low;
     result[to + 2] = high;
-    write_block(result, to + RECORD_HEAD, work, at, d, count, b);
+    write_block(result, to + EXPONENT, work, at, d, count, b);
 }
 
 // Write record n for branch b if it is the first to survive with its store; how many records there are then.
@@ -63,7 +63,7 @@ fn collect_branch(
 
 // Write a record for each store of a bank of `count` branches, end to end; how many there are.
 pub fn collect(result: &mut [i64], work: &[i64], at: usize, d: usize, count: usize) -> usize
-    requires { ⌜ Bank (now work) at d count × (headerSize + length (storesOf (now work) at d count) * recordSize (side d) ≤ length (now result)) ⌝ }
+    requires { ⌜ Bank (now work) at d count × (headerSize + length (storesOf (now work) at d count) * recordSize (channels d) ≤ length (now result)) ⌝ }
     ensures { λ r. ⌜ (r ≡ length (storesOf (now (work .entry)) at d count)) × (now (result .exit) ≡ recorded (now (result .entry)) (now (work .entry)) at d count) ⌝ }
 {
     let mut n = 0;

@@ -15,7 +15,7 @@ use Rattle.algebra.specs.Lists.{All, every, total, marks}
 use Rattle.algebra.proofs.Tests.{and-split, exhaust, holds-true}
 use Rattle.algebra.proofs.Totals.{sub-whole, sub-filter}
 use Rattle.exact.specs.Exact as scalar
-use Rattle.cells.specs.Cells.{cellSize}
+use Rattle.exact.specs.Inner.Sizes.{roomExponent}
 use Rattle.gate.specs.declared.judge.Asking.the-variants.{Channel}
 use Rattle.gate.specs.Gate.{Gate, gateSize, gatesOf, splits, weight, maxWeight}
 use Rattle.gate.specs.Inner.Entries.{valid}
@@ -23,7 +23,7 @@ use Rattle.gate.proofs.Bits.{Word}
 use Rattle.kraus.specs.Branch.{Store, Branch, branches}
 use Rattle.kraus.specs.Blocks.{alive, survivors, stores, block}
 use Rattle.kraus.proofs.Counting.{stores-bits, store-count}
-use Rattle.kraus.proofs.Limits.{Enough, krausExponent, circuit-enough, block-fits}
+use Rattle.kraus.proofs.Limits.{Fitting, Enough, krausExponent, circuit-enough, block-fits}
 use Rattle.circuit.specs.declared.limits.Limits.{Limits}
 use Rattle.circuit.specs.declared.footprint.Footprint.{Footprint}
 use Rattle.circuit.specs.declared.sizes.Sizes.{Sizes}
@@ -35,7 +35,7 @@ use Rattle.store.proofs.Bytes.{fits-word}
 use Rattle.circuit.specs.Questions.{gatesQuestions, sizesOf, withinLimits, roomFor, numberQuestions, channelQuestions}
 use Rattle.circuit.specs.Inner.Small.{maxQubits, maxBranches}
 use Rattle.circuit.proofs.Products.{fourth-is}
-use Rattle.channel.specs.Layout.{side, recordSize}
+use Rattle.channel.specs.Layout.{channels, side, headerSize, recordSize}
 use Rattle.channel.specs.WellFormed as wf
 use Rattle.collect.specs.Delivered.{blockNo}
 use Rattle.judge.specs.Delivered.{circuitWords}
@@ -129,12 +129,14 @@ module _ {n m : ℕ} {σ : List ℕ} {gs : List Gate} {result work : ℕ} (s : S
   pub enough : (k : ℕ) → Enough krausExponent n (branches n σ (take k gs))
   enough = circuit-enough n m σ gs (s .valid-gates) (s .light)
 
-  pub block-fine : (τ : Store) (i j : ℕ) → i < side (2 ^ n) → j < side (2 ^ n) → scalar.wellFormed (block (survivors (branches n σ gs)) τ i j) ≡ true
-  block-fine τ i j p q = block-fits (subst (λ (hs : List Gate). Enough krausExponent n (branches n σ hs)) (take-length gs) (enough (length gs)))
-      (sub-filter alive (sub-whole (branches n σ gs))) τ i j p q .well-formed
+  block-fit : (τ : Store) (i j : ℕ) → i < side (2 ^ n) → j < side (2 ^ n) → Fitting roomExponent (block (survivors (branches n σ gs)) τ i j)
+  block-fit = block-fits (subst (λ (hs : List Gate). Enough krausExponent n (branches n σ hs)) (take-length gs) (enough (length gs))) (sub-filter alive (sub-whole (branches n σ gs)))
 
-  entry-fine : (j k : ℕ) → j < count → k < side d * side d → scalar.wellFormed (blockNo d bs j .entry k) ≡ true
-  entry-fine j k p q = block-fine (getD (stores bs) j []) (k / side d) (k % side d) (div-lt-iff-lt-mul some .1 q) (mod-lt k some)
+  pub block-fine : (τ : Store) (i j : ℕ) → i < side (2 ^ n) → j < side (2 ^ n) → scalar.wellFormed (block (survivors (branches n σ gs)) τ i j) ≡ true
+  block-fine τ i j p q = block-fit τ i j p q .well-formed
+
+  entry-fit : (j k : ℕ) → j < count → k < side d * side d → Fitting roomExponent (blockNo d bs j .entry k)
+  entry-fit j k p q = block-fit (getD (stores bs) j []) (k / side d) (k % side d) (div-lt-iff-lt-mul some .1 q) (mod-lt k some)
     where
       some : 0 < side d
       some = mul-le-mul (pow-pos n) (pow-pos n)
@@ -145,20 +147,20 @@ module _ {n m : ℕ} {σ : List ℕ} {gs : List Gate} {result work : ℕ} (s : S
   dims : wf.isDim (pos (2 ^ n)) ≡ true
   dims = holds-true (exhaust (λ (k : ℕ). wf.isDim (pos (2 ^ k))) 5 tt n (omega (arith, s .qubit-count)))
 
-  pub writable : Writable (2 ^ n) m (length (stores (survivors (branches n σ gs)))) (blockNo (2 ^ n) (survivors (branches n σ gs)))
-  writable = blocks-writable d m bs dims (s .bit-count) store-words entry-fine
+  pub writable : Writable (channels (2 ^ n)) (2 ^ n) m (length (stores (survivors (branches n σ gs)))) (blockNo (2 ^ n) (survivors (branches n σ gs)))
+  writable = blocks-writable d m bs dims (s .bit-count) store-words entry-fit
+
+  pub channel-long : length (circuitWords n m σ gs) ≡ headerSize + length (stores (survivors (branches n σ gs))) * recordSize (channels (2 ^ n))
+  channel-long = let e = length-written (channels d) d m count (blockNo d bs) [] in omega (arith, length-append (circuitWords n m σ gs) [])
 
   -- the whole of it fits the result
   pub channel-room : length (circuitWords n m σ gs) ≤ result
   channel-room =
       let few : count ≤ 2 ^ min (total splits gs) (marks m writes gs) = subst (λ (k : ℕ). count ≤ 2 ^ min (total splits gs) (marks k writes gs)) (s .byte-count) (store-count n σ gs (s .bytes)) in
-      by (2 ^ n) count (2 ^ min (total splits gs) (marks m writes gs)) (circuitWords n m σ gs) few long (s .room)
+      by (2 ^ n) count (2 ^ min (total splits gs) (marks m writes gs)) (circuitWords n m σ gs) few channel-long (s .room)
     where
-      long : length (circuitWords n m σ gs) ≡ 4 + count * recordSize (side d)
-      long = let e = length-written d m count (blockNo d bs) [] in omega (arith, length-append (circuitWords n m σ gs) [])
-
-      by : (d c v : ℕ) (ws : List ℤ) → c ≤ v → length ws ≡ 4 + c * recordSize (side d) → resultWords v d ≤ result → length ws ≤ result
+      by : (d c v : ℕ) (ws : List ℤ) → c ≤ v → length ws ≡ headerSize + c * recordSize (channels d) → resultWords v d ≤ result → length ws ≤ result
       by d c v ws h e r =
-          let f : recordSize (side d) ≡ 3 + cellSize * d ^ 4 = omega (arith, fourth-is d, mul-assoc (d * d) d d) in
-          let g : c * recordSize (side d) ≤ v * (3 + cellSize * d ^ 4) = subst (λ (x : ℕ). c * recordSize (side d) ≤ v * x) f (mul-le-mul h (le-refl (recordSize (side d)))) in
+          let f : recordSize (channels d) ≡ 4 + 4 * d ^ 4 = omega (arith, fourth-is d, mul-assoc (d * d) d d) in
+          let g : c * recordSize (channels d) ≤ v * (4 + 4 * d ^ 4) = subst (λ (x : ℕ). c * recordSize (channels d) ≤ v * x) f (mul-le-mul h (le-refl (recordSize (channels d)))) in
           omega arith

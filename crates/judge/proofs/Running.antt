@@ -24,12 +24,11 @@ use Rattle.circuit.specs.Sizes.{workWords}
 use Rattle.circuit.specs.Inner.Small.{maxSplits, maxBranches}
 use Rattle.circuit.proofs.Products.{square-is}
 use Rattle.collect.specs.Inner.Bank.{bankIn, Deliverable}
-use Rattle.collect.specs.Delivered.{blockNo, branchesWords, overwritten}
+use Rattle.collect.specs.Delivered.{branchesWords, overwritten}
 use Rattle.collect.proofs.Held.{Held, circuit-held, bank-is, deliverable}
 use Rattle.judge.specs.Delivered.{circuitWords}
 use Rattle.judge.specs.Call.{accepts, resultAfter, workAfter}
-use Rattle.judge.proofs.Accepted.{Sound, sound, channel-room}
-use Rattle.channel.proofs.Written.{length-channel}
+use Rattle.judge.proofs.Accepted.{Sound, sound, channel-long, channel-room}
 use Rattle.judge.specs.Inner.Accepted.{Accepted}
 
 -- ---- zeros at the start of a buffer
@@ -116,7 +115,7 @@ module _ {n m : ℕ} {σ : List ℕ} {ws : List ℕ} {r w : List ℤ} (a : Accep
 
       pub delivers : Deliverable r b at d m k
       delivers = subst₂ (λ (d k : ℕ). Deliverable r b at d m k) (sym e) (ran .counted)
-          (deliverable held r (subst (λ (x : ℕ). x ≤ length r) (length-channel (2 ^ n) m (length (stores (survivors bs))) (blockNo (2 ^ n) (survivors bs)) []) (channel-room known)))
+          (deliverable held r (subst (λ (x : ℕ). x ≤ length r) (channel-long known) (channel-room known)))
 
       pub delivered : {q : List ℤ} → q ≡ overwritten (branchesWords d m (survivors (bankIn b at d m k))) r → q ≡ overwritten (circuitWords n m σ (gatesOf ws)) r
       delivered h =

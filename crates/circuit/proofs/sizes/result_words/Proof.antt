@@ -3,7 +3,6 @@ use Prim.Native.Nat.{_+_, _*_, _≤_}
 use native.Mathlib.Nat.{mul-le-mul}
 use native.Mathlib.Omega.{arith}
 use borrow.Author.Needs.{needs}
-use Rattle.cells.specs.Cells.{cellSize}
 use Rattle.circuit.proofs.sizes.result_words.Statement.{statement}
 use Rattle.circuit.proofs.sizes.result_words.Tie as tie
 
@@ -17,10 +16,10 @@ add-result : tie.Need-add-result
 add-result c = search needs
 
 mul-result-2 : tie.Need-mul-result-2
-mul-result-2 c = let h : 3 + cellSize * c .fourth .result ≤ 5242883 = omega arith in omega (arith, mul-le-mul (c .before .pre .0) h)
+mul-result-2 c = let h : 4 + 4 * c .fourth .result ≤ 4194308 = omega arith in omega (arith, mul-le-mul (c .before .pre .0) h)
 
 add-result-2 : tie.Need-add-result-2
-add-result-2 c = let h : 3 + cellSize * c .fourth .result ≤ 5242883 = omega arith in omega (arith, mul-le-mul (c .before .pre .0) h)
+add-result-2 c = let h : 4 + 4 * c .fourth .result ≤ 4194308 = omega arith in omega (arith, mul-le-mul (c .before .pre .0) h)
 
 returns : tie.Need-returns
 returns c = simp (c .fourth .ensures .0)

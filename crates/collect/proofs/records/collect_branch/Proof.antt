@@ -7,8 +7,7 @@ use lib.ListN.{length}
 use lib.Seq.{sets}
 use borrow.Author.Tests.{not-true, not-false}
 use Rattle.algebra.proofs.Tests.{and-no}
-use Rattle.cells.specs.Cells.{cellSize}
-use Rattle.channel.specs.Layout.{recordHead, headerSize, recordSize, side}
+use Rattle.channel.specs.Layout.{recordHead, headerSize, recordSize, channels, side}
 use Rattle.channel.proofs.Words.{square-small}
 use Rattle.collect.specs.Inner.Bank.{storeOf, survives, isFirst, starts, recordOf}
 use Rattle.collect.proofs.Summing.{bank-branch}
@@ -24,21 +23,21 @@ module _ (c : tie.Else2) where
   is-start : starts (start .args .work .now) (start .args .at) (start .args .d) (start .args .b) ≡ true
   is-start = λ i. (sym (c .before .before .before .is-alive .ensures) ∙ not-false _ (c .before .before .if1 .left)) i && (sym (c .before .is-first .ensures) ∙ not-false _ (c .if2 .left)) i
 
-  inside : headerSize + start .args .n * recordSize (side (start .args .d)) + recordSize (side (start .args .d)) ≤ length (start .args .result .now)
+  inside : headerSize + start .args .n * recordSize (channels (start .args .d)) + recordSize (channels (start .args .d)) ≤ length (start .args .result .now)
   inside = record-room (start .pre) is-start
 
   square : start .args .d * start .args .d ≤ 256
   square = square-small (start .args .d) (start .pre .bank .dim)
 
-  n-small : start .args .n ≤ start .args .n * recordSize (side (start .args .d))
+  n-small : start .args .n ≤ start .args .n * recordSize (channels (start .args .d))
   n-small = grows (start .args .n) (side (start .args .d) * side (start .args .d))
     where
-      grows : (n k : ℕ) → n ≤ n * (recordHead + k * cellSize)
+      grows : (n k : ℕ) → n ≤ n * (recordHead + k * 4)
       grows n k = omega arith
 
 -- the record's place
 module _ (c : tie.After-record-size) where
-  place : start (c .before) .args .n * c .record-size .result ≡ start (c .before) .args .n * recordSize (side (start (c .before) .args .d))
+  place : start (c .before) .args .n * c .record-size .result ≡ start (c .before) .args .n * recordSize (channels (start (c .before) .args .d))
   place = ap (λ (k : ℕ). start (c .before) .args .n * k) (c .record-size .ensures)
 
 is-alive-requires : tie.Need-is-alive-requires
@@ -77,7 +76,7 @@ write-record-requires : tie.Need-write-record-requires
 write-record-requires c κs =
     let r = c .before in
     let s = start (r .before) in
-    (s .pre .branch, (is-start (r .before), (omega (arith, inside (r .before), place r), s .pre .bank)))
+    (s .pre .branch, (omega (arith, inside (r .before), place r), s .pre .bank))
 
 add-result : tie.Need-add-result
 add-result c =

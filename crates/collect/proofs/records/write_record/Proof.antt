@@ -1,12 +1,14 @@
 -- `collect::records::write_record` meets its contract.
 use mathlib.Core.Path.{ap, _∙_}
-use Prim.Native.Nat.{ℕ, _+_, _*_, _/_, _%_}
+use mathlib.Core.List.{List, _∷_}
+use Prim.Native.Nat.{ℕ, _+_, _*_}
 use native.Mathlib.Omega.{arith}
 use lib.ListN.{length, length-set}
-use Rattle.algebra.proofs.Blocks.{length-blocks}
+use lib.Seq.{length-sets}
+use lib.IntN.{pos}
 use Rattle.algebra.proofs.Signed.{reads}
-use Rattle.channel.specs.Layout.{word, side}
-use Rattle.collect.specs.Inner.Bank.{storePlace, storeOf, overlaps, Branch}
+use Rattle.channel.specs.Layout.{word, channels, blockWords}
+use Rattle.collect.specs.Inner.Bank.{storePlace, storeOf, sharedOf, Branch}
 use Rattle.collect.proofs.Summing.{bank-branch}
 use Rattle.collect.proofs.Recording.{record-written}
 use borrow.Author.Needs.{needs}
@@ -14,7 +16,7 @@ use Rattle.collect.proofs.records.write_record.Statement.{statement}
 use Rattle.collect.proofs.records.write_record.Tie as tie
 
 branch : (s : tie.Start) → Branch (s .args .work .now) (s .args .at) (s .args .d) (s .args .b)
-branch s = bank-branch (s .pre .1 .1 .1) (s .args .b) (s .pre .0)
+branch s = bank-branch (s .pre .1 .1) (s .args .b) (s .pre .0)
 
 mul-n : tie.Need-mul-n
 mul-n c = omega (arith, branch c .room)
@@ -62,7 +64,7 @@ mul-low-2 : tie.Need-mul-low-2
 mul-low-2 c = search needs
 
 slice-set-from-low : tie.Need-slice-set-from-low
-slice-set-from-low c = simp length-set (omega (arith, c .before .before .pre .1 .1 .0))
+slice-set-from-low c = simp length-set (omega (arith, c .before .before .pre .1 .0))
 
 add-high-2 : tie.Need-add-high-2
 add-high-2 c = search needs
@@ -71,7 +73,7 @@ mul-high-2 : tie.Need-mul-high-2
 mul-high-2 c = search needs
 
 slice-set-from-high : tie.Need-slice-set-from-high
-slice-set-from-high c = simp length-set (omega (arith, c .before .before .pre .1 .1 .0))
+slice-set-from-high c = simp length-set (omega (arith, c .before .before .pre .1 .0))
 
 add-write-block : tie.Need-add-write-block
 add-write-block c = search needs
@@ -79,10 +81,10 @@ add-write-block c = search needs
 write-block-requires : tie.Need-write-block-requires
 write-block-requires c κs =
     let s = c .before .before .before in
-    (s .pre .0, (s .pre .1 .0, (simp length-set (omega (arith, s .pre .1 .1 .0)), s .pre .1 .1 .1)))
+    (s .pre .0, (simp length-set (omega (arith, s .pre .1 .0)), s .pre .1 .1))
 
 same-length : tie.Need-same-length
-same-length c = ap length (c .before .write-block .ensures) ∙ simp (length-blocks, length-set)
+same-length c = ap length (c .before .write-block .ensures) ∙ simp (length-sets, length-set)
 
 returns : tie.Need-returns
 returns c =
@@ -91,8 +93,8 @@ returns c =
     let s = h .before .before in
     let n = s .args in
     let p = storePlace (n .at) (n .d) (n .b) in
-    record-written (n .result .now) (n .to) (branch s .store) (side (n .d) * side (n .d))
-    (λ (k : ℕ). overlaps (n .work .now) (n .at) (n .d) (n .count) (storeOf (n .work .now) (n .at) (n .d) (n .b)) (k / side (n .d)) (k % side (n .d)))
+    let b = sharedOf (n .work .now) (n .at) (n .d) (n .count) (storeOf (n .work .now) (n .at) (n .d) (n .b)) in
+    record-written (n .result .now) (n .to) (branch s .store) (pos (b .exp) ∷ blockWords (channels (n .d)) (b .num))
     (reads (word (n .work .now) p) (h .before .low .given)) (reads (word (n .work .now) (p + 1)) (h .high .given)) (w .write-block .ensures)
 
 pub write-record-spec : {M : Type 1} → statement M
