@@ -86,7 +86,7 @@ pub fn povm_effects(channel: &[i64], result: &mut [i64]) -> u32
     answer.number()
 }
 
-// The index of the first entry of a store's block, or 0 where there is none.
+// The index of a store's block, its exponent and then its numerators, or 0 where there is none.
 pub fn lookup(channel: &[i64], store: &[u8]) -> usize
     ensures { λ r. ⌜ r ≡ spanOf (now (channel .entry)) (lookupOf (now (channel .entry)) (now (store .entry))) .start ⌝ }
 {
