@@ -3,16 +3,16 @@ use mathlib.Core.Path.{_≡_, refl, sym, _∙_, subst}
 use mathlib.Core.Bool.{Bool, true, false, _&&_}
 use mathlib.Core.List.{List, []}
 use Prim.Native.Nat.{ℕ, _+_, _*_, _/_, _%_, _^_, _<_, _≤_, min}
-use native.Mathlib.Nat.{mod-lt, div-lt-iff-lt-mul, mul-assoc, mul-le-mul, le-refl}
+use native.Mathlib.Nat.{mul-assoc, mul-le-mul, le-refl}
 use native.Mathlib.Omega.{arith}
 use lib.Dec.{eqb, leb}
 use lib.Pow.{pow-pos}
-use lib.ListN.{length, getD, take, length-append}
+use lib.ListN.{length, take}
 use lib.Seq.{take-length}
-use lib.IntN.{ℤ, pos}
+use lib.IntN.{ℤ}
 use borrow.Author.Tests.{leb-true, leb-false}
 use Rattle.algebra.specs.Lists.{All, every, total, marks}
-use Rattle.algebra.proofs.Tests.{and-split, exhaust, holds-true}
+use Rattle.algebra.proofs.Tests.{and-split}
 use Rattle.algebra.proofs.Totals.{sub-whole, sub-filter}
 use Rattle.exact.specs.Exact as scalar
 use Rattle.cells.specs.Cells.{cellSize}
@@ -36,15 +36,14 @@ use Rattle.circuit.specs.Questions.{gatesQuestions, sizesOf, withinLimits, room
 use Rattle.circuit.specs.Inner.Small.{maxQubits, maxBranches}
 use Rattle.circuit.proofs.Products.{fourth-is}
 use Rattle.channel.specs.Layout.{side, recordSize}
-use Rattle.channel.specs.WellFormed as wf
-use Rattle.collect.specs.Delivered.{blockNo}
+use Rattle.collect.specs.Delivered.{blockNo, branchesWords}
 use Rattle.judge.specs.Delivered.{circuitWords}
 use Rattle.judge.specs.Call.{accepts}
 use Rattle.circuit.proofs.Answers.{gates-valid, channel-accepts}
 use Rattle.verdict.proofs.Questions.{yes, every-append}
 use Rattle.channel.specs.Claims.{Writable}
-use Rattle.channel.proofs.Written.{length-written}
-use Rattle.judge.proofs.Writable.{blocks-writable}
+use Rattle.channel.proofs.Written.{length-channel}
+use Rattle.judge.proofs.Writable.{survivors-writable}
 
 -- ---- what the questions found
 pub record Sound (n m : ℕ) (σ : List ℕ) (gs : List Gate) (result work : ℕ) : Type 0 where
@@ -59,7 +58,7 @@ pub record Sound (n m : ℕ) (σ : List ℕ) (gs : List Gate) (result work : ℕ
   pub workRoom : workWords (2 ^ total splits gs) (2 ^ n) ≤ work
 
 -- four qubits at most: one block of five does not fit the ceiling on cells
-four : (n v x c : ℕ) → n ≤ maxQubits → 0 < v → v * (2 ^ n) ^ 4 + x ≤ c → c ≤ ceilings .«max_matrix_cells» → n ≤ 4
+pub four : (n v x c : ℕ) → n ≤ maxQubits → 0 < v → v * (2 ^ n) ^ 4 + x ≤ c → c ≤ ceilings .«max_matrix_cells» → n ≤ 4
 four n v x c h p q r = go (leb n 4) refl
   where
     go : (b : Bool) → leb n 4 ≡ b → n ≤ 4
@@ -115,6 +114,15 @@ module _ (n m : ℕ) (σ : List ℕ) (l : Limits) (ws : List ℕ) (r w : List �
         workRoom = leb-true _ _ (room .1);
       }
 
+-- ---- a channel of at most v stores fits words that are counted for v
+pub words-room : (d m : ℕ) (bs : List Branch) {v result : ℕ} → length (stores bs) ≤ v → resultWords v d ≤ result → length (branchesWords d m bs) ≤ result
+words-room d m bs {v} {result} h r =
+    let c : ℕ = length (stores bs) in
+    let e : length (branchesWords d m bs) ≡ 4 + c * recordSize (side d) = length-channel d m c (blockNo d bs) [] in
+    let f : recordSize (side d) ≡ 3 + cellSize * d ^ 4 = omega (arith, fourth-is d, mul-assoc (d * d) d d) in
+    let g : c * recordSize (side d) ≤ v * (3 + cellSize * d ^ 4) = subst (λ (x : ℕ). c * recordSize (side d) ≤ v * x) f (mul-le-mul h (le-refl (recordSize (side d)))) in
+    omega arith
+
 -- ---- the channel of such a circuit
 module _ {n m : ℕ} {σ : List ℕ} {gs : List Gate} {result work : ℕ} (s : Sound n m σ gs result work) where
   abbrev d : ℕ
@@ -129,36 +137,21 @@ module _ {n m : ℕ} {σ : List ℕ} {gs : List Gate} {result work : ℕ} (s : S
   pub enough : (k : ℕ) → Enough krausExponent n (branches n σ (take k gs))
   enough = circuit-enough n m σ gs (s .valid-gates) (s .light)
 
-  pub block-fine : (τ : Store) (i j : ℕ) → i < side (2 ^ n) → j < side (2 ^ n) → scalar.wellFormed (block (survivors (branches n σ gs)) τ i j) ≡ true
-  block-fine τ i j p q = block-fits (subst (λ (hs : List Gate). Enough krausExponent n (branches n σ hs)) (take-length gs) (enough (length gs)))
-      (sub-filter alive (sub-whole (branches n σ gs))) τ i j p q .well-formed
+  pub enough-all : Enough krausExponent n (branches n σ gs)
+  enough-all = subst (λ (hs : List Gate). Enough krausExponent n (branches n σ hs)) (take-length gs) (enough (length gs))
 
-  entry-fine : (j k : ℕ) → j < count → k < side d * side d → scalar.wellFormed (blockNo d bs j .entry k) ≡ true
-  entry-fine j k p q = block-fine (getD (stores bs) j []) (k / side d) (k % side d) (div-lt-iff-lt-mul some .1 q) (mod-lt k some)
-    where
-      some : 0 < side d
-      some = mul-le-mul (pow-pos n) (pow-pos n)
+  pub block-fine : (τ : Store) (i j : ℕ) → i < side (2 ^ n) → j < side (2 ^ n) → scalar.wellFormed (block (survivors (branches n σ gs)) τ i j) ≡ true
+  block-fine τ i j p q = block-fits enough-all (sub-filter alive (sub-whole (branches n σ gs))) τ i j p q .well-formed
 
   pub store-words : All (Word m) (stores (survivors (branches n σ gs)))
   store-words = subst (λ (k : ℕ). All (Word k) (stores bs)) (s .byte-count) (stores-bits n σ gs (s .bytes))
 
-  dims : wf.isDim (pos (2 ^ n)) ≡ true
-  dims = holds-true (exhaust (λ (k : ℕ). wf.isDim (pos (2 ^ k))) 5 tt n (omega (arith, s .qubit-count)))
-
   pub writable : Writable (2 ^ n) m (length (stores (survivors (branches n σ gs)))) (blockNo (2 ^ n) (survivors (branches n σ gs)))
-  writable = blocks-writable d m bs dims (s .bit-count) store-words entry-fine
+  writable = survivors-writable (s .qubit-count) (s .bit-count) enough-all store-words
 
   -- the whole of it fits the result
   pub channel-room : length (circuitWords n m σ gs) ≤ result
-  channel-room =
-      let few : count ≤ 2 ^ min (total splits gs) (marks m writes gs) = subst (λ (k : ℕ). count ≤ 2 ^ min (total splits gs) (marks k writes gs)) (s .byte-count) (store-count n σ gs (s .bytes)) in
-      by (2 ^ n) count (2 ^ min (total splits gs) (marks m writes gs)) (circuitWords n m σ gs) few long (s .room)
+  channel-room = words-room d m bs few (s .room)
     where
-      long : length (circuitWords n m σ gs) ≡ 4 + count * recordSize (side d)
-      long = let e = length-written d m count (blockNo d bs) [] in omega (arith, length-append (circuitWords n m σ gs) [])
-
-      by : (d c v : ℕ) (ws : List ℤ) → c ≤ v → length ws ≡ 4 + c * recordSize (side d) → resultWords v d ≤ result → length ws ≤ result
-      by d c v ws h e r =
-          let f : recordSize (side d) ≡ 3 + cellSize * d ^ 4 = omega (arith, fourth-is d, mul-assoc (d * d) d d) in
-          let g : c * recordSize (side d) ≤ v * (3 + cellSize * d ^ 4) = subst (λ (x : ℕ). c * recordSize (side d) ≤ v * x) f (mul-le-mul h (le-refl (recordSize (side d)))) in
-          omega arith
+      few : count ≤ 2 ^ min (total splits gs) (marks m writes gs)
+      few = subst (λ (k : ℕ). count ≤ 2 ^ min (total splits gs) (marks k writes gs)) (s .byte-count) (store-count n σ gs (s .bytes))

@@ -51,7 +51,7 @@ zeroed-is k l h =
     blocks-parts 1 (λ (i : ℕ). pos 0 ∷ []) (λ i. refl) l 0 k (omega arith) ∙ (λ i. zeros-joined k i ++ drop (e i) l)
 
 -- so many splits make the largest number of branches
-at-most : (s : ℕ) → 2 ^ s ≤ maxBranches → s ≤ maxSplits
+pub at-most : (s : ℕ) → 2 ^ s ≤ maxBranches → s ≤ maxSplits
 at-most s h = go (decLt maxSplits s)
   where
     go : Dec (maxSplits < s) → s ≤ maxSplits
@@ -140,10 +140,10 @@ module _ {n m : ℕ} {σ : List ℕ} {ws : List ℕ} {r w : List ℤ} (a : Accep
             ∙ zeroed-is (workSize d k) w (runs .room) ∙ ap (λ (x : ℕ). zeroed x w) ((λ i. workSize (e i) (f i)) ∙ size-is (2 ^ n) B)
 
 -- ---- what a call leaves, accepted or refused
-chosen : {A : Type 0} (x y : A) {b : Bool} → b ≡ true → {q : A} → q ≡ x → q ≡ cond b x y
+pub chosen : {A : Type 0} (x y : A) {b : Bool} → b ≡ true → {q : A} → q ≡ x → q ≡ cond b x y
 chosen x y e h = h ∙ sym (ap (λ (b : Bool). cond b x y) e)
 
-unchosen : {A : Type 0} (x y : A) {b : Bool} → b ≡ false → y ≡ cond b x y
+pub unchosen : {A : Type 0} (x y : A) {b : Bool} → b ≡ false → y ≡ cond b x y
 unchosen x y e = sym (ap (λ (b : Bool). cond b x y) e)
 
 module _ (n m : ℕ) (σ : List ℕ) (l : Limits) (ws : List ℕ) (r w : List ℤ) where
