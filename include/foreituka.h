@@ -229,8 +229,15 @@ uint32_t foreituka_kept_gates(const int64_t *words, size_t count, uint32_t *gate
 uint32_t foreituka_circuit_unitary(uint32_t qubits, const uint32_t *gates, size_t gate_words, const uint64_t limits[6], int64_t *result,
                                    size_t result_words, int64_t *work, size_t work_words, uint64_t *index);
 
-/* The reply and index of pauli_channel on a Pauli program, from the lengths of its buffers alone: nothing is run, and no buffer is lent. The listed
- * nodes are judged before the operations, each with its index in its own list. Replies: 0, 1, 3 to 8, 17 to 19. */
+/* The channel of a Pauli program (docs/FORMATS.md): nodes and operations of five words each, run from the identity and delivered as circuit_channel
+ * delivers a circuit's, so that compare, lookup and the calls on effects take it. result: FOREITUKA_CHANNEL_WORDS words or more. work:
+ * FOREITUKA_PAULI_WORK_WORDS or more, which end as zero; words past both keep their contents. The listed nodes are judged before the operations, each
+ * with its index in its own list. Replies: 0, 1, 3 to 8, 17 to 19. */
+uint32_t foreituka_pauli_channel(uint32_t qubits, uint32_t bits, const uint8_t *store, size_t store_bytes, const uint32_t *nodes,
+                                 size_t node_words, const uint32_t *operations, size_t operation_words, const uint64_t limits[6],
+                                 int64_t *result, size_t result_words, int64_t *work, size_t work_words, uint64_t *index);
+
+/* The reply and index of the call above, from the lengths of its buffers alone: nothing is run, and no buffer is lent. */
 uint32_t foreituka_pauli_verdict(uint32_t qubits, uint32_t bits, const uint8_t *store, size_t store_bytes, const uint32_t *nodes,
                                  size_t node_words, const uint32_t *operations, size_t operation_words, const uint64_t limits[6],
                                  size_t result_words, size_t work_words, uint64_t *index);

@@ -40,7 +40,7 @@ use Rattle.demands.proofs.Verdicts.{Matching, same-accepts, same-fault,
 use Rattle.demands.proofs.Reading.{SameBlocks, blocks-sym, blocks-stores, blocks-at, compare-same, formed-back, read-alike}
 use Rattle.demands.proofs.Stores.{covers, stores-perm}
 use Rattle.judge.proofs.Accepted.{Sound, sound, enough, block-fine, writable, channel-room}
-use Rattle.demands.proofs.Channels.{none-zero, is-channel}
+use Rattle.demands.proofs.Channels.{circuit-source, none-zero, is-channel}
 
 -- ---- demand 1
 abbrev zeros : ℕ → List ℤ
@@ -77,7 +77,7 @@ demand1 n m σ l ws r w = record {
 pub demand2 : Demand2
 demand2 n m σ l ws r w e =
     let words : List ℤ = circuitWords n m σ (gatesOf ws) in
-    subst (IsChannel n m (survivors (branches n σ (gatesOf ws)))) (sym (result-is n m σ l ws r w e)) (is-channel (is-sound n m σ l ws r w e) (drop (length words) r))
+    subst (IsChannel n m (survivors (branches n σ (gatesOf ws)))) (sym (result-is n m σ l ws r w e)) (is-channel (circuit-source (is-sound n m σ l ws r w e)) (drop (length words) r))
 
 -- ---- demand 3
 matching : (n m : ℕ) {ws vs table : List ℕ} → ScheduleOf ws vs table → Matching n m ws vs
@@ -114,10 +114,10 @@ module _ {n m : ℕ} {σ : List ℕ} {gs hs : List Gate} {rg wg rh wh : ℕ} (s 
   alike = read-alike (writable s) (writable t) after behind (covers (2 ^ n) (perm-sym p)) (stores-perm (2 ^ n) (perm-sym p))
 
   sound-left : claims.Sound (circuitWords n m σ gs ++ after)
-  sound-left = record { right = formed-back (writable s) after; full = none-zero s after }
+  sound-left = record { right = formed-back (writable s) after; full = none-zero (circuit-source s) after }
 
   sound-right : claims.Sound (circuitWords n m σ hs ++ behind)
-  sound-right = record { right = formed-back (writable t) behind; full = none-zero t behind }
+  sound-right = record { right = formed-back (writable t) behind; full = none-zero (circuit-source t) behind }
 
   same-channel : SameChannel (circuitWords n m σ gs ++ after) (circuitWords n m σ hs ++ behind)
   same-channel = record {

@@ -10,6 +10,7 @@ pub mod Channels
 pub mod Entries
 pub mod Demands
 pub mod Probabilities
+pub mod Programs
 pub mod Layers
 pub mod Schedules
 pub mod Texts

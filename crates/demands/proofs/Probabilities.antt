@@ -8,7 +8,6 @@ use native.Mathlib.Omega.{arith}
 use lib.Arith.{digits-lt, digits-div, digits-mod}
 use lib.Pow.{pow-pos}
 use lib.ListN.{length, getD, drop}
-use lib.Seq.{take-length}
 use lib.IntN.{ℤ}
 use borrow.Author.Tests.{le-leb}
 use Rattle.algebra.specs.Sum.{sum, δ}
@@ -19,12 +18,12 @@ use Rattle.algebra.proofs.Perm.{gather}
 use Rattle.algebra.proofs.Adjoint.{δ-turn}
 use Rattle.exact.specs.Exact.{Exact, exact, conj, inRange, isLowest}
 use Rattle.exact.proofs.Exact.{exacts, conj-plus}
-use Rattle.gate.specs.Gate.{Gate, gatesOf}
+use Rattle.gate.specs.Gate.{gatesOf}
 use Rattle.gate.proofs.Bits.{Word}
-use Rattle.kraus.specs.Branch.{Store, Branch, branches}
-use Rattle.kraus.specs.Blocks.{alive, having, stores, block, povm}
+use Rattle.kraus.specs.Branch.{Store, Branch}
+use Rattle.kraus.specs.Blocks.{alive, survivors, having, stores, block, povm}
 use Rattle.kraus.proofs.Hermitian.{hermitian}
-use Rattle.kraus.proofs.Effect.{effect, effect-povm, probabilities}
+use Rattle.kraus.proofs.Effect.{effect, effect-povm}
 use Rattle.kraus.proofs.Limits.{Enough, Fitting, krausExponent}
 use Rattle.verdict.specs.Verdict.{accepted}
 use Rattle.verdict.specs.declared.Verdict.the-variants.{Accepted}
@@ -35,14 +34,14 @@ use Rattle.effects.specs.Effects.{effectAt, povmAt, term, partialsFit, recordFi
 use Rattle.effects.proofs.Answers.{by}
 use Rattle.collect.specs.Delivered.{blockNo, branchesWords}
 use Rattle.judge.specs.Delivered.{circuitWords}
-use Rattle.judge.proofs.Accepted.{Sound, sound, enough}
+use Rattle.judge.proofs.Accepted.{sound}
 use Rattle.judge.proofs.Writable.{block-fits-shared}
 use Rattle.demands.specs.Probabilities.{AddUp, Probabilities, OfCircuits}
 use Rattle.demands.proofs.Reading.{formed-back}
 use Rattle.demands.proofs.Agreeing.{agrees-all, agrees-fold}
-use Rattle.demands.proofs.Along.{Deliverable, along, along-perm, along-words}
+use Rattle.demands.proofs.Along.{Deliverable, along, along-words}
 use Rattle.demands.proofs.Effects.{Gives, Lowest, sum-lowest, povmForm, effectForm, povm-gives, effect-gives, effectBlock, effect-blocks, effect-entry}
-use Rattle.demands.proofs.Channels.{deliverable, none-zero}
+use Rattle.demands.proofs.Channels.{Source, circuit-source, source-enough, deliverable, source-total, none-zero}
 use Rattle.demands.proofs.Demands.{result-is}
 
 -- ---- an effect is Hermitian
@@ -131,14 +130,12 @@ module _ {n m : ℕ} {bs : List Branch} (dl : Deliverable n m bs) (rest : List �
     pub delivered-probabilities : Probabilities (2 ^ n) (branchesWords (2 ^ n) m bs ++ rest)
     delivered-probabilities = record { verdict = accepting; textbook = povm-adds; transposed = transposed-adds }
 
--- ---- circuits
-circuit-probabilities : {n m : ℕ} {σ : List ℕ} {gs : List Gate} {result work : ℕ} → Sound n m σ gs result work → (rest : List ℤ) → Probabilities (2 ^ n) (circuitWords n m σ gs ++ rest)
-circuit-probabilities {n} {m} {σ} {gs} s rest =
-    delivered-probabilities (deliverable s) rest
-    (λ r c p q. probabilities n m σ gs (s .valid-gates) (along (deliverable s) rest) (along-perm (deliverable s) rest) r c p q)
-    (sums-fit (deliverable s) rest (subst (λ (hs : List Gate). Enough krausExponent n (branches n σ hs)) (take-length gs) (enough s (length gs))) (sub-filter alive (sub-whole (branches n σ gs)))) (none-zero s rest)
+-- ---- the branches of an accepted circuit or program
+pub source-probabilities : {n m : ℕ} {all : List Branch} → Source n m all → (rest : List ℤ) → Probabilities (2 ^ n) (branchesWords (2 ^ n) m (survivors all) ++ rest)
+source-probabilities {all = all} s rest =
+    delivered-probabilities (deliverable s) rest (source-total s rest) (sums-fit (deliverable s) rest (source-enough s) (sub-filter alive (sub-whole all))) (none-zero s rest)
 
 pub of-circuits : OfCircuits
 of-circuits n m σ l ws r w e =
     let words : List ℤ = circuitWords n m σ (gatesOf ws) in
-    subst (Probabilities (2 ^ n)) (sym (result-is n m σ l ws r w e)) (circuit-probabilities (sound n m σ l ws r w e) (drop (length words) r))
+    subst (Probabilities (2 ^ n)) (sym (result-is n m σ l ws r w e)) (source-probabilities (circuit-source (sound n m σ l ws r w e)) (drop (length words) r))

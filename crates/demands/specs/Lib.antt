@@ -1,4 +1,5 @@
 pub mod Demands
+pub mod Programs
 pub mod Probabilities
 pub mod Layers
 pub mod Schedules

@@ -1,4 +1,4 @@
--- Probabilities that add up: both calls on effects accept every channel that circuit_channel delivered, with a result long enough, and what they leave adds up to the identity, without rounding.
+-- Probabilities that add up: both calls on effects accept every channel that circuit_channel or pauli_channel delivered, with a result long enough, and what they leave adds up to the identity, without rounding.
 use mathlib.Core.Path.{_≡_}
 use mathlib.Core.Bool.{true}
 use mathlib.Core.List.{List, foldl}
@@ -13,6 +13,7 @@ use Rattle.circuit.specs.declared.limits.Limits.{Limits}
 use Rattle.channel.specs.Layout.{Block, effects, readBackIn}
 use Rattle.effects.specs.Effects.{effectsSize, effectsVerdict, resultOf, povmOf}
 use Rattle.judge.specs.Call.{accepts, resultAfter}
+use Rattle.pauli.specs.Call as pauli
 
 -- effects of dimension d, read back from the words e along the chain: each is Hermitian, and over the stores they add up to the identity
 pub record AddUp (d : ℕ) (e : List ℤ) : Type 0 where
@@ -28,3 +29,7 @@ pub record Probabilities (d : ℕ) (l : List ℤ) : Type 0 where
 -- every accepted circuit, whatever the result held
 abbrev pub OfCircuits : Type 0
 OfCircuits = (n m : ℕ) (σ : List ℕ) (l : Limits) (ws : List ℕ) (r w : List ℤ) → accepts n m σ l ws r w ≡ true → Probabilities (2 ^ n) (resultAfter n m σ l ws r w)
+
+-- every accepted Pauli program, whatever the result held
+abbrev pub OfPrograms : Type 0
+OfPrograms = (n m : ℕ) (σ : List ℕ) (l : Limits) (ns os : List ℕ) (r w : List ℤ) → pauli.accepts n m σ l ns os r w ≡ true → Probabilities (2 ^ n) (pauli.resultAfter n m σ l ns os r w)

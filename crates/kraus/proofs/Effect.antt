@@ -18,14 +18,12 @@ use Rattle.algebra.proofs.Dyadic.{low-zero}
 use Rattle.exact.specs.Exact.{Exact, exact, conj, Number, numbers, lowest, isZero}
 use Rattle.exact.proofs.Exact.{exactHalving, exacts}
 use Rattle.exact.proofs.IsZero.{zero-is}
-use Rattle.gate.specs.Gate.{Gate}
 use Rattle.gate.specs.Operators.{sameBits}
-use Rattle.gate.specs.Inner.Entries.{valid}
 use Rattle.gate.proofs.Bits.{same-true, same-refl}
 use Rattle.kraus.specs.Branch.{Store, Branch, branches}
 use Rattle.kraus.specs.Blocks.{alive, survivors, having, overlap, block, squared, povm, stores}
 use Rattle.kraus.proofs.Stores.{Distinct, stores-distinct, stores-some}
-use Rattle.kraus.proofs.Complete.{gram, completeness}
+use Rattle.kraus.proofs.Complete.{gram}
 
 -- ---- store by store
 module _ (𝓡 : Semi) where
@@ -146,8 +144,3 @@ module _ (n : ℕ) (all : List Branch) (complete : (c c′ : ℕ) → c < 2 ^ n 
   effects-whole ts p r c k l =
       gather-of (exact ._⊕_) (exacts .add-assoc) (exacts .add-comm) (λ (τ : Store). effect d bs τ r c) p (exact .𝟘)
       ∙ foldl-listSum exacts (λ (τ : Store). effect d bs τ r c) (stores bs) ∙ in-order r c k l
-
--- those of a circuit
-pub probabilities : (n m : ℕ) (σ : Store) (gs : List Gate) → every (valid n m) gs ≡ true → (ts : List Store) → Perm ts (stores (survivors (branches n σ gs))) → (r c : ℕ) → r < 2 ^ n → c < 2 ^ n
-    → gather (exact ._⊕_) (λ (τ : Store). effect (2 ^ n) (survivors (branches n σ gs)) τ r c) (exact .𝟘) ts ≡ δ exact r c
-probabilities n m σ gs ok = effects-whole n (branches n σ gs) (completeness n m σ gs ok)

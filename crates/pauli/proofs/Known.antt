@@ -1,19 +1,19 @@
 -- What acceptance says of a program holds.
-use mathlib.Core.Path.{_≡_, refl, sym, ap, _∙_, subst}
-use mathlib.Core.Bool.{Bool, true, false, _&&_}
-use mathlib.Core.List.{List, [], _∷_, _++_, map}
+use mathlib.Core.Path.{_≡_, refl, sym, _∙_, subst}
+use mathlib.Core.Bool.{Bool, true, _&&_}
+use mathlib.Core.List.{List, [], _∷_, _++_}
 use Prim.Native.Nat.{ℕ, zero, suc, _+_, _*_, _/_, _%_, _^_, _≤_, _<_, min}
 use native.Mathlib.Omega.{arith}
 use lib.Dec.{eqb, leb, ltb}
 use lib.Pow.{pow-pos}
-use lib.ListN.{length, getD}
+use lib.ListN.{length}
 use lib.IntN.{ℤ}
-use borrow.Author.Tests.{leb-true, leb-false, ltb-true}
+use borrow.Author.Tests.{leb-true}
 use Rattle.algebra.specs.Lists.{All, every}
 use Rattle.algebra.proofs.Tests.{and-split}
 use Rattle.algebra.proofs.Lists.{all-imp, all-map, all-append}
 use Rattle.verdict.specs.Verdict.{accepted}
-use Rattle.verdict.specs.Questions.{Question, firstNo}
+use Rattle.verdict.specs.Questions.{firstNo}
 use Rattle.verdict.proofs.Questions.{yes, Refuses, every-append, all-yes}
 use Rattle.store.specs.Store.{storeFits}
 use Rattle.store.proofs.Bytes.{fits-word}
@@ -23,20 +23,22 @@ use Rattle.circuit.specs.declared.sizes.Sizes.{Sizes}
 use Rattle.circuit.specs.Limits.{ceilings, matrixCeilings, branchCeilings}
 use Rattle.circuit.specs.Sizes.{resultWords}
 use Rattle.circuit.specs.Questions.{sizesOf}
-use Rattle.circuit.specs.Inner.Small.{maxQubits}
-use Rattle.pauli_nodes.specs.Nodes.{Reference, Placed, hermitian, axisMatrix}
+use Rattle.judge.proofs.Accepted.{four}
+use Rattle.pauli_nodes.specs.Nodes.{Reference, hermitian, axisMatrix}
 use Rattle.pauli_nodes.specs.Operations.{Operation, axis, splits}
-use Rattle.pauli_words.specs.Words.{nodeOf, nodesOf, operationOf, operationFormed, operationsOf}
-use Rattle.pauli_words.specs.Questions.{numberOf, axisFits, nodesQuestions, operationQuestions, operationsQuestions}
+use Rattle.pauli_words.specs.Words.{nodesOf, operationOf, operationFormed, operationsOf}
+use Rattle.pauli_words.specs.Inner.Masks.{maxNodes}
+use Rattle.pauli_words.specs.Questions.{numberOf, axisFits, nodesQuestions, operationsQuestions}
 use Rattle.pauli_judge.specs.declared.footprint.ProgramFootprint.{ProgramFootprint}
-use Rattle.pauli_judge.specs.Footprint.{programFootprint}
-use Rattle.pauli_judge.specs.Sizes.{programCells, programTerms, programWork}
+use Rattle.pauli_judge.specs.Footprint.{named, programFootprint}
+use Rattle.pauli_judge.specs.Sizes.{programCells}
 use Rattle.pauli_judge.specs.Questions.{maxListed, fewOperations, programWithin, programRoom, programWordQuestions, programNumberQuestions, pauliQuestions}
-use Rattle.pauli_judge.proofs.Accepted.{nodes-refuse, operations-refuse, nodes-placed, axes-fit, words-refuse}
-use Rattle.pauli_program.specs.Claims.{Eighths, Sound}
+use Rattle.pauli_judge.proofs.Accepted.{nodes-refuse, operations-refuse, nodes-placed, axes-fit, words-refuse, words-known}
+use Rattle.pauli_program.specs.Claims.{Eighths}
 use Rattle.pauli_run.proofs.Forms.{rotates, rotates-if}
 use Rattle.pauli.specs.Call.{accepts}
 use Rattle.pauli.specs.Known.{Known, AcceptedKnown}
+use Rattle.pauli.proofs.Operations.{halves}
 
 -- eighths are below 8 where the words are well formed
 module _ (g : Gate) (h : operationFormed g ≡ true) where
@@ -56,20 +58,15 @@ module _ (g : Gate) (h : operationFormed g ≡ true) where
 operations-formed : (fits : Reference → Bool) (m made i : ℕ) (gs : List Gate) → every yes (operationsQuestions fits m made i gs) ≡ true → All (λ (g : Gate). operationFormed g ≡ true) gs
 operations-formed fits m made i [] e = tt
 operations-formed fits m made i (g ∷ gs) e =
-    let rest = operationsQuestions fits m (made + splits (operationOf g)) (suc i) gs in
-    let (a, b) = and-split (every yes (operationQuestions fits m made i g)) (every yes rest) (sym (every-append (operationQuestions fits m made i g) rest) ∙ e) in
+    let (a, b) = halves fits m made i g gs e in
     (and-split (operationFormed g) _ a .0, operations-formed fits m (made + splits (operationOf g)) (suc i) gs b)
 
--- four qubits at most: one block of five does not fit the ceiling on cells
-four : (n v x c : ℕ) → n ≤ maxQubits → 0 < v → v * (2 ^ n) ^ 4 + x ≤ c → c ≤ ceilings .«max_matrix_cells» → n ≤ 4
-four n v x c h p q r = go (leb n 4) refl
-  where
-    go : (b : Bool) → leb n 4 ≡ b → n ≤ 4
-    go true e = leb-true n 4 e
-    go false e =
-        let is : n ≡ maxQubits = omega (arith, leb-false n 4 e) in
-        let big : v * (2 ^ maxQubits) ^ 4 + x ≤ c = subst (λ (k : ℕ). v * (2 ^ k) ^ 4 + x ≤ c) is q in
-        absurd (omega arith)
+-- what the questions of the words answered
+pub record Listed (n m : ℕ) (ns os : List ℕ) : Type 0 where
+  pub few : length ns / gateSize ≤ maxListed
+  pub nodes-yes : accepted (firstNo (nodesQuestions n 0 (gatesOf ns))) ≡ true
+  pub operations-yes : every yes (operationsQuestions (axisFits n (nodesOf ns)) m 0 0 (gatesOf os)) ≡ true
+  pub named-few : named n (operationsOf os) ≤ maxNodes
 
 module _ (n m : ℕ) (σ : List ℕ) (l : Limits) (ns os : List ℕ) (result work : ℕ) where
   abbrev f : ProgramFootprint
@@ -82,7 +79,7 @@ module _ (n m : ℕ) (σ : List ℕ) (l : Limits) (ns os : List ℕ) (result wor
   program-accepts = all-yes (pauliQuestions n m σ l ns os result work)
       (all-append Refuses (programWordQuestions n m l ns os) (programNumberQuestions f n m σ l result work) (words-refuse n m l ns os) (refl, (refl, (refl, (refl, tt)))))
 
-  known : every yes (pauliQuestions n m σ l ns os result work) ≡ true → Known n m σ ns os result work
+  known : every yes (pauliQuestions n m σ l ns os result work) ≡ true → Known n m σ ns os result work × Listed n m ns os
   known all =
       let nodes = nodesQuestions n 0 (gatesOf ns) in
       let operations = operationsQuestions (axisFits n (nodesOf ns)) m 0 0 (gatesOf os) in
@@ -94,7 +91,7 @@ module _ (n m : ℕ) (σ : List ℕ) (l : Limits) (ns os : List ℕ) (result wor
       let lists = and-split (every yes nodes) (every yes operations) (sym (every-append nodes operations) ∙ q3 .1) in
       let few = and-split (leb (length os / gateSize + 2 * n) (l .«max_operations»)) _ (q3 .0) in
       let few2 = and-split (leb n (ceilings .«max_qubits»)) _ (few .1) in
-      let placed = nodes-placed n 0 (gatesOf ns) (all-yes nodes (nodes-refuse n 0 (gatesOf ns)) ∙ lists .0) in
+      let nodes-yes = all-yes nodes (nodes-refuse n 0 (gatesOf ns)) ∙ lists .0 in
       let fit = axes-fit (axisFits n (nodesOf ns)) m 0 0 (gatesOf os) (all-yes operations (operations-refuse (axisFits n (nodesOf ns)) m 0 0 (gatesOf os)) ∙ lists .1) in
       let q7 = and-split (storeFits m σ) _ (parts .1) in
       let q8 = and-split (programWithin f n m l) _ (q7 .1) in
@@ -109,27 +106,41 @@ module _ (n m : ℕ) (σ : List ℕ) (l : Limits) (ns os : List ℕ) (result wor
       let in1 = and-split (leb m (l .«max_classical_bits»)) _ (q8 .0) in
       let in2 = and-split (leb (sizes .branches) (l .«max_branches»)) _ (in1 .1) in
       let in3 = and-split (leb n (l .«max_qubits»)) _ (in2 .1) in
-      let in4 = and-split (leb (programCells (f .nodes) (sizes .branches) (sizes .stores) (sizes .rows)) (l .«max_matrix_cells»)) _ (in3 .1) in
-      record {
-        sound = record {
-          few = leb-true n (ceilings .«max_qubits») (few2 .0);
-          placed = placed;
-          axes = all-imp (λ (o : Operation). axisFits n (nodesOf ns) (axis o) ≡ true) (λ (o : Operation). hermitian n (axisMatrix n (nodesOf ns) (axis o)) ≡ true) (operationsOf os)
-              (λ o e. and-split (ltb (axis o .node) (numberOf n (length (nodesOf ns)))) _ e .1) fit;
-          eighths = all-map (λ (g : Gate). operationFormed g ≡ true) Eighths operationOf eighths (gatesOf os) (operations-formed (axisFits n (nodesOf ns)) m 0 0 (gatesOf os) (lists .1));
-        };
-        qubit-count =
-            four n (sizes .stores) ((3 * sizes .branches + f .nodes + 8) * (2 ^ n) ^ 2) (l .«max_matrix_cells»)
-            (omega (arith, leb-true n (ceilings .«max_qubits») (few2 .0))) (pow-pos (min (f .counts .splits) (f .counts .written)))
-            (leb-true _ _ (in4 .0)) (leb-true _ _ (low2 .0));
-        bit-count = omega (arith, leb-true m (l .«max_classical_bits») (in1 .0), leb-true (l .«max_classical_bits») (ceilings .«max_classical_bits») (low3 .1));
-        bytes = bytes .1;
-        byte-count = bytes .0;
-        light = leb-true (f .counts .weight) maxWeight (q9 .0);
-        branch-count = omega (arith, leb-true (sizes .branches) (l .«max_branches») (in2 .0), leb-true (l .«max_branches») (ceilings .«max_branches») (low3 .0));
-        room = leb-true _ _ (room .0);
-        workRoom = leb-true _ _ (room .1);
-      }
+      let in4 = and-split (leb (programCells (f .nodes) (sizes .branches) (sizes .stores) (sizes .rows)) (l .«max_matrix_cells»)) _ (in3 .1) in (
+        record {
+          sound = record {
+            few = leb-true n (ceilings .«max_qubits») (few2 .0);
+            placed = nodes-placed n 0 (gatesOf ns) nodes-yes;
+            axes = all-imp (λ (o : Operation). axisFits n (nodesOf ns) (axis o) ≡ true) (λ (o : Operation). hermitian n (axisMatrix n (nodesOf ns) (axis o)) ≡ true) (operationsOf os)
+                (λ o e. and-split (ltb (axis o .node) (numberOf n (length (nodesOf ns)))) _ e .1) fit;
+            eighths = all-map (λ (g : Gate). operationFormed g ≡ true) Eighths operationOf eighths (gatesOf os) (operations-formed (axisFits n (nodesOf ns)) m 0 0 (gatesOf os) (lists .1));
+          };
+          qubit-count =
+              four n (sizes .stores) ((3 * sizes .branches + f .nodes + 8) * (2 ^ n) ^ 2) (l .«max_matrix_cells»)
+              (omega (arith, leb-true n (ceilings .«max_qubits») (few2 .0))) (pow-pos (min (f .counts .splits) (f .counts .written)))
+              (leb-true _ _ (in4 .0)) (leb-true _ _ (low2 .0));
+          bit-count = omega (arith, leb-true m (l .«max_classical_bits») (in1 .0), leb-true (l .«max_classical_bits») (ceilings .«max_classical_bits») (low3 .1));
+          bytes = bytes .1;
+          byte-count = bytes .0;
+          light = leb-true (f .counts .weight) maxWeight (q9 .0);
+          branch-count = omega (arith, leb-true (sizes .branches) (l .«max_branches») (in2 .0), leb-true (l .«max_branches») (ceilings .«max_branches») (low3 .0));
+          room = leb-true _ _ (room .0);
+          workRoom = leb-true _ _ (room .1);
+        },
+        record {
+          few = leb-true (length ns / gateSize) maxListed (few2 .1);
+          nodes-yes = nodes-yes;
+          operations-yes = lists .1;
+          named-few = words-known n m l ns os (all-yes (programWordQuestions n m l ns os) (words-refuse n m l ns os) ∙ parts .0) .nodes-few;
+        },
+      )
+
+module _ (n m : ℕ) (σ : List ℕ) (l : Limits) (ns os : List ℕ) (r w : List ℤ) (e : accepts n m σ l ns os r w ≡ true) where
+  all-yes-answered : every yes (pauliQuestions n m σ l ns os (length r) (length w)) ≡ true
+  all-yes-answered = sym (program-accepts n m σ l ns os (length r) (length w)) ∙ e
+
+  pub accepted-listed : Listed n m ns os
+  accepted-listed = known n m σ l ns os (length r) (length w) all-yes-answered .1
 
 pub accepted-known : AcceptedKnown
-accepted-known n m σ l ns os r w e = known n m σ l ns os (length r) (length w) (sym (program-accepts n m σ l ns os (length r) (length w)) ∙ e)
+accepted-known n m σ l ns os r w e = known n m σ l ns os (length r) (length w) (all-yes-answered n m σ l ns os r w e) .0

@@ -1,1 +1,4 @@
+pub mod Operations
 pub mod Known
+pub mod Branches
+pub mod Running

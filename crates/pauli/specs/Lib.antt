@@ -1,3 +1,4 @@
 pub mod Delivered
 pub mod Call
 pub mod Known
+pub mod Inner

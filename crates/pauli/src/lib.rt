@@ -1,1 +1,2 @@
-// The channel of a Pauli program: definitions and laws; nothing here runs.
+// The judge of Pauli programs: programs as quantum channels.
+pub mod call;

@@ -29,7 +29,7 @@ fn terms_needed(nodes: u64, p: u64, b: u64, d: u64) -> u64
     (2 * p * b + nodes) * cube(d) + b * fourth(d)
 }
 
-fn work_words(nodes: u64, b: u64, d: u64) -> u64
+pub fn work_words(nodes: u64, b: u64, d: u64) -> u64
     requires { ⌜ (nodes ≤ maxNodes) × (b ≤ maxBranches) × (d ≤ maxRows) ⌝ }
     ensures { λ r. ⌜ r ≡ programWork nodes b d ⌝ }
 {

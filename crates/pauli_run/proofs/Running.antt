@@ -58,7 +58,7 @@ use Rattle.pauli_steps.specs.Inner.Rows.{axisEntry, axisRow}
 use Rattle.pauli_steps.specs.Inner.Step.{chosen, stepWords}
 use Rattle.pauli_steps.proofs.Tables.{Small}
 use Rattle.pauli_run.specs.Inner.Operators.{coefficientsOf, operatorOf, shiftOf, bitOf, maskOf, rowsWords, withRows, stepped}
-use Rattle.pauli_run.specs.Inner.Run.{runSize, Fits, Operating, Runs, Ran}
+use Rattle.pauli_run.specs.Inner.Run.{rowsSize, runSize, Fits, Operating, Runs, Ran}
 use Rattle.pauli_run.proofs.Forms.{one-bit, splits-le, coefficients-small, own-lowest, seen-is}
 use Rattle.pauli_run.proofs.Axes.{partner-lt, row-is}
 use Rattle.pauli_run.proofs.Paths.{Told, Seen, run-told, step-branch}
@@ -159,7 +159,11 @@ pub record Running (l₀ : List ℤ) (ws : List ℕ) (σ : Store) (n d banks : �
   pub held : Holds l from (bankWords d (programBranches n nodes σ (take i (operationsOf ws))))
   pub place : (from ≡ 0) ⊎ (from ≡ banks * branchSize d)
   pub same-length : length l ≡ length l₀
-  pub past : (k : ℕ) → runSize d banks ≤ k → getD l k (pos 0) ≡ getD l₀ k (pos 0)
+  pub past : (k : ℕ) → runSize (length ws / gateSize) d banks ≤ k → getD l k (pos 0) ≡ getD l₀ k (pos 0)
+
+some-rows : (count i d : ℕ) → i < count → rowsSize count d ≡ 2 * (d * rowSize)
+some-rows zero i d h = absurd (omega arith)
+some-rows (suc count) i d h = refl
 
 -- there is room for a branch
 pub first-fits : {l : List ℤ} {ws ms : List ℕ} {σ : Store} {n d banks : ℕ} {nodes : List Node} → Runs l ws ms σ n d banks nodes → branchSize d ≤ length l
@@ -302,8 +306,11 @@ module _ {l₀ : List ℤ} {ws ms : List ℕ} {σ : Store} {n banks : ℕ} {node
     next-size : count * ops * size ≤ bank
     next-size = omega (arith, bank-le (i + 1), ap (λ (k : ℕ). k * size) next-count)
 
+    rows-are : rowsSize (length ws / gateSize) d ≡ 2 * (d * rowSize)
+    rows-are = some-rows (length ws / gateSize) i d h
+
     room : 2 * bank + 2 * (d * rowSize) ≤ length l
-    room = omega (arith, r .room, w .same-length)
+    room = omega (arith, r .room, w .same-length, rows-are)
 
     small : (v : ℕ) → Small (coefficientsOf o v)
     small = coefficients-small g (fits .formed)
@@ -424,7 +431,7 @@ module _ {l₀ : List ℤ} {ws ms : List ℕ} {σ : Store} {n banks : ℕ} {node
       same-length = long after-step ∙ long rows ∙ w .same-length;
       past = λ x hx.
           kept after-step x 1 (inr (omega (arith, to-room, hx))) .word x (omega arith) (omega arith)
-          ∙ kept rows x 1 (inr (omega (arith, hx))) .word x (omega arith) (omega arith)
+          ∙ kept rows x 1 (inr (omega (arith, hx, rows-are))) .word x (omega arith) (omega arith)
           ∙ w .past x hx;
     }
       where
@@ -497,5 +504,5 @@ module _ {l₀ b : List ℤ} {ws ms : List ℕ} {σ : Store} {n d banks : ℕ} {
       one-bank : 1 ≤ banks
       one-bank = omega (arith, r₀ .banked, pow-pos (total splits (operationsOf ws)))
 
-      first-le : branchSize d ≤ runSize d banks
+      first-le : branchSize d ≤ runSize (length ws / gateSize) d banks
       first-le = omega (arith, mul-le-mul one-bank (le-refl (branchSize d)))

@@ -2,7 +2,7 @@
 use mathlib.Core.Path.{_≡_}
 use mathlib.Core.Bool.{true}
 use mathlib.Core.List.{List}
-use Prim.Native.Nat.{ℕ, _+_, _*_, _/_, _^_, _≤_, _<_}
+use Prim.Native.Nat.{ℕ, zero, suc, _+_, _*_, _/_, _^_, _≤_, _<_}
 use lib.ListN.{length, getD, take}
 use lib.IntN.{ℤ, pos}
 use Rattle.algebra.specs.Lists.{All, total}
@@ -19,9 +19,14 @@ use Rattle.pauli_program.specs.Claims.{Sound}
 use Rattle.pauli_steps.specs.Inner.Step.{Step}
 use Rattle.pauli_run.specs.Inner.Operators.{shiftOf, maskOf, withRows}
 
--- the words up to the end of the operators' rows
-abbrev pub runSize : ℕ → ℕ → ℕ
-runSize d banks = 2 * (banks * branchSize d) + 2 * (d * rowSize)
+-- the rows of two operators, where there is an operation
+abbrev pub rowsSize : ℕ → ℕ → ℕ
+rowsSize zero d = 0
+rowsSize (suc count) d = 2 * (d * rowSize)
+
+-- the words up to the end of the rows, for so many operations
+abbrev pub runSize : ℕ → ℕ → ℕ → ℕ
+runSize count d banks = 2 * (banks * branchSize d) + rowsSize count d
 
 -- an operation after `made` outcomes, and the mask forms of the nodes
 pub record Fits (ms : List ℕ) (made : ℕ) (g : Gate) : Type 0 where
@@ -47,7 +52,7 @@ pub record Runs (l : List ℤ) (ws ms : List ℕ) (σ : Store) (n d banks : ℕ)
   pub bytes : Bits σ
   pub few : total splits (operationsOf ws) ≤ 64
   pub banked : banks ≡ 2 ^ total splits (operationsOf ws)
-  pub room : runSize d banks ≤ length l
+  pub room : runSize (length ws / gateSize) d banks ≤ length l
   pub fits : (i : ℕ) → i < length ws / gateSize → Fits ms (total splits (take i (operationsOf ws))) (gateAt ws (i * gateSize))
   pub masks : (i : ℕ) → i < length ws / gateSize → maskOf ms (gateAt ws (i * gateSize)) ≡ axisMask n nodes (axis (operationOf (gateAt ws (i * gateSize))))
   pub placed : (i : ℕ) → i < length ws / gateSize → All (λ (b : ℕ). b < length σ) (bits (operationOf (gateAt ws (i * gateSize))))
@@ -57,7 +62,7 @@ pub record Ran (l m : List ℤ) (ws : List ℕ) (σ : Store) (n d banks at : ℕ
   pub held : Holds m at (bankWords d (programBranches n nodes σ (operationsOf ws)))
   pub inside : at + banks * branchSize d ≤ 2 * (banks * branchSize d)
   pub long : length m ≡ length l
-  pub kept : (k : ℕ) → runSize d banks ≤ k → getD m k (pos 0) ≡ getD l k (pos 0)
+  pub kept : (k : ℕ) → runSize (length ws / gateSize) d banks ≤ k → getD m k (pos 0) ≡ getD l k (pos 0)
 
 -- whatever nodes the mask forms are those of
 abbrev pub RanAll : List ℤ → List ℤ → List ℕ → List ℕ → Store → ℕ → ℕ → ℕ → ℕ → Type 0

@@ -8,7 +8,7 @@ use lib.ListN.{length}
 use borrow.Author.Needs.{needs}
 use Rattle.gate.specs.Gate.{Gate, gateAt, gateSize}
 use Rattle.gate.specs.Inner.Words.{gateOf}
-use Rattle.branches.specs.Inner.Bank.{branchSize, rowSize}
+use Rattle.branches.specs.Inner.Bank.{branchSize}
 use Rattle.pauli_nodes.specs.Nodes.{Node}
 use Rattle.pauli_nodes.specs.Operations.{splits}
 use Rattle.pauli_words.specs.Words.{operationOf}
@@ -45,7 +45,7 @@ dim-small s = omega (arith, s .pre .1 .dim, pow-mono {i = s .args .n} {j = 5} (s
 branch-size-requires : tie.Need-branch-size-requires Inv-loop μ-loop
 branch-size-requires c κs = dim-small (c .before .before .before)
 
-bank-small : (c : tie.After-branch-size Inv-loop μ-loop) → let a = c .before .before .before .before .args in 2 * (a .banks * c .branch-size .result) + 2 * (a .d * rowSize) ≤ length (a .work .now)
+bank-small : (c : tie.After-branch-size Inv-loop μ-loop) → let a = c .before .before .before .before .args in 2 * (a .banks * c .branch-size .result) ≤ length (a .work .now)
 bank-small c =
     let s = c .before .before .before .before in
     omega (arith, s .pre .1 .room, ap (λ (k : ℕ). s .args .banks * k) (c .branch-size .ensures))
