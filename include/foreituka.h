@@ -162,7 +162,7 @@ enum {
 #define FOREITUKA_ANSWER_BYTES 1024
 #define FOREITUKA_LIST_WORDS 5200
 #define FOREITUKA_LIST_WORK_WORDS 2000
-#define FOREITUKA_LIST_BYTES 161159
+#define FOREITUKA_LIST_BYTES 202727
 
 /* The channel of a circuit of `qubits` qubits and `bits` classical bits that start as `store` (a byte for each, 0 or 1), or the refusal of
  * the first question that fails (docs/FORMATS.md has the questions). result: FOREITUKA_CHANNEL_WORDS words or more; words behind the last

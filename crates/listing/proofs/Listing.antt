@@ -19,11 +19,9 @@ use Rattle.exact.specs.Exact.{Exact, isZero}
 use Rattle.cells.specs.Cells.{cellWords}
 use Rattle.algebra.proofs.Tests.{and-split}
 use Rattle.store.specs.Store.{maxWord}
-use Rattle.channel.specs.Layout.{headerSize, recordSize, side, word, storeAt, chain, dimAt, bitsAt, readBack, blockAt}
-use Rattle.channel.specs.WellFormed.{storeOk, rises, entriesOk, isDim, headerOk, chained, wellFormed}
-use Rattle.channel.specs.Inner.Shapes.{Onward}
+use Rattle.channel.specs.Layout.{Form, channels, headerSize, recordSize, word, chain, dimAt, blockAt}
+use Rattle.channel.specs.WellFormed.{storeOk, isDim, headerOk, chained, wellFormed}
 use Rattle.channel.proofs.Words.{dim-range}
-use Rattle.channel.proofs.Chain.{on-record}
 use Rattle.text.specs.Decimal.{decimal}
 use Rattle.text.specs.Page.{Page}
 use Rattle.text.specs.Inner.Written.{Written}
@@ -58,14 +56,11 @@ side-some (suc w) k h = omega arith
 pub store-words : (l : List ℤ) (at m : ℕ) → storeOk l at m ≡ true → (upTo maxWord (word l (at + 1)) ≡ true) × (upTo maxWord (word l (at + 2)) ≡ true)
 store-words l at m e = and-split (upTo maxWord (word l (at + 1))) _ (and-split (upTo maxWord (word l (at + 1)) && upTo maxWord (word l (at + 2))) _ e .0)
 
-pub on-entries : {l : List ℤ} {n at : ℕ} (o : Onward l n at) → 0 < n → entriesOk l at (side (dimAt l) * side (dimAt l)) ≡ true
-on-entries {l} {at = at} o h = and-split (rises (o .first) (o .prev) (storeAt l at)) _ (and-split (storeOk l at (bitsAt l)) _ (on-record o h) .1) .1
+pub chain-more : (F : Form) (l : List ℤ) (n at : ℕ) → 0 < n → chain F l n at ≡ blockAt F l at ∷ chain F l (n - 1) (natAbs (word l at))
+chain-more F l n at h = let e : n ≡ suc (n - 1) = omega arith in ap (λ (k : ℕ). chain F l k at) e
 
-pub chain-more : (l : List ℤ) (n at : ℕ) → 0 < n → chain l n at ≡ blockAt l at ∷ chain l (n - 1) (natAbs (word l at))
-chain-more l n at h = let e : n ≡ suc (n - 1) = omega arith in ap (λ (k : ℕ). chain l k at) e
-
-pub chain-end : (l : List ℤ) (n at : ℕ) → n ≤ 0 → chain l n at ≡ []
-chain-end l n at h = let e : n ≡ 0 = omega arith in ap (λ (k : ℕ). chain l k at) e
+pub chain-end : (F : Form) (l : List ℤ) (n at : ℕ) → n ≤ 0 → chain F l n at ≡ []
+chain-end F l n at h = let e : n ≡ 0 = omega arith in ap (λ (k : ℕ). chain F l k at) e
 
 -- ---- the listing
 -- the words of a well-formed channel's header
@@ -73,12 +68,12 @@ pub record Header (l : List ℤ) : Type 0 where
   pub long : headerSize ≤ length l
   pub dim : upTo 16 (word l 0) ≡ true
   pub bits : upTo 64 (word l 1) ≡ true
-  pub count : upTo ((length l - headerSize) / recordSize (side (dimAt l))) (word l 2) ≡ true
+  pub count : upTo ((length l - headerSize) / recordSize (channels (dimAt l))) (word l 2) ≡ true
 
 pub header : (l : List ℤ) → wellFormed l ≡ true → Header l
 unfolding wellFormed
 header l e =
-    let t = and-split (leb headerSize (length l)) _ (and-split (headerOk l) (chained l) e .0) in
+    let t = and-split (leb headerSize (length l)) _ (and-split (headerOk (channels (dimAt l)) l) (chained (channels (dimAt l)) l) e .0) in
     let u = and-split (isDim (word l 0) && upTo 64 (word l 1)) _ (t .1) in
     let v = and-split (isDim (word l 0)) _ (u .0) in
     record { long = leb-true headerSize (length l) (t .0); dim = dim-range (word l 0) (v .0) .0; bits = v .1; count = u .1 }

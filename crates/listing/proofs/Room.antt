@@ -12,7 +12,7 @@ use Rattle.algebra.specs.Lists.{concatMap}
 use Rattle.exact.specs.Exact.{Exact, isZero}
 use Rattle.cells.specs.Cells.{cellWords}
 use Rattle.answers.proofs.Most.{AtMost, plus, more, known, decimal-most, bits-most}
-use Rattle.channel.specs.Layout.{Block, recordSize, side, word, dimAt, bitsAt, countAt, chain, blockAt}
+use Rattle.channel.specs.Layout.{Block, Form, full, channels, recordSize, side, word, dimAt, bitsAt, countAt, chain, blockAt}
 use Rattle.channel.specs.WellFormed.{wellFormed}
 use Rattle.channel.proofs.Judging.{formed}
 use Rattle.text.specs.Ascii.{ascii}
@@ -52,13 +52,13 @@ unfolding entryLines
 entries-most w zero f = known []
 entries-most w (suc n) f = more (omega (arith, suc-mul n 153)) (plus (entries-most w n f) (entry-most (n / w) (n % w) (f n)))
 
--- a word of a record stands for at most 31 bytes
-block-most : (m w : ℕ) (b : Block) → m ≤ 64 → AtMost (blockLines m w b) (31 * recordSize w)
+-- a word of a record stands for at most 39 bytes
+block-most : (m w : ℕ) (b : Block) → m ≤ 64 → AtMost (blockLines m w b) (39 * recordSize (full w))
 block-most m w b h = more (omega arith) (plus (plus (plus (known (ascii "store ")) (bits-most m (b .store) h)) (known newline)) (entries-most w (w * w) (b .entry)))
 
-chain-most : (l : List ℤ) (m w n at : ℕ) → m ≤ 64 → AtMost (concatMap (blockLines m w) (chain l n at)) (31 * (n * recordSize w))
-chain-most l m w zero at h = more (omega arith) (known [])
-chain-most l m w (suc n) at h = more (omega (arith, suc-mul n (recordSize w))) (plus (block-most m w (blockAt l at) h) (chain-most l m w n (natAbs (word l at)) h))
+chain-most : (F : Form) (l : List ℤ) (m w n at : ℕ) → m ≤ 64 → AtMost (concatMap (blockLines m w) (chain F l n at)) (39 * (n * recordSize (full w)))
+chain-most F l m w zero at h = more (omega arith) (known [])
+chain-most F l m w (suc n) at h = more (omega (arith, suc-mul n (recordSize (full w)))) (plus (block-most m w (blockAt F l at) h) (chain-most F l m w n (natAbs (word l at)) h))
 
 first-most : (d m n : ℕ) → AtMost (firstLine d m n) 83
 first-most d m n =
@@ -72,7 +72,7 @@ short l h = by (wellFormed l) refl
     by : (t : Bool) → wellFormed l ≡ t → length (cond t (listing l) []) ≤ maxListing
     by true e =
         let r = formed l e .head .room in
-        omega (arith, r .inside, plus (first-most (dimAt l) (bitsAt l) (countAt l)) (chain-most l (bitsAt l) (side (dimAt l)) (countAt l) (natAbs (word l 3)) (r .few)) .le)
+        omega (arith, r .inside, plus (first-most (dimAt l) (bitsAt l) (countAt l)) (chain-most (channels (dimAt l)) l (bitsAt l) (side (dimAt l)) (countAt l) (natAbs (word l 3)) (r .few)) .le)
     by false e = omega arith
 
 pub short-refusal : ShortRefusal

@@ -25,7 +25,7 @@ abbrev pub maxResult : ℕ
 maxResult = 5200
 
 abbrev pub maxListing : ℕ
-maxListing = 161159
+maxListing = 202727
 
 abbrev pub Short : Type 0
 Short = (l : List ℤ) → length l ≤ maxResult → length (listingOf l) ≤ maxListing

@@ -2,21 +2,22 @@
 use super::spaced::put_natural;
 use super::spaced::put_spaced;
 use answers::states::put_store;
-use cells::zero_at;
-use channel::layout::entry_place;
 use channel::layout::follow;
+use channel::layout::read_entry;
 use channel::layout::read_store;
+use scalar::Scalar;
 use text::page::put;
 use text::page::put_all;
 use text::page::put_decimal;
 ghost use mathlib.Core.Path.{_≡_};
 ghost use mathlib.Core.Bool.{true};
-ghost use Prim.Native.Nat.{_+_, _*_, _≤_};
-ghost use lib.ListN.{length};
+ghost use Prim.Native.Nat.{_*_, _≤_};
 ghost use Rattle.algebra.specs.Lists.{concatMap};
-ghost use Rattle.cells.specs.Cells.{cellSize, cellAt, cellWords, exponentAt, wellFormedAt};
-ghost use Rattle.channel.specs.Layout.{recordSize, side, entryAt, blockAt, dimAt, bitsAt, countAt, readBack};
-ghost use Rattle.channel.specs.WellFormed.{storeOk, entriesOk, wellFormed};
+ghost use Rattle.cells.specs.Cells.{cellWords};
+ghost use Rattle.scalar.specs.Calls.{value};
+ghost use Rattle.channel.specs.Layout.{channels, side, entryAt, blockAt, dimAt, bitsAt, countAt, readBack};
+ghost use Rattle.channel.specs.Inner.Shapes.{Entries};
+ghost use Rattle.channel.specs.WellFormed.{storeOk, wellFormed};
 ghost use Rattle.text.specs.Page.{page};
 ghost use Rattle.text.specs.Inner.Written.{Written};
 ghost use Rattle.listing.specs.Listing.{spaced, firstLine, storeLine, entryLine, entryLines, blockLines, listing};
@@ -29,42 +30,42 @@ fn put_store_line(out: &mut [u8], at: usize, store: u64, m: u32) -> usize
     put(out, b, b'\n')
 }
 
-// The five numbers of a cell, each after a space.
-fn put_cell(out: &mut [u8], at: usize, s: &[i64], place: usize) -> usize
-    requires { ⌜ (place + cellSize ≤ length (now s)) × (exponentAt (now s) place ≡ true) ⌝ }
-    ensures { λ r. ⌜ Written (page (now (out .entry)) at) (concatMap spaced (cellWords (cellAt (now (s .entry)) place))) (page (now (out .exit)) r) ⌝ }
+// The numerators and the exponent of a scalar, each after a space.
+fn put_scalar(out: &mut [u8], at: usize, x: Scalar) -> usize
+    ensures { λ r. ⌜ Written (page (now (out .entry)) at) (concatMap spaced (cellWords (value x))) (page (now (out .exit)) r) ⌝ }
 {
-    let a = put_spaced(out, at, s[place]);
-    let b = put_spaced(out, a, s[place + 1]);
-    let c = put_spaced(out, b, s[place + 2]);
-    let d = put_spaced(out, c, s[place + 3]);
-    put_spaced(out, d, s[place + 4])
+    let n = x.n;
+    let a = put_spaced(out, at, n[0]);
+    let b = put_spaced(out, a, n[1]);
+    let c = put_spaced(out, b, n[2]);
+    let d = put_spaced(out, c, n[3]);
+    put_natural(out, d, x.e as u64)
 }
 
 // The line of an entry that is not zero.
-fn put_entry(out: &mut [u8], at: usize, s: &[i64], place: usize, row: usize, column: usize) -> usize
-    requires { ⌜ (place + cellSize ≤ length (now s)) × (wellFormedAt (now s) place ≡ true) ⌝ }
-    ensures { λ r. ⌜ Written (page (now (out .entry)) at) (entryLine row column (cellAt (now (s .entry)) place)) (page (now (out .exit)) r) ⌝ }
+fn put_entry(out: &mut [u8], at: usize, x: Scalar, row: usize, column: usize) -> usize
+    ensures { λ r. ⌜ Written (page (now (out .entry)) at) (entryLine row column (value x)) (page (now (out .exit)) r) ⌝ }
 {
-    if zero_at(s, place) {
+    if x.is_zero() {
         return at;
     }
     let a = put_decimal(out, at, row as u64);
     let b = put_natural(out, a, column as u64);
-    let c = put_cell(out, b, s, place);
+    let c = put_scalar(out, b, x);
     put(out, c, b'\n')
 }
 
 // The entries of the record of side w at `place`, rows then columns.
 fn put_entries(out: &mut [u8], at: usize, s: &[i64], place: usize, w: usize) -> usize
-    requires { ⌜ (w ≤ 256) × ((place + recordSize w ≤ length (now s)) × (entriesOk (now s) place (w * w) ≡ true)) ⌝ }
-    ensures { λ r. ⌜ Written (page (now (out .entry)) at) (entryLines w (w * w) (entryAt (now (s .entry)) place)) (page (now (out .exit)) r) ⌝ }
+    requires { ⌜ (w ≤ 256) × Entries (now s) place (w * w) ⌝ }
+    ensures { λ r. ⌜ Written (page (now (out .entry)) at) (entryLines w (w * w) (entryAt (channels (dimAt (now (s .entry)))) (now (s .entry)) place)) (page (now (out .exit)) r) ⌝ }
 {
     let n = w * w;
     let mut p = at;
     let mut k = 0;
     while k < n {
-        p = put_entry(out, p, s, entry_place(place, k), k / w, k % w);
+        let x = read_entry(s, place, k);
+        p = put_entry(out, p, x, k / w, k % w);
         k += 1;
     }
     p
@@ -72,8 +73,8 @@ fn put_entries(out: &mut [u8], at: usize, s: &[i64], place: usize, w: usize) -> 
 
 // The block of the record of side w at `place`: its store, then its entries.
 fn put_block(out: &mut [u8], at: usize, s: &[i64], place: usize, w: usize, m: u32) -> usize
-    requires { ⌜ (w ≤ 256) × ((place + recordSize w ≤ length (now s)) × ((storeOk (now s) place m ≡ true) × (entriesOk (now s) place (w * w) ≡ true))) ⌝ }
-    ensures { λ r. ⌜ Written (page (now (out .entry)) at) (blockLines m w (blockAt (now (s .entry)) place)) (page (now (out .exit)) r) ⌝ }
+    requires { ⌜ (w ≤ 256) × ((storeOk (now s) place m ≡ true) × Entries (now s) place (w * w)) ⌝ }
+    ensures { λ r. ⌜ Written (page (now (out .entry)) at) (blockLines m w (blockAt (channels (dimAt (now (s .entry)))) (now (s .entry)) place)) (page (now (out .exit)) r) ⌝ }
 {
     let a = put_store_line(out, at, read_store(s, place), m);
     put_entries(out, a, s, place, w)

@@ -20,7 +20,7 @@ ghost use Rattle.text.specs.Page.{page, write};
 ghost use Rattle.listing.specs.Answer.{linesOf, answerOf, resultOf, workOf};
 
 // The most bytes of an answer, where the result has 5,200 words.
-pub const MAX_LISTING: usize = 161159;
+pub const MAX_LISTING: usize = 202727;
 
 // The listing of a circuit's channel, or the line of its refusal.
 fn list_circuit(

@@ -23,10 +23,10 @@ use Rattle.branches.specs.Inner.Bank.{rowSize, bankWords, Holds}
 use Rattle.circuit.specs.declared.limits.Limits.{Limits}
 use Rattle.circuit.specs.Inner.Small.{maxSplits, maxBranches, maxRows}
 use Rattle.circuit.proofs.Products.{square-is}
-use Rattle.channel.proofs.Written.{length-channel}
 use Rattle.collect.specs.Inner.Bank.{bankIn, Deliverable}
-use Rattle.collect.specs.Delivered.{blockNo, branchesWords, overwritten}
+use Rattle.collect.specs.Delivered.{branchesWords, overwritten}
 use Rattle.collect.proofs.Held.{Held, bank-is, deliverable}
+use Rattle.judge.proofs.Accepted.{words-long}
 use Rattle.judge.proofs.Running.{zeroed-is, at-most, chosen, unchosen}
 use Rattle.pauli_nodes.specs.Nodes.{Node}
 use Rattle.pauli_nodes.specs.Operations.{Operation, bits, splits}
@@ -159,7 +159,7 @@ module _ {n m : ℕ} {σ ns os : List ℕ} {r w : List ℤ} (a : Accepted n m σ
 
       pub delivers : Deliverable r b at d m k
       delivers = subst₂ (λ (d k : ℕ). Deliverable r b at d m k) (sym e) counted
-          (deliverable held r (subst (λ (x : ℕ). x ≤ length r) (length-channel (2 ^ n) m (length (stores (survivors bs))) (blockNo (2 ^ n) (survivors bs)) []) (channel-room known)))
+          (deliverable held r (subst (λ (x : ℕ). x ≤ length r) (words-long (2 ^ n) m (survivors bs)) (channel-room known)))
 
       pub delivered : {q : List ℤ} → q ≡ overwritten (branchesWords d m (survivors (bankIn b at d m k))) r → q ≡ overwritten (programWords n m σ (nodesOf ns) (operationsOf os)) r
       delivered h =

@@ -99,7 +99,7 @@ abbrev pub withSaid : List ℕ → Record → Page → Record
 withSaid t s p = withBytes t (withNumber t s (p .at)) (take (p .at) (p .room))
 
 unfoldable pub listingCase : List ℕ → ℕ → Record
-listingCase t at = withSaid t (begun (lineAt t at .next)) (write (page (replicate 161159 0) 0) (answerOf (lineBytes t at) (room 5200) (room 2000)))
+listingCase t at = withSaid t (begun (lineAt t at .next)) (write (page (replicate 202727 0) 0) (answerOf (lineBytes t at) (room 5200) (room 2000)))
 
 -- ---- by the kind: 4 two circuits, 6 a listing, else one circuit
 abbrev pub caseOf : ℕ → List ℕ → ℕ → Record

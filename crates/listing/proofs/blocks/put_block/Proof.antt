@@ -11,7 +11,7 @@ use Rattle.listing.proofs.blocks.put_block.Tie as tie
 read-store-requires : tie.Need-read-store-requires
 read-store-requires c κs =
     let s = c .before .before in
-    (omega arith, store-words (s .args .s .now) (s .args .place) (s .args .m) (s .pre .1 .1 .0))
+    (omega (arith, s .pre .1 .1 .inside), store-words (s .args .s .now) (s .args .place) (s .args .m) (s .pre .1 .0))
 
 put-store-line-requires : tie.Need-put-store-line-requires
 put-store-line-requires c κs = search needs

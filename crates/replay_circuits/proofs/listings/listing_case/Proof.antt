@@ -18,7 +18,7 @@ returns c =
     let s = l .before .before .args in
     let t = s .text .now in
     let e = l .read-line .ensures .0 in
-    let answer = k .list .ensures .0 ∙ (λ i. write (page (replicate 161159 0) 0) (answerOf (line-is t (s .at) e i) (room 5200) (room 2000))) in
+    let answer = k .list .ensures .0 ∙ (λ i. write (page (replicate 202727 0) 0) (answerOf (line-is t (s .at) e i) (room 5200) (room 2000))) in
     c .said .ensures ∙ (λ i. withSaid t (begun (e i .next)) (answer i))
 
 pub listing-case-spec : {M : Type 1} → statement M
