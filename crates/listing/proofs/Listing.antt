@@ -20,7 +20,7 @@ use Rattle.cells.specs.Cells.{cellWords}
 use Rattle.algebra.proofs.Tests.{and-split}
 use Rattle.store.specs.Store.{maxWord}
 use Rattle.channel.specs.Layout.{Form, channels, headerSize, recordSize, word, chain, dimAt, blockAt}
-use Rattle.channel.specs.WellFormed.{storeOk, isDim, headerOk, chained, wellFormed}
+use Rattle.channel.specs.WellFormed.{storeOk, isDim, headerOk, chained, wellFormedIn, wellFormed}
 use Rattle.channel.proofs.Words.{dim-range}
 use Rattle.text.specs.Decimal.{decimal}
 use Rattle.text.specs.Page.{Page}
@@ -71,7 +71,7 @@ pub record Header (l : List ℤ) : Type 0 where
   pub count : upTo ((length l - headerSize) / recordSize (channels (dimAt l))) (word l 2) ≡ true
 
 pub header : (l : List ℤ) → wellFormed l ≡ true → Header l
-unfolding wellFormed
+unfolding wellFormed wellFormedIn
 header l e =
     let t = and-split (leb headerSize (length l)) _ (and-split (headerOk (channels (dimAt l)) l) (chained (channels (dimAt l)) l) e .0) in
     let u = and-split (isDim (word l 0) && upTo 64 (word l 1)) _ (t .1) in

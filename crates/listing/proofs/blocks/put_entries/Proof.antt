@@ -48,8 +48,8 @@ loop-less c = omega arith
 
 loop-again : tie.Need-loop-again Inv-loop μ-loop
 loop-again c =
-    let e = c .before .before .before in
-    let l = e .before .before .before in
+    let e = c .before .before .before .before in
+    let l = e .before .before in
     let s = l .before .before in
     let line = ap (λ (x : Scalar). entryLine (l .loop .k / s .args .w) (l .loop .k % s .args .w) (value x)) (e .read-entry .ensures) in
     (omega arith, text (entries-more (s .args .w) (l .loop .k) (entryAt (channels (dimAt (s .args .s .now))) (s .args .s .now) (s .args .place))) (then (l .loop .inv .1) (text line (c .before .before .put-entry .ensures))))

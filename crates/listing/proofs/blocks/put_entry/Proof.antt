@@ -40,6 +40,7 @@ pub put-entry-spec : {M : Type 1} → statement M
 put-entry-spec =
     tie.close
     (tie.spec
+    (λ c κs. search needs)
     returns
     put-decimal-requires
     put-natural-requires
