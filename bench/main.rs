@@ -128,6 +128,40 @@ fn channel(calls: &Calls, w: &Words, ends: Option<&[u32]>, result: &mut [i64], w
     verdict
 }
 
+/// The calls of an earlier archive, whose channels may have another layout: no word of theirs is looked at.
+#[cfg(before)]
+mod before {
+    unsafe extern "C" {
+        pub fn before_foreituka_circuit_channel(qubits: u32, bits: u32, store: *const u8, store_bytes: usize, gates: *const u32, gate_words: usize,
+            limits: *const u64, result: *mut i64, result_words: usize, work: *mut i64, work_words: usize, index: *mut u64) -> u32;
+        pub fn before_foreituka_layered_channel(qubits: u32, bits: u32, store: *const u8, store_bytes: usize, gates: *const u32, gate_words: usize,
+            ends: *const u32, end_count: usize, limits: *const u64, result: *mut i64, result_words: usize, work: *mut i64, work_words: usize,
+            index: *mut u64) -> u32;
+        pub fn before_foreituka_compare(left: *const i64, left_words: usize, right: *const i64, right_words: usize, place: *mut u64, scalars: *mut i64) -> u32;
+    }
+    pub static CALLS: crate::calls::Calls = crate::calls::Calls {
+        name: "the archive before",
+        circuit_channel: before_foreituka_circuit_channel,
+        layered_channel: before_foreituka_layered_channel,
+        compare: before_foreituka_compare,
+        ..crate::calls::ARCHIVE
+    };
+}
+
+/// The archive that --before names.
+fn earlier() -> Option<&'static Calls> {
+    #[cfg(before)]
+    return Some(&before::CALLS);
+    #[cfg(not(before))]
+    return None;
+}
+
+/// Room for a channel and its work in that archive's layout, which may have five words an entry.
+fn earlier_rooms(w: &Words) -> (Vec<i64>, Vec<i64>) {
+    let (result, work) = w.channel_sizes();
+    (vec![0; 4 + 5 * result / 4], vec![0; work])
+}
+
 fn compare(calls: &Calls, left: &[i64], right: &[i64]) -> u32 {
     let (mut place, mut scalars) = ([0; 3], [0; 10]);
     unsafe { (calls.compare)(left.as_ptr(), left.len(), right.as_ptr(), right.len(), place.as_mut_ptr(), scalars.as_mut_ptr()) }
@@ -208,6 +242,9 @@ const PLAIN_BAR: f64 = 1.1;
 /// At most how many times the floor: channels of four qubits that are little but zeros, and two channels that are compared.
 const WRITING_BAR: f64 = 1.2;
 const READING_BAR: f64 = 2.5;
+/// No row slower than in an earlier archive, by more than the clock's noise; weight 48 on four qubits a quarter faster.
+const BEFORE_BAR: f64 = 1.05;
+const FASTER_BAR: f64 = 0.75;
 
 /// What is asked of a row.
 #[derive(Clone, Copy, Default)]
@@ -215,6 +252,8 @@ struct Bars {
     rust: Option<f64>,
     plain: Option<f64>,
     floor: Option<f64>,
+    /// At most how many times the time of the archive before.
+    before: Option<f64>,
 }
 
 /// What a floor does, and to how many words: rows of the same have one floor, the least of theirs.
@@ -224,6 +263,7 @@ struct Line {
     name: String,
     bars: Bars,
     rust: f64,
+    before: f64,
     archive: f64,
     plain: f64,
     of: Floor,
@@ -236,7 +276,12 @@ struct Line {
 impl Line {
     fn print(&self) {
         let times = if self.rust.is_nan() { "–".into() } else { format!("{:.0}", self.rust / self.archive) };
-        println!("| {} | {} | {} | {} | {times} | {:.2} | {} | {} | {:.1} |", self.name, show(self.rust), show(self.archive), show(self.plain),
+        let before = match earlier() {
+            None => String::new(),
+            Some(_) if self.before.is_nan() => " – | – |".into(),
+            Some(_) => format!(" {} | {:.2} |", show(self.before), self.archive / self.before),
+        };
+        println!("| {} | {} | {} | {} | {times} | {:.2} | {} | {} | {:.1} |{before}", self.name, show(self.rust), show(self.archive), show(self.plain),
             self.archive / self.plain, show(self.floor), show(self.copy), self.archive / self.floor.max(1.0));
     }
     fn misses(&self) -> Vec<String> {
@@ -252,6 +297,9 @@ impl Line {
         }
         if let Some(bar) = self.bars.floor.filter(|b| self.archive / self.floor > *b) {
             out.push(format!("{}: {:.2} times the floor, the bar is {bar}", self.name, self.archive / self.floor));
+        }
+        if let Some(bar) = self.bars.before.filter(|b| self.archive / self.before > *b) {
+            out.push(format!("{}: {:.2} times the time of the archive before, the bar is {bar}", self.name, self.archive / self.before));
         }
         out
     }
@@ -463,12 +511,14 @@ fn main() {
         let source = result.clone();
         let (mut a, mut b, mut floor) = (result.clone(), work.clone(), result.clone());
         let (mut floor2, mut zeroed) = (result.clone(), work.clone());
+        let (mut old_result, mut old_work) = earlier_rooms(w);
         let t = medians(samples, budget, &mut [
             &mut || assert_eq!(channel(&ARCHIVE, w, ends, &mut result, &mut work), 0),
             &mut || assert_eq!(channel(&PLAIN, w, ends, &mut a, &mut b), 0),
             &mut || { black_box(&mut floor[..used]).fill(0); black_box(&floor); },
             &mut || { black_box(&mut floor2[..used]).copy_from_slice(&source[..used]); black_box(&floor2); },
             &mut || { black_box(&mut zeroed[..]).fill(0); black_box(&zeroed); },
+            &mut || if let Some(calls) = earlier() { assert_eq!(channel(calls, w, ends, &mut old_result, &mut old_work), 0) },
         ]);
         let c = w.circuit().unwrap();
         let rust = rust_median(most, rust_budget, || { black_box(rust::circuit_channel(&c, &w.store, &CEILINGS).is_ok()); });
@@ -478,8 +528,10 @@ fn main() {
             _ => growth.push((r.family, vec![(w.qubits, lines.len(), units)])),
         }
         let floor = (w.qubits == 4 && ["no gates", "GHZ"].contains(&r.family)).then_some(WRITING_BAR);
-        let bars = Bars { rust: Some(if r.deep { DEEP_BAR } else { BAR }), floor, ..plain_bar };
-        measured(&mut lines, Line { name: format!("{} | {}", r.family, w.qubits), bars, rust, archive: t[0], plain: t[1], of: ("write", used), floor: t[2], copy: t[3], zeroing: t[4] });
+        let faster = if w.qubits == 4 && r.family == "deep, weight 48" { FASTER_BAR } else { BEFORE_BAR };
+        let bars = Bars { rust: Some(if r.deep { DEEP_BAR } else { BAR }), floor, before: Some(faster), ..plain_bar };
+        let before = if earlier().is_some() { t[5] } else { f64::NAN };
+        measured(&mut lines, Line { name: format!("{} | {}", r.family, w.qubits), bars, rust, before, archive: t[0], plain: t[1], of: ("write", used), floor: t[2], copy: t[3], zeroing: t[4] });
     }
     // every pair of gates is asked before the limit on qubits is
     for (name, kind, used) in full.iter().filter(|f| only.as_ref().is_none_or(|o| f.0.contains(o.as_str()))) {
@@ -493,7 +545,7 @@ fn main() {
             &mut || { black_box(black_box(&w.gates).iter().fold(0, |a, g| a ^ g)); },
             &mut || { black_box(&mut copy[..]).copy_from_slice(&w.gates); black_box(&copy); },
         ]);
-        measured(&mut lines, Line { name: format!("{name} | {}", w.qubits), bars: plain_bar, rust: f64::NAN, archive: t[0], plain: t[1], of: ("gates", w.gates.len()), floor: t[2], copy: t[3], zeroing: 0.0 });
+        measured(&mut lines, Line { name: format!("{name} | {}", w.qubits), bars: plain_bar, rust: f64::NAN, before: f64::NAN, archive: t[0], plain: t[1], of: ("gates", w.gates.len()), floor: t[2], copy: t[3], zeroing: 0.0 });
     }
     // 1,024 gates on different qubits as a schedule of themselves: in order no two are asked whether they share, reversed every two are
     for (reversed, name) in [false, true].into_iter().zip(schedules).filter(|s| only.as_ref().is_none_or(|o| s.1.contains(o.as_str()))) {
@@ -514,7 +566,7 @@ fn main() {
             &mut || { black_box(black_box(&old).iter().chain(black_box(&new)).chain(black_box(&table)).fold(0, |a, w| a ^ w)); },
             &mut || { black_box(&mut copy[..]).copy_from_slice(&new); black_box(&copy); },
         ]);
-        measured(&mut lines, Line { name: format!("{name} | 1024"), bars: plain_bar, rust: f64::NAN, archive: t[0], plain: t[1], of: ("schedule", old.len()), floor: t[2], copy: t[3], zeroing: 0.0 });
+        measured(&mut lines, Line { name: format!("{name} | 1024"), bars: plain_bar, rust: f64::NAN, before: f64::NAN, archive: t[0], plain: t[1], of: ("schedule", old.len()), floor: t[2], copy: t[3], zeroing: 0.0 });
     }
     // the last gate replaced, removed and appended again, and the verdict asked after each
     for (count, name) in [1, 1024].into_iter().zip(kept).filter(|k| only.as_ref().is_none_or(|o| k.1.contains(o.as_str()))) {
@@ -546,7 +598,7 @@ fn main() {
             &mut || { black_box(&mut copy[..]).copy_from_slice(&source[..70]); black_box(&copy); },
         ]);
         assert!(a == b && a == source, "the archive and plain C leave other words");
-        measured(&mut lines, Line { name: format!("{name} | 1"), bars: plain_bar, rust: f64::NAN, archive: t[0], plain: t[1], of: ("counts", 70), floor: t[2], copy: t[3], zeroing: 0.0 });
+        measured(&mut lines, Line { name: format!("{name} | 1"), bars: plain_bar, rust: f64::NAN, before: f64::NAN, archive: t[0], plain: t[1], of: ("counts", 70), floor: t[2], copy: t[3], zeroing: 0.0 });
     }
     // 32 pairs of the same circuit on 3 qubits, all of them served
     if only.as_ref().is_none_or(|o| listed.contains(o.as_str())) {
@@ -574,7 +626,7 @@ fn main() {
             &mut || { black_box(&mut floor[..]).fill(0); black_box(&floor); },
             &mut || { black_box(&mut copy[..]).copy_from_slice(&source); black_box(&copy); },
         ]);
-        measured(&mut lines, Line { name: format!("{listed} | 3"), bars: plain_bar, rust: f64::NAN, archive: t[0], plain: t[1], of: ("write", floor.len()), floor: t[2], copy: t[3], zeroing: 0.0 });
+        measured(&mut lines, Line { name: format!("{listed} | 3"), bars: plain_bar, rust: f64::NAN, before: f64::NAN, archive: t[0], plain: t[1], of: ("write", floor.len()), floor: t[2], copy: t[3], zeroing: 0.0 });
     }
     for measures in [false, true] {
         let name = names[measures as usize];
@@ -588,17 +640,22 @@ fn main() {
             assert_eq!(compare(calls, &left, &right), 100, "{}: not the same", calls.name);
         }
         let mut copy = left.clone();
+        let (mut old_left, mut old_work) = earlier_rooms(&w);
+        earlier().into_iter().for_each(|calls| assert_eq!(channel(calls, &w, None, &mut old_left, &mut old_work), 0));
+        let old_right = old_left.clone();
         let t = medians(samples, budget, &mut [
             &mut || assert_eq!(compare(&ARCHIVE, &left, &right), 100),
             &mut || assert_eq!(compare(&PLAIN, &left, &right), 100),
             &mut || { black_box(black_box(&left).iter().chain(black_box(&right)).fold(0, |a, w| a ^ w)); },
             &mut || { black_box(&mut copy[..]).copy_from_slice(&left); black_box(&copy); },
+            &mut || if let Some(calls) = earlier() { assert_eq!(compare(calls, &old_left, &old_right), 100) },
         ]);
+        let before = if earlier().is_some() { t[4] } else { f64::NAN };
         let c = w.circuit().unwrap();
         let x = if asked("--no-rust") { None } else { rust::circuit_channel(&c, &w.store, &CEILINGS).ok() };
         let y = x.clone();
         let rust = rust_median(most, rust_budget, || assert!(black_box(x.as_ref().unwrap()).compare(black_box(y.as_ref().unwrap())).is_ok()));
-        measured(&mut lines, Line { name: format!("{name} | 4"), bars: Bars { floor: Some(READING_BAR), ..plain_bar }, rust, archive: t[0], plain: t[1], of: ("read", left.len() + right.len()), floor: t[2], copy: t[3], zeroing: 0.0 });
+        measured(&mut lines, Line { name: format!("{name} | 4"), bars: Bars { floor: Some(READING_BAR), before: Some(BEFORE_BAR), ..plain_bar }, rust, before, archive: t[0], plain: t[1], of: ("read", left.len() + right.len()), floor: t[2], copy: t[3], zeroing: 0.0 });
     }
     if only.as_ref().is_none_or(|o| omegas.contains(o.as_str())) {
         let mut answers = Vec::new();
@@ -618,11 +675,12 @@ fn main() {
         let power = |k: usize| Scalar::omega((black_box(k) % 256) as u8);
         assert!(asked("--no-rust") || answers[0].chunks_exact(5).enumerate().all(|(k, w)| rust::cell(&power(k)).unwrap() == w), "the archive and the Rust differ");
         let rust = rust_median(most, rust_budget, || (0..1024).for_each(|k| { black_box(power(k)); }));
-        measured(&mut lines, Line { name: format!("{omegas} | –"), bars: Bars::default(), rust, archive: t[0], plain: t[1], of: ("write", floor.len()), floor: t[2], copy: t[3], zeroing: 0.0 });
+        measured(&mut lines, Line { name: format!("{omegas} | –"), bars: Bars::default(), rust, before: f64::NAN, archive: t[0], plain: t[1], of: ("write", floor.len()), floor: t[2], copy: t[3], zeroing: 0.0 });
     }
     settle_floors(&mut lines);
-    println!("| circuit | n | Rust | archive | plain C | Rust ÷ archive | archive ÷ plain C | floor | memcpy | archive ÷ floor |");
-    println!("|---|---|---|---|---|---|---|---|---|---|");
+    let (before, dashes) = if earlier().is_some() { (" before | archive ÷ before |", "---|---|") } else { ("", "") };
+    println!("| circuit | n | Rust | archive | plain C | Rust ÷ archive | archive ÷ plain C | floor | memcpy | archive ÷ floor |{before}");
+    println!("|---|---|---|---|---|---|---|---|---|---|{dashes}");
     lines.iter().for_each(Line::print);
     println!("\nThe floor: writing the result's words once by memset; for compare, reading both channels' words once; one for each number of words, the least over all rows;");
     println!("for a refused layer, reading the gates' words once; for a schedule, those of both lists and the table; for a keystroke, reading the counts once; for a list of pairs, writing the words of all its channels once.");
