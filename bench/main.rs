@@ -15,6 +15,8 @@ use calls::{ARCHIVE, CEILINGS, Calls, PLAIN};
 use rust::Words;
 use semantics::test_support::Scalar;
 use std::hint::black_box;
+use std::io::Write;
+use std::process::{Command, Stdio};
 use std::time::{Duration, Instant};
 
 struct Row {
@@ -126,6 +128,40 @@ fn channel(calls: &Calls, w: &Words, ends: Option<&[u32]>, result: &mut [i64], w
     verdict
 }
 
+/// The calls of an earlier archive, whose channels may have another layout: no word of theirs is looked at.
+#[cfg(before)]
+mod before {
+    unsafe extern "C" {
+        pub fn before_foreituka_circuit_channel(qubits: u32, bits: u32, store: *const u8, store_bytes: usize, gates: *const u32, gate_words: usize,
+            limits: *const u64, result: *mut i64, result_words: usize, work: *mut i64, work_words: usize, index: *mut u64) -> u32;
+        pub fn before_foreituka_layered_channel(qubits: u32, bits: u32, store: *const u8, store_bytes: usize, gates: *const u32, gate_words: usize,
+            ends: *const u32, end_count: usize, limits: *const u64, result: *mut i64, result_words: usize, work: *mut i64, work_words: usize,
+            index: *mut u64) -> u32;
+        pub fn before_foreituka_compare(left: *const i64, left_words: usize, right: *const i64, right_words: usize, place: *mut u64, scalars: *mut i64) -> u32;
+    }
+    pub static CALLS: crate::calls::Calls = crate::calls::Calls {
+        name: "the archive before",
+        circuit_channel: before_foreituka_circuit_channel,
+        layered_channel: before_foreituka_layered_channel,
+        compare: before_foreituka_compare,
+        ..crate::calls::ARCHIVE
+    };
+}
+
+/// The archive that --before names.
+fn earlier() -> Option<&'static Calls> {
+    #[cfg(before)]
+    return Some(&before::CALLS);
+    #[cfg(not(before))]
+    return None;
+}
+
+/// Room for a channel and its work in that archive's layout, which may have five words an entry.
+fn earlier_rooms(w: &Words) -> (Vec<i64>, Vec<i64>) {
+    let (result, work) = w.channel_sizes();
+    (vec![0; 4 + 5 * result / 4], vec![0; work])
+}
+
 fn compare(calls: &Calls, left: &[i64], right: &[i64]) -> u32 {
     let (mut place, mut scalars) = ([0; 3], [0; 10]);
     unsafe { (calls.compare)(left.as_ptr(), left.len(), right.as_ptr(), right.len(), place.as_mut_ptr(), scalars.as_mut_ptr()) }
@@ -199,16 +235,38 @@ fn show(ns: f64) -> String {
     }
 }
 
-/// How many times the Rust's speed a row asks for.
+/// How many times the Rust's speed a row asks for, and at most how many times plain C's time.
 const BAR: f64 = 150.0;
 const DEEP_BAR: f64 = 1000.0;
+const PLAIN_BAR: f64 = 1.1;
+/// At most how many times the floor: channels of four qubits that are little but zeros, and two channels that are compared.
+const WRITING_BAR: f64 = 1.2;
+const READING_BAR: f64 = 2.5;
+/// No row slower than in an earlier archive, by more than the clock's noise; weight 48 on four qubits a quarter faster.
+const BEFORE_BAR: f64 = 1.05;
+const FASTER_BAR: f64 = 0.75;
+
+/// What is asked of a row.
+#[derive(Clone, Copy, Default)]
+struct Bars {
+    rust: Option<f64>,
+    plain: Option<f64>,
+    floor: Option<f64>,
+    /// At most how many times the time of the archive before.
+    before: Option<f64>,
+}
+
+/// What a floor does, and to how many words: rows of the same have one floor, the least of theirs.
+type Floor = (&'static str, usize);
 
 struct Line {
     name: String,
-    deep: bool,
+    bars: Bars,
     rust: f64,
+    before: f64,
     archive: f64,
     plain: f64,
+    of: Floor,
     floor: f64,
     copy: f64,
     /// Writing the work words once: they have to be zero at the end.
@@ -218,22 +276,46 @@ struct Line {
 impl Line {
     fn print(&self) {
         let times = if self.rust.is_nan() { "–".into() } else { format!("{:.0}", self.rust / self.archive) };
-        println!("| {} | {} | {} | {} | {times} | {:.2} | {} | {} | {:.1} |", self.name, show(self.rust), show(self.archive), show(self.plain),
+        let before = match earlier() {
+            None => String::new(),
+            Some(_) if self.before.is_nan() => " – | – |".into(),
+            Some(_) => format!(" {} | {:.2} |", show(self.before), self.archive / self.before),
+        };
+        println!("| {} | {} | {} | {} | {times} | {:.2} | {} | {} | {:.1} |{before}", self.name, show(self.rust), show(self.archive), show(self.plain),
             self.archive / self.plain, show(self.floor), show(self.copy), self.archive / self.floor.max(1.0));
     }
     fn misses(&self) -> Vec<String> {
         let mut out = Vec::new();
-        let bar = if self.deep { DEEP_BAR } else { BAR };
-        if self.rust / self.archive < bar {
+        if let Some(bar) = self.bars.rust.filter(|b| self.rust / self.archive < *b) {
             let floor = self.rust / (self.floor + self.zeroing);
             let what = if self.zeroing > 0.0 { "the floor and the zeroing of the work words alone are" } else { "the floor alone is" };
             let why = if floor < bar { format!("; {what} at {floor:.0} times") } else { String::new() };
             out.push(format!("{}: {:.0} times the Rust's speed, the bar is {bar}{why}", self.name, self.rust / self.archive));
         }
-        if self.archive / self.plain > 1.3 {
-            out.push(format!("{}: {:.2} times the plain C version's time, the bar is 1.3", self.name, self.archive / self.plain));
+        if let Some(bar) = self.bars.plain.filter(|b| self.archive / self.plain > *b) {
+            out.push(format!("{}: {:.2} times the plain C version's time, the bar is {bar}", self.name, self.archive / self.plain));
+        }
+        if let Some(bar) = self.bars.floor.filter(|b| self.archive / self.floor > *b) {
+            out.push(format!("{}: {:.2} times the floor, the bar is {bar}", self.name, self.archive / self.floor));
+        }
+        if let Some(bar) = self.bars.before.filter(|b| self.archive / self.before > *b) {
+            out.push(format!("{}: {:.2} times the time of the archive before, the bar is {bar}", self.name, self.archive / self.before));
         }
         out
+    }
+}
+
+/// A row is measured: the rows are printed at the end, when the floors are known.
+fn measured(lines: &mut Vec<Line>, line: Line) {
+    eprintln!("  {}: {}", line.name.replace(" | ", ", n = "), show(line.archive));
+    lines.push(line);
+}
+
+/// One floor for each size: the least over all rows.
+fn settle_floors(lines: &mut [Line]) {
+    let measured: Vec<(Floor, f64)> = lines.iter().map(|l| (l.of, l.floor)).collect();
+    for line in lines {
+        line.floor = measured.iter().filter(|(of, _)| *of == line.of).map(|(_, t)| *t).fold(line.floor, f64::min);
     }
 }
 
@@ -252,12 +334,74 @@ fn agreed(w: &Words, ends: Option<&[u32]>) -> (Vec<i64>, Vec<i64>) {
         return (answers.swap_remove(0), vec![0; work_words]);
     }
     let rust = rust::circuit_channel(&w.circuit().unwrap(), &w.store, &CEILINGS).expect("the Rust refuses");
-    let size = 3 + 5 * (1usize << w.qubits).pow(4);
-    let order: Vec<u64> = (0..answers[0][2] as usize).map(|j| 4 + j * size).map(|at| answers[0][at + 1] as u64 | (answers[0][at + 2] as u64) << 32).collect();
+    let size = rust::record_words(1 << (2 * w.qubits));
+    let order: Vec<u64> = (0..answers[0][2] as usize).map(|j| rust::HEADER + j * size).map(|at| answers[0][at + 1] as u64 | (answers[0][at + 2] as u64) << 32).collect();
     let mut want = rust::layout(rust.quantum_dim, rust.num_cbits, &order, rust.blocks.iter()).expect("the Rust has other stores");
     want.resize(result_words, -7);
     assert!(answers[0] == want, "the archive and the Rust differ");
     (answers.swap_remove(0), vec![0; work_words])
+}
+
+// ---- as a user has it: two channels and compare
+
+/// Of these circuits on four qubits, beside numpy.
+const PAIRS: [&str; 3] = ["GHZ", "h and t on all", "deep, weight 48"];
+
+fn pair_name(family: &str) -> String {
+    format!("two channels and compare, {family}")
+}
+
+/// Nanoseconds of the same in numpy, by channels.py, which NUMPY names behind its interpreter; none where it is not there or left out.
+fn numpy(rows: &[&Row], samples: usize, budget: Duration) -> Vec<f64> {
+    let command = std::env::var("NUMPY").unwrap_or_default();
+    let Some((python, script)) = command.split_once(' ').filter(|_| !asked("--no-numpy")) else { return vec![f64::NAN; rows.len()] };
+    let (samples, seconds) = (samples.to_string(), budget.as_secs_f64().to_string());
+    let mut asking = Command::new(python);
+    asking.args([script, "--samples", &samples, "--seconds", &seconds]).args(asked("--minimum").then_some("--minimum")).stdin(Stdio::piped()).stdout(Stdio::piped());
+    let mut child = asking.spawn().expect("channels.py");
+    let mut given = child.stdin.take().unwrap();
+    for r in rows {
+        let gates: Vec<String> = r.words.gates.chunks_exact(5).flat_map(|g| &g[..3]).map(|w| w.to_string()).collect();
+        writeln!(given, "{} {}", r.words.qubits, gates.join(" ")).unwrap();
+    }
+    drop(given);
+    let out = child.wait_with_output().unwrap();
+    assert!(out.status.success(), "channels.py failed");
+    String::from_utf8(out.stdout).unwrap().lines().map(|l| l.parse().unwrap()).collect()
+}
+
+/// Prints the rows, and answers how many there are and which bars are missed: faster than numpy, and plain C's bar.
+fn pairs(samples: usize, budget: Duration, only: Option<&str>) -> (usize, Vec<String>) {
+    let all = rows();
+    let chosen: Vec<&Row> = all.iter().filter(|r| r.words.qubits == 4 && PAIRS.contains(&r.family) && only.is_none_or(|o| pair_name(r.family).contains(o))).collect();
+    if chosen.is_empty() {
+        return (0, Vec::new());
+    }
+    println!("\nAs a user has it: two channels of four qubits, and compare, which finds them the same. Beside them numpy in double precision, by hand: outer products,");
+    println!("and the largest difference (bench/channels.py).\n");
+    println!("| circuit, twice | n | numpy | archive | plain C | numpy ÷ archive | archive ÷ plain C |\n|---|---|---|---|---|---|---|");
+    let mut misses = Vec::new();
+    for (r, numpy) in chosen.iter().zip(numpy(&chosen, samples, budget)) {
+        let w = &r.words;
+        let (left, work) = agreed(w, None);
+        let run = |calls: &Calls, buffers: &mut [Vec<i64>; 3]| {
+            let [left, right, work] = buffers;
+            assert_eq!((channel(calls, w, None, left, work), channel(calls, w, None, right, work), compare(calls, left, right)), (0, 0, 100), "{}", calls.name);
+        };
+        let mut a = [left.clone(), left.clone(), work.clone()];
+        let mut b = a.clone();
+        let t = medians(samples, budget, &mut [&mut || run(&ARCHIVE, &mut a), &mut || run(&PLAIN, &mut b)]);
+        let times = if numpy.is_nan() { "–".into() } else { format!("{:.2}", numpy / t[0]) };
+        println!("| {} | 4 | {} | {} | {} | {times} | {:.2} |", r.family, show(numpy), show(t[0]), show(t[1]), t[0] / t[1]);
+        let name = pair_name(r.family);
+        if numpy <= t[0] {
+            misses.push(format!("{name}: numpy takes {:.2} times our time, the bar is more than 1", numpy / t[0]));
+        }
+        if t[0] / t[1] > PLAIN_BAR {
+            misses.push(format!("{name}: {:.2} times the plain C version's time, the bar is {PLAIN_BAR}", t[0] / t[1]));
+        }
+    }
+    (chosen.len(), misses)
 }
 
 // ---- texts
@@ -349,39 +493,45 @@ fn main() {
     // 1,024 gates on different qubits: kind, qubits of a gate
     let full = [("1,024 x in one layer, refused", X, 1), ("1,024 ccx in one layer, refused", CCX, 3)];
     if let Some(o) = &only {
-        if !rows().iter().map(|r| r.family).chain(names).chain([omegas]).chain(TEXTS).chain(full.map(|f| f.0)).chain(schedules).chain(kept).chain([listed]).any(|n| n.contains(o.as_str())) {
+        if !rows().iter().map(|r| r.family).chain(names).chain([omegas]).chain(TEXTS).chain(full.map(|f| f.0)).chain(schedules).chain(kept).chain([listed]).any(|n| n.contains(o.as_str()))
+            && !PAIRS.iter().any(|f| pair_name(f).contains(o.as_str()))
+        {
             eprintln!("no circuit's name has the words {o:?}");
             std::process::exit(2);
         }
     }
-    println!("| circuit | n | Rust | archive | plain C | Rust ÷ archive | archive ÷ plain C | floor | memcpy | archive ÷ floor |");
-    println!("|---|---|---|---|---|---|---|---|---|---|");
-    let mut lines = Vec::new();
-    let mut growth: Vec<(&str, Vec<(u32, f64, f64, f64)>)> = Vec::new();
+    let mut lines: Vec<Line> = Vec::new();
+    // qubits, line, entries
+    let mut growth: Vec<(&str, Vec<(u32, usize, f64)>)> = Vec::new();
+    let plain_bar = Bars { plain: Some(PLAIN_BAR), ..Bars::default() };
     for r in rows().iter().filter(|r| only.as_ref().is_none_or(|o| r.family.contains(o.as_str()))) {
         let (w, ends) = (&r.words, r.ends.as_deref());
         let (mut result, mut work) = agreed(w, ends);
-        let used = (4 + result[2] as usize * (3 + 5 * (1usize << w.qubits).pow(4))).min(result.len());
+        let used = rust::channel_words(1 << w.qubits, result[2] as usize);
         let source = result.clone();
         let (mut a, mut b, mut floor) = (result.clone(), work.clone(), result.clone());
         let (mut floor2, mut zeroed) = (result.clone(), work.clone());
+        let (mut old_result, mut old_work) = earlier_rooms(w);
         let t = medians(samples, budget, &mut [
             &mut || assert_eq!(channel(&ARCHIVE, w, ends, &mut result, &mut work), 0),
             &mut || assert_eq!(channel(&PLAIN, w, ends, &mut a, &mut b), 0),
             &mut || { black_box(&mut floor[..used]).fill(0); black_box(&floor); },
             &mut || { black_box(&mut floor2[..used]).copy_from_slice(&source[..used]); black_box(&floor2); },
             &mut || { black_box(&mut zeroed[..]).fill(0); black_box(&zeroed); },
+            &mut || if let Some(calls) = earlier() { assert_eq!(channel(calls, w, ends, &mut old_result, &mut old_work), 0) },
         ]);
         let c = w.circuit().unwrap();
         let rust = rust_median(most, rust_budget, || { black_box(rust::circuit_channel(&c, &w.store, &CEILINGS).is_ok()); });
-        let line = Line { name: format!("{} | {}", r.family, w.qubits), deep: r.deep, rust, archive: t[0], plain: t[1], floor: t[2], copy: t[3], zeroing: t[4] };
-        line.print();
-        lines.push(line);
         let units = (1u64 << (4 * w.qubits)) as f64 * (1u64 << w.splits().1) as f64;
         match growth.last_mut() {
-            Some((family, points)) if *family == r.family => points.push((w.qubits, t[0], units, t[2])),
-            _ => growth.push((r.family, vec![(w.qubits, t[0], units, t[2])])),
+            Some((family, points)) if *family == r.family => points.push((w.qubits, lines.len(), units)),
+            _ => growth.push((r.family, vec![(w.qubits, lines.len(), units)])),
         }
+        let floor = (w.qubits == 4 && ["no gates", "GHZ"].contains(&r.family)).then_some(WRITING_BAR);
+        let faster = if w.qubits == 4 && r.family == "deep, weight 48" { FASTER_BAR } else { BEFORE_BAR };
+        let bars = Bars { rust: Some(if r.deep { DEEP_BAR } else { BAR }), floor, before: Some(faster), ..plain_bar };
+        let before = if earlier().is_some() { t[5] } else { f64::NAN };
+        measured(&mut lines, Line { name: format!("{} | {}", r.family, w.qubits), bars, rust, before, archive: t[0], plain: t[1], of: ("write", used), floor: t[2], copy: t[3], zeroing: t[4] });
     }
     // every pair of gates is asked before the limit on qubits is
     for (name, kind, used) in full.iter().filter(|f| only.as_ref().is_none_or(|o| f.0.contains(o.as_str()))) {
@@ -395,9 +545,7 @@ fn main() {
             &mut || { black_box(black_box(&w.gates).iter().fold(0, |a, g| a ^ g)); },
             &mut || { black_box(&mut copy[..]).copy_from_slice(&w.gates); black_box(&copy); },
         ]);
-        let line = Line { name: format!("{name} | {}", w.qubits), deep: false, rust: f64::NAN, archive: t[0], plain: t[1], floor: t[2], copy: t[3], zeroing: 0.0 };
-        line.print();
-        lines.push(line);
+        measured(&mut lines, Line { name: format!("{name} | {}", w.qubits), bars: plain_bar, rust: f64::NAN, before: f64::NAN, archive: t[0], plain: t[1], of: ("gates", w.gates.len()), floor: t[2], copy: t[3], zeroing: 0.0 });
     }
     // 1,024 gates on different qubits as a schedule of themselves: in order no two are asked whether they share, reversed every two are
     for (reversed, name) in [false, true].into_iter().zip(schedules).filter(|s| only.as_ref().is_none_or(|o| s.1.contains(o.as_str()))) {
@@ -418,9 +566,7 @@ fn main() {
             &mut || { black_box(black_box(&old).iter().chain(black_box(&new)).chain(black_box(&table)).fold(0, |a, w| a ^ w)); },
             &mut || { black_box(&mut copy[..]).copy_from_slice(&new); black_box(&copy); },
         ]);
-        let line = Line { name: format!("{name} | 1024"), deep: false, rust: f64::NAN, archive: t[0], plain: t[1], floor: t[2], copy: t[3], zeroing: 0.0 };
-        line.print();
-        lines.push(line);
+        measured(&mut lines, Line { name: format!("{name} | 1024"), bars: plain_bar, rust: f64::NAN, before: f64::NAN, archive: t[0], plain: t[1], of: ("schedule", old.len()), floor: t[2], copy: t[3], zeroing: 0.0 });
     }
     // the last gate replaced, removed and appended again, and the verdict asked after each
     for (count, name) in [1, 1024].into_iter().zip(kept).filter(|k| only.as_ref().is_none_or(|o| k.1.contains(o.as_str()))) {
@@ -452,9 +598,7 @@ fn main() {
             &mut || { black_box(&mut copy[..]).copy_from_slice(&source[..70]); black_box(&copy); },
         ]);
         assert!(a == b && a == source, "the archive and plain C leave other words");
-        let line = Line { name: format!("{name} | 1"), deep: false, rust: f64::NAN, archive: t[0], plain: t[1], floor: t[2], copy: t[3], zeroing: 0.0 };
-        line.print();
-        lines.push(line);
+        measured(&mut lines, Line { name: format!("{name} | 1"), bars: plain_bar, rust: f64::NAN, before: f64::NAN, archive: t[0], plain: t[1], of: ("counts", 70), floor: t[2], copy: t[3], zeroing: 0.0 });
     }
     // 32 pairs of the same circuit on 3 qubits, all of them served
     if only.as_ref().is_none_or(|o| listed.contains(o.as_str())) {
@@ -482,9 +626,7 @@ fn main() {
             &mut || { black_box(&mut floor[..]).fill(0); black_box(&floor); },
             &mut || { black_box(&mut copy[..]).copy_from_slice(&source); black_box(&copy); },
         ]);
-        let line = Line { name: format!("{listed} | 3"), deep: false, rust: f64::NAN, archive: t[0], plain: t[1], floor: t[2], copy: t[3], zeroing: 0.0 };
-        line.print();
-        lines.push(line);
+        measured(&mut lines, Line { name: format!("{listed} | 3"), bars: plain_bar, rust: f64::NAN, before: f64::NAN, archive: t[0], plain: t[1], of: ("write", floor.len()), floor: t[2], copy: t[3], zeroing: 0.0 });
     }
     for measures in [false, true] {
         let name = names[measures as usize];
@@ -498,19 +640,22 @@ fn main() {
             assert_eq!(compare(calls, &left, &right), 100, "{}: not the same", calls.name);
         }
         let mut copy = left.clone();
+        let (mut old_left, mut old_work) = earlier_rooms(&w);
+        earlier().into_iter().for_each(|calls| assert_eq!(channel(calls, &w, None, &mut old_left, &mut old_work), 0));
+        let old_right = old_left.clone();
         let t = medians(samples, budget, &mut [
             &mut || assert_eq!(compare(&ARCHIVE, &left, &right), 100),
             &mut || assert_eq!(compare(&PLAIN, &left, &right), 100),
             &mut || { black_box(black_box(&left).iter().chain(black_box(&right)).fold(0, |a, w| a ^ w)); },
             &mut || { black_box(&mut copy[..]).copy_from_slice(&left); black_box(&copy); },
+            &mut || if let Some(calls) = earlier() { assert_eq!(compare(calls, &old_left, &old_right), 100) },
         ]);
+        let before = if earlier().is_some() { t[4] } else { f64::NAN };
         let c = w.circuit().unwrap();
         let x = if asked("--no-rust") { None } else { rust::circuit_channel(&c, &w.store, &CEILINGS).ok() };
         let y = x.clone();
         let rust = rust_median(most, rust_budget, || assert!(black_box(x.as_ref().unwrap()).compare(black_box(y.as_ref().unwrap())).is_ok()));
-        let line = Line { name: format!("{name} | 4"), deep: false, rust, archive: t[0], plain: t[1], floor: t[2], copy: t[3], zeroing: 0.0 };
-        line.print();
-        lines.push(line);
+        measured(&mut lines, Line { name: format!("{name} | 4"), bars: Bars { floor: Some(READING_BAR), before: Some(BEFORE_BAR), ..plain_bar }, rust, before, archive: t[0], plain: t[1], of: ("read", left.len() + right.len()), floor: t[2], copy: t[3], zeroing: 0.0 });
     }
     if only.as_ref().is_none_or(|o| omegas.contains(o.as_str())) {
         let mut answers = Vec::new();
@@ -530,9 +675,14 @@ fn main() {
         let power = |k: usize| Scalar::omega((black_box(k) % 256) as u8);
         assert!(asked("--no-rust") || answers[0].chunks_exact(5).enumerate().all(|(k, w)| rust::cell(&power(k)).unwrap() == w), "the archive and the Rust differ");
         let rust = rust_median(most, rust_budget, || (0..1024).for_each(|k| { black_box(power(k)); }));
-        Line { name: format!("{omegas} | –"), deep: false, rust, archive: t[0], plain: t[1], floor: t[2], copy: t[3], zeroing: 0.0 }.print();
+        measured(&mut lines, Line { name: format!("{omegas} | –"), bars: Bars::default(), rust, before: f64::NAN, archive: t[0], plain: t[1], of: ("write", floor.len()), floor: t[2], copy: t[3], zeroing: 0.0 });
     }
-    println!("\nThe floor: writing the result's words once by memset; for compare, reading both channels' words once;");
+    settle_floors(&mut lines);
+    let (before, dashes) = if earlier().is_some() { (" before | archive ÷ before |", "---|---|") } else { ("", "") };
+    println!("| circuit | n | Rust | archive | plain C | Rust ÷ archive | archive ÷ plain C | floor | memcpy | archive ÷ floor |{before}");
+    println!("|---|---|---|---|---|---|---|---|---|---|{dashes}");
+    lines.iter().for_each(Line::print);
+    println!("\nThe floor: writing the result's words once by memset; for compare, reading both channels' words once; one for each number of words, the least over all rows;");
     println!("for a refused layer, reading the gates' words once; for a schedule, those of both lists and the table; for a keystroke, reading the counts once; for a list of pairs, writing the words of all its channels once.");
     println!("Scalars by omega have no bar.");
     println!("The Rust has no layers: beside them stands its channel of the gate list, and nothing beside a refusal, a schedule or a kept circuit, which it does not have.");
@@ -541,23 +691,26 @@ fn main() {
     println!("| circuit | n = 1 | 2 | 3 | 4 |\n|---|---|---|---|---|");
     let mut misses: Vec<String> = lines.iter().flat_map(|l| l.misses()).collect();
     for (family, points) in &growth {
-        let shown: Vec<String> = (1..=4).map(|n| points.iter().find(|p| p.0 == n).map_or("–".into(), |p| format!("{:.2}", p.1 / p.2))).collect();
+        let each = |p: &(u32, usize, f64), time: fn(&Line) -> f64| time(&lines[p.1]) / p.2;
+        let shown: Vec<String> = (1..=4).map(|n| points.iter().find(|p| p.0 == n).map_or("–".into(), |p| format!("{:.2}", each(p, |l| l.archive)))).collect();
         println!("| {family} | {} |", shown.join(" | "));
         for p in points.windows(2) {
-            let (time, floor) = (p[1].1 / p[0].1 / (p[1].2 / p[0].2), p[1].3 / p[0].3 / (p[1].2 / p[0].2));
+            let (time, floor) = (each(&p[1], |l| l.archive) / each(&p[0], |l| l.archive), each(&p[1], |l| l.floor) / each(&p[0], |l| l.floor));
             if time > 1.1 * floor.max(1.0) {
                 misses.push(format!("{family}: from n = {} to {} the time grows {time:.2} times as fast as d^4·V", p[0].0, p[1].0));
             }
         }
     }
+    let (pairs, missed) = pairs(samples, budget, only.as_deref());
+    misses.extend(missed);
     if only.as_ref().is_none_or(|o| TEXTS.iter().any(|n| n.contains(o.as_str()))) {
         texts(samples, budget, only.as_deref());
     }
     let (who, how) = (if asked("--no-rust") { "the archive" } else { "the Rust, the archive" }, if asked("--minimum") { "Minima" } else { "Medians" });
     println!("\nEvery word of every row agrees between {who} and plain C. {how}{}.", if quick { " of few repeats" } else { " of repeats" });
-    let measured = if asked("--no-rust") { " that were measured" } else { "" };
+    let some = if asked("--no-rust") || asked("--no-numpy") { " that were measured" } else { "" };
     if misses.is_empty() {
-        println!("All bars{measured} are met: {} rows.", lines.len());
+        println!("All bars{some} are met: {} rows.", lines.len() + pairs);
     } else {
         println!("Bars that are not met:");
         for m in misses {
@@ -565,6 +718,9 @@ fn main() {
         }
     }
     if asked("--no-rust") {
-        println!("Bars that were not measured, by --no-rust: the Rust's speed times {BAR}, or times {DEEP_BAR} for deep circuits, in all {} rows.", lines.len());
+        println!("Bars that were not measured, by --no-rust: the Rust's speed times {BAR}, or times {DEEP_BAR} for deep circuits, in all rows of circuits.");
+    }
+    if asked("--no-numpy") {
+        println!("Bars that were not measured, by --no-numpy: faster than numpy, in {pairs} rows.");
     }
 }

@@ -209,7 +209,9 @@ int main(void) {
             memcpy(right, left, sizeof left);
             of[COMPARE] = most(of[COMPARE], used_by(compare));
             if (reply != FOREITUKA_SAME) return fprintf(stderr, "memory: not the same: %u\n", reply), 1;
-            right[7 + 5 * ((size_t)1 << 4 * n) - 1] ^= 1; /* the last word of the first block: malformed or different */
+            right[FOREITUKA_HEADER_WORDS + FOREITUKA_RECORD_WORDS(n) - 1] ^= 1; /* the last numerator of the first block: different */
+            of[COMPARE] = most(of[COMPARE], used_by(compare));
+            right[FOREITUKA_HEADER_WORDS + FOREITUKA_EXPONENT_PLACE] += 1; /* and its exponent, so that entries have to be brought to lowest form */
             of[COMPARE] = most(of[COMPARE], used_by(compare));
             of[BLOCKS] = most(of[BLOCKS], used_by(blocks));
             of[POVM] = most(of[POVM], used_by(povm));

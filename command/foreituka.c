@@ -573,6 +573,17 @@ static int store_of(const int64_t *channel, int64_t at, uint8_t stored[BITS + 1]
     return channel[1] ? (int)foreituka_store_text(value, (uint32_t)channel[1], stored, BITS + 1) : 0;
 }
 
+/* entry i of the record at `at` as a scalar: its numerators over the exponent of the record, in lowest form */
+static void entry_of(const int64_t *channel, int64_t at, size_t i, int64_t x[5])
+{
+    memcpy(x, channel + at + FOREITUKA_RECORD_HEAD + FOREITUKA_ENTRY_WORDS * i, FOREITUKA_ENTRY_WORDS * sizeof *x);
+    x[4] = channel[at + FOREITUKA_EXPONENT_PLACE];
+    while (x[4] > 0 && !((x[0] | x[1] | x[2] | x[3]) & 1)) {
+        for (int j = 0; j < FOREITUKA_ENTRY_WORDS; j++) x[j] /= 2;
+        x[4]--;
+    }
+}
+
 /* Prints the records of a channel, or of its effects: a channel's entry (row, column), an effect's term |row⟩⟨column|. The effects are the
  * textbook's, of which tr(E ρ) is the store's probability. */
 static void put_records(const int64_t *channel, int is_effects, const char *name)
@@ -594,7 +605,8 @@ static void put_records(const int64_t *channel, int is_effects, const char *name
         comma = "";
         for (size_t i = 0; i < side * side; i++) {
             size_t row = i / side, column = i % side;
-            const int64_t *x = channel + at + 3 + 5 * i;
+            int64_t x[5];
+            entry_of(channel, at, i, x);
             if (!x[0] && !x[1] && !x[2] && !x[3]) continue;
             if (json) {
                 printf("%s\n{\"row\":%zu,\"column\":%zu,\"exact\":", comma, row, column);
@@ -636,10 +648,10 @@ static int put_odds(void)
         }
         comma = "";
         for (int64_t at = effects[3]; at; at = effects[at]) {
-            const int64_t *x = effects + at + 3 + 5 * (input * dim + input);
-            int64_t sum[5];
+            int64_t x[5], sum[5];
             uint8_t stored[BITS + 1];
             int n = store_of(effects, at, stored);
+            entry_of(effects, at, input * dim + input, x);
             if (foreituka_scalar_add(total, x, sum) != FOREITUKA_ACCEPTED) return 0;
             memcpy(total, sum, sizeof total);
             if (json) {

@@ -6,12 +6,13 @@ macro_rules! calls {
             $(fn $archive($($arg: $type),*) -> $reply;
               fn $plain($($arg: $type),*) -> $reply;)*
         }
+        #[derive(Clone, Copy)]
         pub struct Calls {
             pub name: &'static str,
             $(pub $name: unsafe extern "C" fn($($arg: $type),*) -> $reply,)*
         }
-        pub static ARCHIVE: Calls = Calls { name: "the archive", $($name: $archive,)* };
-        pub static PLAIN: Calls = Calls { name: "plain C", $($name: $plain,)* };
+        pub const ARCHIVE: Calls = Calls { name: "the archive", $($name: $archive,)* };
+        pub const PLAIN: Calls = Calls { name: "plain C", $($name: $plain,)* };
     };
 }
 

@@ -4,7 +4,7 @@ use crate::calls::kind::{CH, CNOT, H, MEASURE, RESET, RZ, SX, T, X};
 use crate::checks::{Case, Damage, Edit, KEPT_HEAD, MAX_WEIGHT, NARROW, NARROW_EXPONENT, Operation, WIDEST, terms, weight};
 use crate::lent::Rng;
 use crate::programs;
-use crate::rust::Words;
+use crate::rust::{EXPONENT, HEAD, HEADER, NUMERATORS, Words, record_words};
 use std::sync::LazyLock;
 
 pub struct Set {
@@ -398,7 +398,7 @@ fn comparison(_: u64, rng: &mut Rng) -> Case {
 
 /// A word that may do harm where it is put.
 fn harmful(rng: &mut Rng) -> i64 {
-    let words = [0, 1, 2, 3, 4, 5, 8, 16, 32, 60, 61, 64, 65, 83, 87, 166, -1, -2, NARROW, 1 << 31, (1 << 32) - 1, 1 << 32, WIDEST / 2,
+    let words = [0, 1, 2, 3, 4, 5, 8, 12, 16, 32, 60, 61, 64, 65, 68, 72, 140, -1, -2, NARROW, 1 << 31, (1 << 32) - 1, 1 << 32, WIDEST / 2,
         WIDEST - 1, WIDEST, WIDEST + 1, -WIDEST, -WIDEST - 1, i64::MAX, i64::MIN];
     *rng.pick(&words)
 }
@@ -408,30 +408,34 @@ fn damaged(i: u64, rng: &mut Rng) -> Case {
     let bits = *rng.pick(&[0, 1, 2, 2, 3, 32, 33, 64]);
     let left = circuit(rng, n, bits, 5, 3);
     let right = if rng.one_in(2) { left.clone() } else { circuit(rng, n, bits, 5, 3) };
+    let (header, head, numerators, exponent) = (HEADER as u64, HEAD as u64, NUMERATORS as u64, (HEADER + EXPONENT) as u64);
+    let size = record_words(1 << (2 * n)) as u64;
     let mut sets = Vec::new();
     for _ in 0..rng.below(4) {
-        // headers and the first record's words more often than entries
-        let size = 3 + 5 * (1u64 << (4 * n));
-        let at = match rng.below(4) {
-            0 => rng.below(4),
-            1 => 4 + rng.below(3) + size * rng.below(3),
-            2 => 7 + 5 * rng.below(20) + rng.below(5),
-            _ => rng.next() >> 1,
+        // headers and the records' heads more often than numerators
+        let (at, value) = match rng.below(5) {
+            0 => (rng.below(header), harmful(rng)),
+            1 => (header + rng.below(head) + size * rng.below(3), harmful(rng)),
+            2 => (exponent + size * rng.below(3), *rng.pick(&[-1, 0, 1, 2, 59, 60, 61, i64::MIN])),
+            3 => (header + head + rng.below(80), harmful(rng)),
+            _ => (rng.next() >> 1, harmful(rng)),
         };
-        sets.push((rng.one_in(2), at, harmful(rng)));
+        sets.push((rng.one_in(2), at, value));
     }
-    // entries that an effect adds up, near the ranges' ends
+    // numerators that an effect adds up, near the ranges' ends, at an exponent that they may share with an odd one: of the same effect, or of its block alone
     if n > 0 && rng.one_in(3) {
         let d = 1u64 << n;
         let (r, c, part) = (rng.below(d), rng.below(d), rng.below(4));
+        let place = |r: u64, c: u64| header + head + numerators * (r * d * d + c);
         sets.clear();
         for o in 0..d {
-            let (mut value, e) = (*rng.pick(&[WIDEST, WIDEST - 1, WIDEST / 2, -WIDEST, -WIDEST / 2, 1, -1, 0]), *rng.pick(&[0, 0, 0, 0, 1, 60]));
-            if e > 0 && value % 2 == 0 {
-                value -= value.signum() - (value == 0) as i64;
-            }
-            let at = 7 + 5 * ((o * d + r) * d * d + o * d + c);
-            sets.extend([(false, at + part, value), (false, at + 4, e)]);
+            let value = *rng.pick(&[WIDEST, WIDEST - 1, WIDEST / 2, -WIDEST, -WIDEST / 2, 1, -1, 0]);
+            sets.push((false, place(o * d + r, o * d + c) + part, value));
+        }
+        if !rng.one_in(3) {
+            sets.push((false, exponent, *rng.pick(&[0, 1, 1, 2, 3, 60])));
+            let (r, c) = (rng.below(d * d), rng.below(d * d));
+            sets.push((false, place(r, if rng.one_in(2) { r } else { c }) + rng.below(4), *rng.pick(&[1, 1, 2, 3, -1, 4])));
         }
     }
     let mut store = left.store.clone();
@@ -455,7 +459,15 @@ fn damaged(i: u64, rng: &mut Rng) -> Case {
             sets.clear();
         }
     }
-    Case::Damaged { left, right, blanks, sets, cut, store, short: if rng.one_in(4) { 1 + rng.below(3) } else { 0 } }
+    // the same blocks at exponents that are one too large, on either side
+    let mut doubled = Vec::new();
+    if rng.one_in(6) {
+        doubled.push((rng.one_in(2), rng.next() >> 1));
+        if !rng.one_in(3) {
+            sets.clear();
+        }
+    }
+    Case::Damaged { left, right, blanks, doubled, sets, cut, store, short: if rng.one_in(4) { 1 + rng.below(3) } else { 0 } }
 }
 
 // ---- layers
@@ -783,7 +795,7 @@ fn kept(i: u64, rng: &mut Rng) -> Case {
         let k = rng.below(6) as usize;
         limits[k] = *rng.pick(&[0, 1, 2, 3, 5, CEILINGS[k] - 1, CEILINGS[k] + 1, u64::MAX]);
     }
-    let lent = (*rng.pick(&[0, 11, 12, 86, 87, 170, 1287, 1 << 20, 1 << 20]), *rng.pick(&[0, 27, 28, 88, 132, 328, 1 << 20, 1 << 20]));
+    let lent = (*rng.pick(&[0, 11, 12, 71, 72, 140, 1032, 1 << 20, 1 << 20]), *rng.pick(&[0, 27, 28, 88, 132, 328, 1 << 20, 1 << 20]));
     // every count and every word of the first gates, one at a time, in a few cases; in the others some of them
     let value = |rng: &mut Rng| *rng.pick(&[-1, 0, 1, 2, 3, 5, 6, 64, 65, 1024, 1025, 1 << 32, u32::MAX as i64, i64::MAX, i64::MIN]);
     let mut damages: Vec<Damage> = (0..6).map(|_| Damage::Set(rng.below(size.max(1) as u64) as usize, value(rng))).collect();
@@ -947,7 +959,7 @@ fn work_lists(i: u64, rng: &mut Rng) -> Case {
 
 pub fn sets() -> Vec<Set> {
     let (one, two) = (one_qubit_gates().len(), two_qubit_gates().len());
-    vec![
+    let all = vec![
         Set { name: "one-qubit", about: "all circuits of up to 3 gates on one qubit", count: up_to(3, one), quick: up_to(2, one), case: all_one_qubit },
         Set { name: "two-qubit", about: "all circuits of up to 2 gates on two qubits", count: up_to(2, two), quick: up_to(1, two), case: all_two_qubit },
         Set { name: "one-qubit-unitaries", about: "the same, as unitaries", count: up_to(3, one), quick: up_to(2, one), case: all_one_qubit_unitaries },
@@ -974,8 +986,10 @@ pub fn sets() -> Vec<Set> {
         Set { name: "programs-heavy", about: "Pauli programs of weights 48 to 59", count: 1000, quick: 30, case: programs::heavy },
         Set { name: "programs-faulty", about: "Pauli programs with faults of every kind", count: 30000, quick: 1000, case: programs::faulty },
         Set { name: "work-list", about: "lists of pairs under an allowance", count: 6000, quick: 300, case: work_lists },
-        Set { name: "damaged", about: "channels with words damaged and blocks of zeros", count: 20000, quick: 600, case: damaged },
+        Set { name: "damaged", about: "channels with words damaged, blocks of zeros and blocks at other exponents", count: 20000, quick: 600, case: damaged },
         Set { name: "phases", about: "phase tests, both orders", count: 8000, quick: 300, case: phases },
         Set { name: "scalars", about: "scalar calls at the ranges' ends", count: 100000, quick: 3000, case: scalars },
-    ]
+    ];
+    // plain C has no Pauli programs
+    all.into_iter().filter(|s| !(cfg!(plain_only) && s.name.starts_with("programs"))).collect()
 }

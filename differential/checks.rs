@@ -2,7 +2,7 @@
 use crate::calls::{ARCHIVE, CEILINGS, Calls, PLAIN};
 use crate::lent::{Lent, Rng};
 use crate::programs::{self, Program};
-use crate::rust::{self, Words};
+use crate::rust::{self, EXPONENT, HEAD, HEADER, NUMERATORS, Words, record_words};
 use crate::semantics::Matrix;
 use crate::semantics::channel::Channel;
 use crate::semantics::test_support::Scalar;
@@ -32,6 +32,12 @@ impl Counts {
         let cells = || entries.chunks_exact(5);
         let n = cells().flat_map(|x| &x[..4]).map(|n| n.abs()).max();
         self.larger(call, (n.unwrap_or(0), cells().map(|x| x[4]).max().unwrap_or(0)));
+    }
+    /// Of the records of a channel, whose blocks have so many rows.
+    pub fn met_records(&mut self, call: &'static str, words: &[i64], side: usize) {
+        for record in words[HEADER..].chunks_exact(record_words(side)) {
+            self.larger(call, (record[HEAD..].iter().map(|n| n.abs()).max().unwrap_or(0), record[EXPONENT]));
+        }
     }
     pub fn join(&mut self, other: &Counts) {
         for (call, n) in &other.0 {
@@ -100,8 +106,9 @@ pub enum Case {
     WorkList { count: usize, words: Vec<u32>, stores: Vec<u8>, limits: [u64; 6], allowance: u64, rooms: (usize, usize, usize), places: (usize, usize) },
     /// The channels of two circuits, compared in both orders.
     Compare { left: Words, right: Words },
-    /// compare (both orders), classical_blocks, povm_effects and lookup on words of any kind: those of two circuits' channels with blocks set to zero and words set to values.
-    Damaged { left: Words, right: Words, blanks: Vec<(bool, u64)>, sets: Vec<(bool, u64, i64)>, cut: u64, store: Vec<u8>, short: u64 },
+    /// compare (both orders), classical_blocks, povm_effects and lookup on words of any kind: those of two circuits' channels with blocks set to zero, blocks at an exponent that is one too
+    /// large, and words set to values.
+    Damaged { left: Words, right: Words, blanks: Vec<(bool, u64)>, doubled: Vec<(bool, u64)>, sets: Vec<(bool, u64, i64)>, cut: u64, store: Vec<u8>, short: u64 },
     /// The phase test on the unitaries of two circuits, the right one times a scalar, with words set to values.
     Phase { left: Words, right: Words, scale: [i64; 5], sets: Vec<(bool, u64, i64)>, dims: (usize, usize), cut: u64 },
     Scalar(Operation),
@@ -248,7 +255,7 @@ fn circuit_call(calls: &Calls, ask: Ask, w: &Words, limits: &[u64; 6], extra: (i
         if work.words()[..need.1].iter().any(|w| *w != 0) || work.words()[need.1..] != work.words_before()[need.1..] {
             return Err(format!("{}: work words are not as they should be", calls.name));
         }
-        let used = if unitary { need.0 } else { 4 + result.words()[2].clamp(0, 64) as usize * (3 + 5 * (1usize << (4 * w.qubits))) };
+        let used = if unitary { need.0 } else { rust::channel_words(1 << w.qubits, result.words()[2].clamp(0, 64) as usize) };
         if used > result.len() || result.words()[used..] != result.words_before()[used..] {
             return Err(format!("{}: words behind the result have changed", calls.name));
         }
@@ -302,12 +309,12 @@ fn channel_reply(w: &Words, limits: &[u64; 6], extra: (i64, i64), counts: &mut C
             if got.verdict != 0 {
                 return Ok((got, None));
             }
-            let size = 3 + 5 * (1usize << (4 * w.qubits));
-            let order: Vec<u64> = (0..got.result[2] as usize).map(|j| store_at(&got.result, 4 + j * size)).collect();
+            let side = 1 << (2 * w.qubits);
+            let order: Vec<u64> = (0..got.result[2] as usize).map(|j| store_at(&got.result, HEADER + j * record_words(side))).collect();
             let want = rust::layout(c.quantum_dim, c.num_cbits, &order, c.blocks.iter())
                 .ok_or_else(|| format!("stores: the archive {order:?}, the Rust {:?}", c.blocks.keys().collect::<Vec<_>>()))?;
             same_words("channel", &got.result, &want, "the Rust")?;
-            got.result[4..].chunks_exact(size).for_each(|record| counts.met("circuit_channel", &record[3..]));
+            counts.met_records("circuit_channel", &got.result, side);
             Ok((got, Some(c)))
         }
     }
@@ -471,8 +478,8 @@ fn profile(w: &Words, limits: &[u64; 6], extra: (i64, i64), counts: &mut Counts)
     same("plain_channel", (got.verdict, got.index), due, "the rules of the profile")?;
     if got.verdict == 0 {
         same_words("plain channel", &got.result, &list.result, "circuit_channel")?;
-        let size = 3 + 5 * (1usize << (4 * w.qubits));
-        let entries = || got.result[4..].chunks_exact(size).flat_map(|record| record[3..].chunks_exact(5));
+        let size = record_words(1 << (2 * w.qubits));
+        let entries = || got.result[HEADER..].chunks_exact(size).flat_map(|record| record[HEAD..].chunks_exact(NUMERATORS));
         if entries().any(|e| e[1] != 0 || e[3] != 0) {
             return Err("plain_channel: an entry has a √2 part".into());
         }
@@ -853,7 +860,7 @@ fn compare(left: &[i64], right: &[i64], rust: Result<(&Channel, &Channel), u32>,
 fn effects(words: &[i64], rust: Result<&Channel, u32>, short: usize, counts: &mut Counts) -> Fault {
     let count = words.get(2).map_or(0, |c| (*c).clamp(0, 64) as usize);
     let d = words.first().map_or(1, |d| (*d).clamp(0, 16) as usize);
-    let need = 4 + count * (3 + 5 * d * d);
+    let need = HEADER + count * record_words(d);
     for (call, textbook) in [("classical_blocks", false), ("povm_effects", true)] {
         let mut replies = Vec::new();
         for calls in [&ARCHIVE, &PLAIN] {
@@ -882,8 +889,7 @@ fn effects(words: &[i64], rust: Result<&Channel, u32>, short: usize, counts: &mu
             }
         };
         same(call, replies[0].0, 0, "the Rust")?;
-        let size = 3 + 5 * d.pow(4);
-        let order: Vec<u64> = (0..count).map(|j| store_at(words, 4 + j * size)).collect();
+        let order: Vec<u64> = (0..count).map(|j| store_at(words, HEADER + j * record_words(d * d))).collect();
         let blocks = c.classical_blocks();
         let mut want = rust::layout(d, c.num_cbits, &order, blocks.iter()).ok_or("the Rust has other effects")?;
         if textbook {
@@ -896,19 +902,19 @@ fn effects(words: &[i64], rust: Result<&Channel, u32>, short: usize, counts: &mu
 
 /// Exchanges rows and columns in each record of effects of dimension d.
 fn exchange(effects: &mut [i64], d: usize) {
-    for record in effects[4..].chunks_exact_mut(3 + 5 * d * d) {
+    for record in effects[HEADER..].chunks_exact_mut(record_words(d)) {
         for (r, c) in (0..d).flat_map(|r| (0..r).map(move |c| (r, c))) {
-            for i in 0..5 {
-                record.swap(3 + 5 * (r * d + c) + i, 3 + 5 * (c * d + r) + i);
+            for i in HEAD..HEAD + NUMERATORS {
+                record.swap(NUMERATORS * (r * d + c) + i, NUMERATORS * (c * d + r) + i);
             }
         }
     }
 }
 
-/// Whether every partial sum of the Rust's effects is in range.
+/// Whether every partial sum of the Rust's effects is in range, and each effect at the exponent that it shares.
 fn sums_fit(c: &Channel) -> bool {
     let d = c.quantum_dim;
-    c.blocks.values().all(|b| {
+    c.classical_blocks().values().all(|e| rust::shared(e).is_some()) && c.blocks.values().all(|b| {
         (0..d * d).all(|k| {
             let mut sum = Scalar::zero();
             (0..d).all(|o| {
@@ -938,8 +944,8 @@ fn lookup(words: &[i64], store: &[u8], rust: Result<&Channel, u32>, counts: &mut
         None => same("lookup", replies[0], 0, if asked.is_some() { "the Rust" } else { "the documents" }),
         Some(block) => {
             let at = replies[0];
-            let want = rust::cells(block).ok_or("a block out of range")?;
-            if at < 7 || words.len() < at + want.len() || store_at(words, at - 3) != rust::number(&key) {
+            let want = rust::shared(block).ok_or("a block out of range")?;
+            if at < HEADER + EXPONENT || words.len() < at + want.len() || store_at(words, at - EXPONENT) != rust::number(&key) {
                 return Err(format!("lookup: {at} is not the record of the store"));
             }
             same_words("lookup", &words[at..at + want.len()], &want, "the Rust")
@@ -954,13 +960,13 @@ fn read(words: &[i64]) -> Option<Channel> {
         return None;
     }
     let (d, bits) = (dim as usize, bits as usize);
-    let size = 3 + 5 * d.pow(4);
-    if count as u64 > ((words.len() - 4) / size) as u64 {
+    let size = record_words(d * d);
+    if count as u64 > ((words.len() - HEADER) / size) as u64 {
         return None;
     }
     let (mut at, mut blocks, mut last) = (first, BTreeMap::new(), None);
     for _ in 0..count {
-        let record = usize::try_from(at).ok().filter(|a| *a >= 4 && (a - 4) % size == 0 && (a - 4) / size < count as usize)?;
+        let record = usize::try_from(at).ok().filter(|a| *a >= HEADER && (a - HEADER) % size == 0 && (a - HEADER) / size < count as usize)?;
         let (low, high) = (u32::try_from(words[record + 1]).ok()?, u32::try_from(words[record + 2]).ok()?);
         let number = low as u64 | (high as u64) << 32;
         if bits < 64 && number >> bits != 0 {
@@ -970,14 +976,14 @@ fn read(words: &[i64]) -> Option<Channel> {
         if last.as_ref().is_some_and(|l| *l >= store) {
             return None;
         }
+        let (e, numerators) = (words[record + EXPONENT], &words[record + HEAD..record + size]);
+        let odd = numerators.iter().any(|n| n & 1 == 1);
+        if !(0..=60).contains(&e) || !(e == 0 || odd) || !numerators.iter().all(|n| (-WIDEST..=WIDEST).contains(n)) {
+            return None;
+        }
         let mut m = Matrix::zero(d * d);
-        for (k, x) in words[record + 3..record + size].chunks_exact(5).enumerate() {
-            if !well_formed(x) {
-                return None;
-            }
-            if x[..4].iter().any(|n| *n != 0) {
-                m.entries[k] = rust::scalar(x);
-            }
+        for (k, x) in numerators.chunks_exact(NUMERATORS).enumerate().filter(|(_, x)| x.iter().any(|n| *n != 0)) {
+            m.entries[k] = rust::scalar(&[x[0], x[1], x[2], x[3], e]);
         }
         last = Some(store.clone());
         blocks.insert(store, m);
@@ -989,8 +995,8 @@ fn read(words: &[i64]) -> Option<Channel> {
 /// The Rust's channel of some words, or their refusal: 10 where they are malformed, then 16 where a block has no entry but zeros.
 fn judged(words: &[i64]) -> Result<Channel, u32> {
     let c = read(words).ok_or(10u32)?;
-    let block = 5 * c.quantum_dim.pow(4);
-    let zero = words[4..].chunks_exact(3 + block).take(words[2] as usize).any(|r| r[3..].chunks_exact(5).all(|x| x[..4] == [0; 4]));
+    let size = record_words(c.quantum_dim.pow(2));
+    let zero = words[HEADER..].chunks_exact(size).take(words[2] as usize).any(|r| r[HEAD..].iter().all(|n| *n == 0));
     if zero { Err(16) } else { Ok(c) }
 }
 
@@ -1000,14 +1006,20 @@ fn both_sound<'a>(x: &'a Result<Channel, u32>, y: &'a Result<Channel, u32>) -> R
     Ok((a, b))
 }
 
-/// All entries of a record set to zero, on one side.
-fn blank(words: &mut [i64], blanks: &[(bool, u64)], side: bool) {
+/// The exponent and the numerators of some records of a channel, on one side.
+fn each_block(words: &mut [i64], records: &[(bool, u64)], side: bool, change: fn(&mut [i64])) {
     let (Some(d), Some(count)) = (words.first().map(|d| *d as usize), words.get(2).map(|c| *c as u64)) else { return };
-    for (_, j) in blanks.iter().filter(|b| b.0 == side && count > 0) {
-        let size = 3 + 5 * d.pow(4);
-        let at = 4 + (j % count) as usize * size;
-        words[at + 3..at + size].fill(0);
+    for (_, j) in records.iter().filter(|b| b.0 == side && count > 0) {
+        let size = record_words(d * d);
+        let at = HEADER + (j % count) as usize * size;
+        change(&mut words[at + EXPONENT..at + size]);
     }
+}
+
+/// The same entries over an exponent that is one too large.
+fn double(block: &mut [i64]) {
+    block[0] += 1;
+    block[1..].iter_mut().for_each(|n| *n *= 2);
 }
 
 fn plain_channel(w: &Words) -> Vec<i64> {
@@ -1135,10 +1147,12 @@ pub fn check(case: &Case, counts: &mut Counts) -> Fault {
             compare(&x, &y, Ok((&a, &b)), counts)?;
             compare(&y, &x, Ok((&b, &a)), counts)
         }
-        Case::Damaged { left, right, blanks, sets, cut, store, short } => {
+        Case::Damaged { left, right, blanks, doubled, sets, cut, store, short } => {
             let (mut x, mut y) = (plain_channel(left), plain_channel(right));
-            blank(&mut x, blanks, false);
-            blank(&mut y, blanks, true);
+            for (words, side) in [(&mut x, false), (&mut y, true)] {
+                each_block(words, doubled, side, double);
+                each_block(words, blanks, side, |block| block.fill(0));
+            }
             set_words(&mut x, sets, false);
             set_words(&mut y, sets, true);
             x.truncate(x.len().saturating_sub(*cut as usize));
@@ -1242,6 +1256,10 @@ fn smaller_call(words: &Words, limits: [u64; 6], extra: (i64, i64), case: fn(Wor
     out
 }
 
+fn without<T: Clone>(list: &[T], i: usize) -> Vec<T> {
+    [&list[..i], &list[i + 1..]].concat()
+}
+
 fn smaller(case: &Case) -> Vec<Case> {
     use Operation::*;
     match case {
@@ -1325,24 +1343,17 @@ fn smaller(case: &Case) -> Vec<Case> {
             let rights = smaller_words(right).into_iter().map(|right| Case::Compare { left: left.clone(), right });
             lefts.chain(rights).collect()
         }
-        Case::Damaged { left, right, blanks, sets, cut, store, short } => {
-            let with = |left: &Words, right: &Words, blanks: &[(bool, u64)], sets: Vec<(bool, u64, i64)>, cut: u64| Case::Damaged {
-                left: left.clone(), right: right.clone(), blanks: blanks.to_vec(), sets, cut, store: store.clone(), short: *short,
+        Case::Damaged { left, right, blanks, doubled, sets, cut, store, short } => {
+            let with = |left: &Words, right: &Words, blanks: &[(bool, u64)], doubled: &[(bool, u64)], sets: &[(bool, u64, i64)], cut: u64| Case::Damaged {
+                left: left.clone(), right: right.clone(), blanks: blanks.to_vec(), doubled: doubled.to_vec(), sets: sets.to_vec(), cut, store: store.clone(), short: *short,
             };
-            let mut out: Vec<Case> = smaller_words(left).iter().map(|l| with(l, right, blanks, sets.clone(), *cut)).collect();
-            out.extend(smaller_words(right).iter().map(|r| with(left, r, blanks, sets.clone(), *cut)));
-            for i in 0..sets.len() {
-                let mut fewer = sets.clone();
-                fewer.remove(i);
-                out.push(with(left, right, blanks, fewer, *cut));
-            }
-            for i in 0..blanks.len() {
-                let mut fewer = blanks.clone();
-                fewer.remove(i);
-                out.push(with(left, right, &fewer, sets.clone(), *cut));
-            }
+            let mut out: Vec<Case> = smaller_words(left).iter().map(|l| with(l, right, blanks, doubled, sets, *cut)).collect();
+            out.extend(smaller_words(right).iter().map(|r| with(left, r, blanks, doubled, sets, *cut)));
+            out.extend((0..sets.len()).map(|i| with(left, right, blanks, doubled, &without(sets, i), *cut)));
+            out.extend((0..blanks.len()).map(|i| with(left, right, &without(blanks, i), doubled, sets, *cut)));
+            out.extend((0..doubled.len()).map(|i| with(left, right, blanks, &without(doubled, i), sets, *cut)));
             if *cut > 0 {
-                out.push(with(left, right, blanks, sets.clone(), 0));
+                out.push(with(left, right, blanks, doubled, sets, 0));
             }
             out
         }
@@ -1352,11 +1363,7 @@ fn smaller(case: &Case) -> Vec<Case> {
             };
             let mut out: Vec<Case> = smaller_words(left).iter().map(|l| with(l, right, *scale, sets.clone())).collect();
             out.extend(smaller_words(right).iter().map(|r| with(left, r, *scale, sets.clone())));
-            for i in 0..sets.len() {
-                let mut fewer = sets.clone();
-                fewer.remove(i);
-                out.push(with(left, right, *scale, fewer));
-            }
+            out.extend((0..sets.len()).map(|i| with(left, right, *scale, without(sets, i))));
             if *scale != [1, 0, 0, 0, 0] {
                 out.push(with(left, right, [1, 0, 0, 0, 0], sets.clone()));
             }

@@ -9,6 +9,7 @@ use crate::semantics::channel::{Channel, pbc_channel};
 use std::collections::HashSet;
 
 unsafe extern "C" {
+    #[cfg(not(plain_only))]
     fn foreituka_pauli_verdict(qubits: u32, bits: u32, store: *const u8, store_bytes: usize, nodes: *const u32, node_words: usize, operations: *const u32,
         operation_words: usize, limits: *const u64, result_words: usize, work_words: usize, index: *mut u64) -> u32;
     #[cfg(pauli_channel)]
@@ -201,6 +202,13 @@ fn seed(p: &Program) -> Rng {
     Rng(p.nodes.iter().chain(&p.operations).fold(p.qubits as u64, |h, w| h.wrapping_mul(31).wrapping_add(*w as u64)))
 }
 
+/// Plain C has no Pauli programs, and no set has them where it stands in the archive's place.
+#[cfg(plain_only)]
+fn verdict(_: &Program, _: &[u64; 6], _: (usize, usize)) -> Result<(u32, u64), String> {
+    Err("plain C has no Pauli programs".into())
+}
+
+#[cfg(not(plain_only))]
 fn verdict(p: &Program, limits: &[u64; 6], lent: (usize, usize)) -> Result<(u32, u64), String> {
     let mut rng = seed(p);
     let (store, nodes, operations) = (Lent::holding(&mut rng, &p.store), Lent::holding(&mut rng, &p.nodes), Lent::holding(&mut rng, &p.operations));
@@ -246,12 +254,12 @@ fn delivered(p: &Program, limits: &[u64; 6], lent: (usize, usize), due: (u32, u6
 
 #[cfg(pauli_channel)]
 fn same_channel(p: &Program, got: &[i64], c: &Channel, counts: &mut Counts) -> Result<(), String> {
-    let size = rust::channel_words(1 << p.qubits, 1) - 4;
-    let order: Vec<u64> = (0..got[2] as usize).map(|j| crate::checks::store_at(got, 4 + j * size)).collect();
+    let side = 1 << (2 * p.qubits);
+    let order: Vec<u64> = (0..got[2] as usize).map(|j| crate::checks::store_at(got, rust::HEADER + j * rust::record_words(side))).collect();
     let want = rust::layout(c.quantum_dim, c.num_cbits, &order, c.blocks.iter())
         .ok_or_else(|| format!("stores: the archive {order:?}, the Rust {:?}", c.blocks.keys().collect::<Vec<_>>()))?;
     crate::checks::same_words("channel", got, &want, "the Rust")?;
-    got[4..].chunks_exact(size).for_each(|record| counts.met("pauli_channel", &record[3..]));
+    counts.met_records("pauli_channel", got, side);
     counts.add("pauli_channel", true, 0);
     Ok(())
 }

@@ -65,9 +65,20 @@ impl Words {
     }
 }
 
+/// The words of a header and of a record's head (next, two store words, the exponent that the block shares); four numerators an entry follow.
+pub const HEADER: usize = 4;
+pub const HEAD: usize = 4;
+pub const EXPONENT: usize = 3;
+pub const NUMERATORS: usize = 4;
+
+/// The words of a record whose block has so many rows: d² of a channel's, d of an effect.
+pub fn record_words(side: usize) -> usize {
+    HEAD + NUMERATORS * side * side
+}
+
 /// The words of a channel of dimension d with so many blocks.
 pub fn channel_words(d: usize, blocks: usize) -> usize {
-    4 + (3 + 5 * d.pow(4)) * blocks
+    HEADER + record_words(d * d) * blocks
 }
 
 pub fn limits(l: &[u64; 6]) -> ChannelLimits {
@@ -127,6 +138,21 @@ pub fn cells(m: &Matrix) -> Option<Vec<i64>> {
     Some(out)
 }
 
+/// The exponent that the entries of a matrix share, the largest of theirs in lowest form, and behind it all their numerators over it; none where one is out of range.
+pub fn shared(m: &Matrix) -> Option<Vec<i64>> {
+    let cells = cells(m)?;
+    let e = cells.chunks_exact(5).map(|x| x[4]).max().unwrap_or(0);
+    let mut out = Vec::with_capacity(1 + NUMERATORS * m.entries.len());
+    out.push(e);
+    for x in cells.chunks_exact(5) {
+        let scale = e - x[4];
+        for n in &x[..4] {
+            out.push(if *n == 0 { 0 } else if scale < 63 { n.checked_mul(1 << scale)? } else { return None });
+        }
+    }
+    (e <= 60 && out[1..].iter().all(|n| n.unsigned_abs() <= 1 << 61)).then_some(out)
+}
+
 pub fn scalar(w: &[i64]) -> Scalar {
     driver::scalar(w)
 }
@@ -139,8 +165,8 @@ pub fn number(store: &[bool]) -> u64 {
 pub fn layout<'a>(dim: usize, bits: usize, order: &[u64], blocks: impl Iterator<Item = (&'a Vec<bool>, &'a Matrix)>) -> Option<Vec<i64>> {
     let rising: Vec<(u64, &Matrix)> = blocks.map(|(s, m)| (number(s), m)).collect();
     let width = rising.first().map_or(0, |(_, m)| m.dim);
-    let size = 3 + 5 * width * width;
-    let at = |s: u64| order.iter().position(|x| *x == s).map(|j| (4 + j * size) as i64);
+    let size = record_words(width);
+    let at = |s: u64| order.iter().position(|x| *x == s).map(|j| (HEADER + j * size) as i64);
     let mut words = vec![dim as i64, bits as i64, rising.len() as i64, rising.first().map_or(Some(0), |(s, _)| at(*s))?];
     if order.len() != rising.len() {
         return None;
@@ -149,7 +175,7 @@ pub fn layout<'a>(dim: usize, bits: usize, order: &[u64], blocks: impl Iterator<
         let k = rising.iter().position(|(x, _)| x == s)?;
         let next = rising.get(k + 1).map_or(Some(0), |(t, _)| at(*t))?;
         words.extend_from_slice(&[next, (s & 0xffff_ffff) as i64, (s >> 32) as i64]);
-        words.extend(cells(rising[k].1)?);
+        words.extend(shared(rising[k].1)?);
     }
     Some(words)
 }

@@ -19,6 +19,11 @@
  * Words are int64_t. A scalar is five of them, n0 n1 n2 n3 e: the number (n0 + n1·√2 + n2·i + n3·i·√2) / 2^e in lowest form (e is 0 or some
  * numerator is odd), numerators from −2^61 to 2^61, e from 0 to 60. It is narrow if they lie within 2^29 either way and e is at most 29.
  * In the sizes below n is the number of qubits and d = 2^n.
+ *
+ * A channel, and what the effect calls leave, is a header of FOREITUKA_HEADER_WORDS words (d, bits, blocks, index of the first record) and records,
+ * chained by their first word: next, store bits 0 to 31, store bits 32 to 63, the exponent e that the block shares, and four numerators for each of its
+ * entries, row by row. e is 0 or some numerator of the block is odd, numerators and e are in the ranges of a scalar; the entry of n0 n1 n2 n3 is the
+ * number above, which need not be in lowest form. A matrix has five words an entry, a scalar each.
  */
 #ifndef FOREITUKA_HEADER
 #define FOREITUKA_HEADER
@@ -27,9 +32,9 @@
 #include <stdint.h>
 
 #define FOREITUKA_VERSION_MAJOR 0
-#define FOREITUKA_VERSION_MINOR 2
+#define FOREITUKA_VERSION_MINOR 3
 #define FOREITUKA_VERSION_PATCH 0
-#define FOREITUKA_VERSION "0.2.0"
+#define FOREITUKA_VERSION "0.3.0"
 
 #ifdef __cplusplus
 extern "C" {
@@ -49,7 +54,7 @@ enum {
     FOREITUKA_CEILING = 6,          /* a limit is above its ceiling */
     FOREITUKA_WEIGHT = 7,           /* h, ch and sx number more than 56 */
     FOREITUKA_SHORT = 8,            /* too few words for the result or the work; too few words for gates or bytes for a text */
-    FOREITUKA_LARGE = 9,            /* a number too large: a result out of range, an operand that is not narrow */
+    FOREITUKA_LARGE = 9,            /* a number too large: a result out of range, an operand that is not narrow, an effect out of range at its exponent */
     FOREITUKA_MALFORMED = 10,       /* a scalar, matrix or channel that is none */
     FOREITUKA_LAYERS = 11,          /* the ends of layers do not rise strictly from at least 1, or do not close at the gate count */
     FOREITUKA_CLASH = 12,           /* two gates of one layer share a qubit or a bit; the lowest index of such a later gate is given */
@@ -141,12 +146,20 @@ enum {
  * blocks: a channel's block count, at most 2^written ---- */
 #define FOREITUKA_DIM(n) ((size_t)1 << (n))
 #define FOREITUKA_MATRIX_WORDS(n) (5 * FOREITUKA_DIM(n) * FOREITUKA_DIM(n))
-#define FOREITUKA_RECORD_WORDS(n) (3 + FOREITUKA_MATRIX_WORDS(n) * FOREITUKA_DIM(n) * FOREITUKA_DIM(n))
-#define FOREITUKA_CHANNEL_WORDS(n, written) (4 + ((size_t)1 << (written)) * FOREITUKA_RECORD_WORDS(n))
+/* a channel's header, a record's head, the place of the exponent in it, and the numerators of an entry; a block has d^4 entries, an effect d^2 */
+#define FOREITUKA_HEADER_WORDS 4
+#define FOREITUKA_RECORD_HEAD 4
+#define FOREITUKA_EXPONENT_PLACE 3
+#define FOREITUKA_ENTRY_WORDS 4
+#define FOREITUKA_BLOCK_ENTRIES(n) ((size_t)1 << 4 * (n))
+#define FOREITUKA_EFFECT_ENTRIES(n) ((size_t)1 << 2 * (n))
+#define FOREITUKA_RECORD_WORDS(n) (FOREITUKA_RECORD_HEAD + FOREITUKA_ENTRY_WORDS * FOREITUKA_BLOCK_ENTRIES(n))
+#define FOREITUKA_EFFECT_RECORD_WORDS(n) (FOREITUKA_RECORD_HEAD + FOREITUKA_ENTRY_WORDS * FOREITUKA_EFFECT_ENTRIES(n))
+#define FOREITUKA_CHANNEL_WORDS(n, written) (FOREITUKA_HEADER_WORDS + ((size_t)1 << (written)) * FOREITUKA_RECORD_WORDS(n))
 #define FOREITUKA_CHANNEL_WORK_WORDS(n, splits) ((((size_t)2 << (splits)) + 2) * (FOREITUKA_MATRIX_WORDS(n) + 2))
 #define FOREITUKA_UNITARY_WORDS(n) FOREITUKA_MATRIX_WORDS(n)
 #define FOREITUKA_UNITARY_WORK_WORDS(n) (4 * (FOREITUKA_MATRIX_WORDS(n) + 2))
-#define FOREITUKA_EFFECTS_WORDS(n, blocks) (4 + (size_t)(blocks) * (3 + FOREITUKA_MATRIX_WORDS(n)))
+#define FOREITUKA_EFFECTS_WORDS(n, blocks) (FOREITUKA_HEADER_WORDS + (size_t)(blocks) * FOREITUKA_EFFECT_RECORD_WORDS(n))
 
 /* the work of a Pauli program; nodes: one more than the highest node that an axis names, at least 2n + 1 (0 with no qubits and no axis) */
 #define FOREITUKA_PAULI_WORK_WORDS(n, measures, nodes) ((((size_t)2 << (measures)) + (nodes) + 2) * (FOREITUKA_MATRIX_WORDS(n) + 3))
@@ -244,7 +257,7 @@ uint32_t foreituka_pauli_verdict(uint32_t qubits, uint32_t bits, const uint8_t *
 
 /* Whether two channels, as circuit_channel leaves them, are the same map; a missing block is zero. FOREITUKA_ENTRY comes with the first
  * unequal entry, by rising stores, then rows, then columns: place is its store (bit j weighs 2^j), row and column, scalars the left one's five
- * words and the right one's. They are zero otherwise. left and right may be one buffer. Replies: 10, 16, 100, 101, 102; asked are 10 and 16 of
+ * words and the right one's, in lowest form. They are zero otherwise. left and right may be one buffer. Replies: 10, 16, 100, 101, 102; asked are 10 and 16 of
  * left, then 10 and 16 of right, then the dimensions. FOREITUKA_SAME says that both have the same stores too. */
 uint32_t foreituka_compare(const int64_t *left, size_t left_words, const int64_t *right, size_t right_words, uint64_t place[3],
                            int64_t scalars[10]);
@@ -266,15 +279,16 @@ uint32_t foreituka_compare_list(size_t count, const uint32_t *words, size_t word
                                 size_t scalar_words, uint64_t *total, uint64_t *index);
 
 /* Each store's effect, transposed: entry (r, c) sums block entry (o·d + r, o·d + c) over o. result: FOREITUKA_EFFECTS_WORDS words or more, in
- * the layout of a channel with d² scalars in a record. Replies: 0, 8, 9, 10, 16; asked are 10, 16, 8, 9. */
+ * the layout of a channel with d² entries in a record, which share an exponent of their own. 9: a partial sum is out of range, or a numerator of a
+ * finished effect at that exponent. Replies: 0, 8, 9, 10, 16; asked are 10, 16, 8, 9. */
 uint32_t foreituka_classical_blocks(const int64_t *channel, size_t channel_words, int64_t *result, size_t result_words);
 
 /* Each store's effect as the textbook has it, the POVM element E = Σ K†K: tr(E ρ) is the probability that a circuit leaves the store when it is given
  * ρ. Entry (r, c) is entry (c, r) of the transposed effect; all else is as in classical_blocks. */
 uint32_t foreituka_povm_effects(const int64_t *channel, size_t channel_words, int64_t *result, size_t result_words);
 
-/* The index in `channel` of the first word of a store's block (d^4 scalars from there on). 0: a channel that is malformed or has a block of
- * zeros, a store of the wrong length or with a byte above 1, or no such block. */
+/* The index in `channel` of a store's block: its exponent stands there, word FOREITUKA_EXPONENT_PLACE of its record, and its 4·d^4 numerators behind
+ * it. 0: a channel that is malformed or has a block of zeros, a store of the wrong length or with a byte above 1, or no such block. */
 size_t foreituka_lookup(const int64_t *channel, size_t channel_words, const uint8_t *store, size_t store_bytes);
 
 /* Whether two matrices (5·dim² words, row by row; dim 1, 2, 4, 8, 16 or 32) are equal up to a factor of modulus 1. Replies: 9 (an entry is not

@@ -141,7 +141,7 @@ def channel_sizes(n, gs):
     """Result and work words that question 10 asks for."""
     s, t = counts(gs)
     d = 2**n
-    return 4 + 2**min(s, t) * (3 + 5 * d**4), (2 * 2**s + 2) * (5 * d * d + 2)
+    return HEADER + 2**min(s, t) * record_size(d * d), (2 * 2**s + 2) * (5 * d * d + 2)
 
 
 def unitary_sizes(n):
@@ -315,25 +315,42 @@ def store_order(n, store, gs):
     return order
 
 
-# ---- words
-def cell(s):
-    return list(s)
+# ---- words: a header, then records of next, two store words, the exponent that a block shares, and four numerators an entry
+HEADER, HEAD, EXPONENT, ENTRY = 4, 4, 3, 4
+
+
+def record_size(width):
+    """The words of a record whose block has so many rows."""
+    return HEAD + ENTRY * width * width
+
+
+def shared(block):
+    """The exponent that scalars in lowest form share, the largest of theirs, and their numerators over it."""
+    e = max((s[4] for s in block.values()), default=0)
+    return e, {at: [n * 2**(e - s[4]) for n in s[:4]] for at, s in block.items()}
+
+
+def shared_fits(block):
+    """Whether the numerators at the shared exponent are in range."""
+    e, numerators = shared(block)
+    return all(in_range((*n, e)) for n in numerators.values())
 
 
 def channel_words(dim, bits, order, blocks, width):
     """The words of records in this order; blocks maps a store to {(row, column): scalar}, of width rows."""
-    size = 3 + 5 * width * width
-    place = {s: 4 + j * size for j, s in enumerate(order)}
+    size = record_size(width)
+    place = {s: HEADER + j * size for j, s in enumerate(order)}
     chain = sorted(order)
     after = {s: place[t] for s, t in zip(chain, chain[1:])}
     words = [dim, bits, len(order), place[chain[0]] if chain else 0]
     for s in order:
         low = sum(b << j for j, b in enumerate(s[:32]))
         high = sum(b << j for j, b in enumerate(s[32:]))
-        record = [after.get(s, 0), low, high] + [0] * (5 * width * width)
-        for (r, c), v in blocks[s].items():
-            at = 3 + 5 * (r * width + c)
-            record[at:at + 5] = v
+        e, numerators = shared(blocks[s])
+        record = [after.get(s, 0), low, high, e] + [0] * (ENTRY * width * width)
+        for (r, c), n in numerators.items():
+            at = HEAD + ENTRY * (r * width + c)
+            record[at:at + ENTRY] = n
         words += record
     return words
 
@@ -364,12 +381,12 @@ def read_channel(words):
     dim, bits, count, at = words[:4]
     if dim not in (1, 2, 4, 8, 16) or not 0 <= bits <= 64:
         return None
-    size = 3 + 5 * dim**4
-    if count < 0 or 4 + count * size > len(words):
+    size = record_size(dim * dim)
+    if count < 0 or HEADER + count * size > len(words):
         return None
     chain, seen, last = [], set(), None
     for _ in range(count):
-        if at < 4 or (at - 4) % size or (at - 4) // size >= count or at in seen:
+        if at < HEADER or (at - HEADER) % size or (at - HEADER) // size >= count or at in seen:
             return None
         seen.add(at)
         low, high = words[at + 1], words[at + 2]
@@ -378,7 +395,8 @@ def read_channel(words):
         store = tuple((low + (high << 32)) >> j & 1 for j in range(bits))
         if last is not None and store <= last:
             return None
-        if not all(well_formed(tuple(words[j:j + 5])) for j in range(at + 3, at + size, 5)):
+        e, numerators = words[at + EXPONENT], words[at + HEAD:at + size]
+        if not 0 <= e <= MAX_EXPONENT or any(abs(n) > MAX_NUMERATOR for n in numerators) or (e > 0 and not any(n % 2 for n in numerators)):
             return None
         chain.append((store, at))
         last, at = store, words[at]
@@ -386,10 +404,10 @@ def read_channel(words):
 
 
 def block_at(words, dim, at):
-    """The entries of a record that are not 0."""
+    """The entries of a record that are not 0, in lowest form."""
     width = dim * dim
-    cells = ((j, tuple(words[at + 3 + 5 * j:at + 8 + 5 * j])) for j in range(width * width))
-    return {(j // width, j % width): s for j, s in cells if s != ZERO}
+    cells = ((j, words[at + HEAD + ENTRY * j:at + HEAD + ENTRY * (j + 1)]) for j in range(width * width))
+    return {(j // width, j % width): lowest((*n, words[at + EXPONENT])) for j, n in cells if any(n)}
 
 
 def words_verdict(words):
@@ -402,7 +420,8 @@ def words_verdict(words):
 
 
 def effects_fit(dim, block):
-    """Whether every partial sum of classical_blocks is in range."""
+    """Whether every partial sum of classical_blocks is in range in lowest form, and the finished effect at its shared exponent."""
+    effect = {}
     for r in range(dim):
         for c in range(dim):
             s = ZERO
@@ -410,4 +429,5 @@ def effects_fit(dim, block):
                 s = add(s, block.get((o * dim + r, o * dim + c), ZERO))
                 if not in_range(s):
                     return False
-    return True
+            effect[r, c] = s
+    return shared_fits(effect)

@@ -11,7 +11,8 @@ import sys
 
 from ask import ask, blocks
 from circuits import text
-from rules import MAX_NUMERATOR, ONE, ZERO, block_at, words_verdict, channel_words, checksum, effects_fit, lowest, read_channel
+from rules import (ENTRY, EXPONENT, HEAD, HEADER, MAX_EXPONENT, MAX_NUMERATOR, ONE, block_at, words_verdict, channel_words, checksum, effects_fit, lowest, read_channel,
+                   record_size, shared_fits)
 
 SEED = 4096
 CASES = 320
@@ -22,25 +23,30 @@ def pattern(length):
     return [i % 997 + 1 for i in range(length)]
 
 
-def scalar(rng):
+def numerators(rng):
     size = rng.choice([1, 3, 100, TOP])
-    return lowest((*(rng.choice([0, rng.randint(-size, size), size, -size]) for _ in range(4)), rng.choice([0, 0, 1, 5, 60])))
+    return [rng.choice([0, rng.randint(-size, size), size, -size]) for _ in range(4)]
+
+
+def over(e, numbers):
+    """Numerators over 2^e as scalars in lowest form, without zeros."""
+    return {at: lowest((*n, e)) for at, n in numbers.items() if any(n)}
 
 
 def random_block(rng, width):
+    """Entries whose numerators are in range at the exponent that they share."""
     if rng.random() < 0.03:
         return {}
-    out = {}
-    for _ in range(rng.randint(1, 4)):
-        s = scalar(rng)
-        if s != ZERO and any(s[:4]):
-            out[rng.randrange(width), rng.randrange(width)] = s
+    e = rng.choice([0, 0, 1, 5, MAX_EXPONENT])
+    numbers = {(rng.randrange(width), rng.randrange(width)): numerators(rng) for _ in range(rng.randint(1, 4))}
     if width > 1 and rng.random() < 0.4:  # traced entries
         d = {4: 2, 16: 4}[width]
         r, c = rng.randrange(d), rng.randrange(d)
         for o in range(d):
-            out[o * d + r, o * d + c] = rng.choice([ONE, (TOP, 0, 0, 0, 0), (-TOP, 0, 0, 0, 0), (1, 0, 0, 0, 60), (1, 0, 0, 3, 1)])
-    return out
+            numbers[o * d + r, o * d + c] = rng.choice([[1, 0, 0, 0], [TOP, 0, 0, 0], [-TOP, 0, 0, 0], [TOP - 1, 0, 0, 0], [1, 0, 0, 3]])
+    if not any(x % 2 for n in numbers.values() for x in n):
+        rng.choice(list(numbers.values()))[rng.randrange(4)] = rng.choice([1, -1, TOP - 1])
+    return over(e, numbers)
 
 
 def random_channel(rng):
@@ -63,7 +69,8 @@ def variant(rng, words):
         del by_store[stores.pop(rng.randrange(len(stores)))]
     elif kind == 1 and stores:
         s = rng.choice(stores)
-        by_store[s] = {**by_store[s], (rng.randrange(dim * dim), rng.randrange(dim * dim)): rng.choice([ONE, (3, 0, 0, 0, 1)])}
+        at, given = (rng.randrange(dim * dim), rng.randrange(dim * dim)), rng.choice([ONE, (3, 0, 0, 0, 1)])
+        by_store[s] = {**by_store[s], at: given if shared_fits({**by_store[s], at: given}) else ONE}
     elif kind == 2 and stores:
         by_store[stores[-1]] = {}
     rng.shuffle(stores)
@@ -71,11 +78,11 @@ def variant(rng, words):
 
 
 def damage(rng, words):
-    """One or two words changed, or the end cut off."""
+    """A word changed, a block at another exponent, or the end cut off."""
     out = list(words)
-    size = 3 + 5 * words[0]**4
-    records = [4 + j * size for j in range(words[2])]
-    choices = ["header", "cut"] + ["chain", "store", "entry"] * (2 if records else 0)
+    size = record_size(words[0]**2)
+    records = [HEADER + j * size for j in range(words[2])]
+    choices = ["header", "cut"] + ["chain", "store", "exponent", "entry"] * (2 if records else 0)
     kind = rng.choice(choices)
     if kind == "header":
         at = rng.randrange(4)
@@ -88,9 +95,24 @@ def damage(rng, words):
     elif kind == "store":
         at = rng.choice(records) + rng.choice([1, 2])
         out[at] = rng.choice([-1, 0, 1, 2, 4, 2**31, 2**32 - 1, 2**32, out[at] ^ 1])
+    elif kind == "exponent":
+        at = rng.choice(records)
+        if rng.random() < 0.4:
+            out = at_higher(out, at)
+        else:
+            out[at + EXPONENT] = rng.choice([-1, 0, 1, MAX_EXPONENT, MAX_EXPONENT + 1, out[at + EXPONENT] + 1, 2**32, 2**61])
     else:
-        at = rng.choice(records) + 3 + 5 * rng.randrange(words[0]**4)
-        out[at:at + 5] = rng.choice([(TOP + 1, 0, 0, 0, 0), (0, 0, 0, -TOP - 1, 0), (2, 0, 0, 0, 1), (1, 0, 0, 0, 61), (1, 0, 0, 0, -1), (0, 0, 0, 0, 1), (TOP, 1, 0, 0, 60)])
+        at = rng.choice(records) + HEAD + rng.randrange(size - HEAD)
+        out[at] = rng.choice([TOP + 1, -TOP - 1, TOP, -TOP, 1, 2, 0, 2**62])
+    return out
+
+
+def at_higher(words, at):
+    """The block of the record at `at` with the same entries over an exponent that is one too large, where the words hold the numerators."""
+    out = list(words)
+    out[at + EXPONENT] += 1
+    for j in range(at + HEAD, at + record_size(words[0]**2)):
+        out[j] = 2 * out[j] if abs(out[j]) <= TOP else out[j]
     return out
 
 
@@ -119,13 +141,13 @@ def lookup(rng, words, store=None):
             store = rng.choice([store + [0], store[:-1], [2] + store[1:], [255] * len(store)])
     for s, at in chain:
         if list(s) == store and not refused:
-            return store, words[at + 3:at + 3 + 5 * dim**4]
+            return store, words[at + EXPONENT:at + record_size(dim * dim)]
     return store, []
 
 
 def one_record(bits, chain, low=0, high=0, count=1, spare=()):
     """A channel of dimension 1 with one record, whose entry is 1."""
-    return [1, bits, count, chain, 0, low, high, *ONE, *spare]
+    return [1, bits, count, chain, 0, low, high, 0, *ONE[:4], *spare]
 
 
 def edges():
@@ -137,7 +159,7 @@ def edges():
                 one_record(64, 4, 0, 0, 2), one_record(64, 4, 0, 0, 2, [0] * 8), one_record(64, 4, 0, 0, 0)):  # more records, or fewer, than there are
         yield bad, good, [0] * 64
         yield good, bad, [0] * 64
-    two = [1, 64, 2, 4, 12, 0, 0, *ONE, 0, 1, 0, *ONE]
+    two = [1, 64, 2, 4, 12, 0, 0, 0, *ONE[:4], 0, 1, 0, 0, *ONE[:4]]
     for at, word in ((4, 13), (4, 11), (3, 5), (2, 3), (2, 1)):  # a chain that goes on beside a record; a count past the length, or short of the chain
         bad = [*two, 0, 0]
         bad[at] = word
@@ -156,10 +178,51 @@ def edges():
         yield there, here, store
 
 
+def exponents():
+    """Pairs of channels of one block with its exponent or its numerators at or past an edge, and a store to look for."""
+
+    def channel(dim, e, numbers):
+        """Numerators over 2^e as they are, whether they share that exponent or not; `numbers` by place."""
+        words = [dim, 0, 1, HEADER, 0, 0, 0, e] + [0] * (ENTRY * dim**4)
+        for at, n in numbers.items():
+            words[HEADER + HEAD + at] = n
+        return words
+
+    for dim in (1, 2):
+        last = ENTRY * dim**4 - 1
+        one, half = channel(dim, 0, {0: 1}), channel(dim, 1, {0: 1})
+        edge = []
+        for e in (-1, 0, 1, MAX_EXPONENT, MAX_EXPONENT + 1):  # all numerators even; an odd one in each numerator of an entry, or in the last entry
+            edge += [channel(dim, e, numbers) for numbers in ({0: 2, last: -4}, *({0: 2, j: 3} for j in ((1, 2, 3) if dim == 1 else (last,))), {last: 1})]
+        for n in (TOP, TOP + 1, -TOP, -TOP - 1):  # in each numerator, alone and beside an odd one
+            edge += [channel(dim, 0, {j: n}) if j % 2 else channel(dim, MAX_EXPONENT, {last - j: n, (last + 1 - j) % (last + 1): 1}) for j in range(4)]
+        for i, words in enumerate(edge):
+            yield (words, one, []) if i % 2 else (half, words, [])
+        for e, numbers in ((0, {0: 1}), (1, {0: 1, last: 6}), (MAX_EXPONENT - 1, {last: TOP // 2 - 1, 0: -TOP // 2})):  # equal channels, one of them at an exponent that is too large
+            words = channel(dim, e, numbers)
+            yield words, words, []
+            yield at_higher(words, HEADER), words, []
+            yield words, at_higher(words, HEADER), []
+            yield at_higher(words, HEADER), at_higher(words, HEADER), []
+    # blocks of other exponents: their words differ from the first on, their entries later; compare finds entries
+    for j in (8, 4 * 5 + 3, 63):
+        whole = channel(2, 0, {0: 1, 4: 3, j: 1})
+        for e in (1, MAX_EXPONENT):
+            parts = channel(2, e, {0: 2**e, 4: 2**(e - 1) * 6 if e < MAX_EXPONENT else 2**e, j: 1})
+            yield whole, parts, []
+            yield parts, whole, []
+    # effects: sums that leave the range and come back by an even numerator, alone and beside an odd one in the same effect, in the block only, at its other end
+    first, second, other, apart = 0, 4 * (2 * 4 + 2), 4 * (4 + 1), 4 * 3  # entries (0, 0), (2, 2) and (1, 1), which are traced, and (0, 3), which is not
+    for numbers in ({first: TOP, second: TOP}, {first: TOP, second: TOP, other: 1}, {first: TOP, second: TOP, apart: 1}, {first: -TOP, second: -TOP, other: 1}, {first: TOP, second: -TOP, other: 1},
+                    {first: TOP - 1, second: 1, other: 1}, {first: TOP, second: 2, other: 3}, {first: TOP, second: 2, apart: 3}, {first: TOP, second: 1, other: 1}):
+        for e in (1, MAX_EXPONENT):
+            yield channel(2, e, numbers), one, []
+
+
 def zero_blocks():
     """Pairs of channels with blocks of zeros, in each place of the chain and on each side, alone and beside other faults before and behind them; and a store to look for."""
     stores = [(0, 0), (1, 0), (1, 1)]
-    size = {1: 8, 2: 83}
+    size = {1: record_size(1), 2: record_size(4)}
 
     def channel(dim, zeros):
         """Records in another order than the chain's, those at the places `zeros` of the chain with no entry."""
@@ -175,9 +238,9 @@ def zero_blocks():
             blank = channel(dim, zeros)
             for pair in ((blank, sound), (sound, blank), (blank, blank), (blank, channel(3 - dim, ())), (channel(3 - dim, ()), blank)):
                 yield *pair, list(stores[zeros[0]])
-            # the last word of a record, a store, a chain that goes on, a header: beside the zero blocks, on their side and on the other
-            records = [4 + j * size[dim] for j in range(3)]
-            for at, value in (*((r + size[dim] - 1, 61) for r in records), *((r + 2, 1) for r in records), (records[1], records[2]), (2, 4)):
+            # the last word of a record, its exponent, a store, a chain that goes on, a header: beside the zero blocks, on their side and on the other
+            records = [HEADER + j * size[dim] for j in range(3)]
+            for at, value in (*((r + size[dim] - 1, TOP + 1) for r in records), (records[0] + EXPONENT, 1), *((r + 2, 1) for r in records), (records[1], records[2]), (2, 4)):
                 faulty = spoilt(blank, at, value)
                 yield faulty, sound, list(stores[0])
                 yield sound, faulty, list(stores[0])
@@ -188,7 +251,7 @@ def zero_blocks():
             for part in range(4):
                 words = channel(dim, (0, 1, 2))
                 for r in range(3):
-                    words = spoilt(words, 4 + r * size[dim] + size[dim] - 5 + part, 1)
+                    words = spoilt(words, HEADER + r * size[dim] + size[dim] - ENTRY + part, 1)
                 yield words, words, list(store)
 
 
@@ -206,7 +269,7 @@ def main():
         if j % 2:
             left, right = rng.choice([(damage(rng, left), right), (left, damage(rng, right)), (damage(rng, left), damage(rng, right))])
         todo.append((left, right))
-    given = [*edges(), *zero_blocks()]
+    given = [*edges(), *zero_blocks(), *exponents()]
     wanted = [store for *_, store in given]
     todo += [(left, right) for left, right, _ in given]
     refusals = [words_verdict(a) or words_verdict(b) for a, b in todo]
@@ -229,7 +292,7 @@ def main():
         else:
             dim, bits, chain = read_channel(left)
             by_place = sorted(chain, key=lambda x: x[1])
-            want = 4 + len(chain) * (3 + 5 * dim * dim)
+            want = HEADER + len(chain) * record_size(dim)
             length = want + rng.choice([0, 0, 0, 2, -1])
             after = turned = []
             if length < want:
