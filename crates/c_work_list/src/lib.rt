@@ -21,11 +21,16 @@ pub fn compare_list(
     total: &mut u64,
     index: &mut u64,
 ) -> u32
-    ensures { λ r. ⌜ r ≡ verdictNumber (replyOf count (now (words .entry)) (now (stores .entry)) (limitsOf (now (limits .entry))) allowance (now (left .entry)) (now (right .entry)) (now (work .entry)) (now (answers .entry)) (now (scalars .entry)) .verdict) ⌝ }
-    ensures { λ _. ⌜ now (index .exit) ≡ verdictIndex (replyOf count (now (words .entry)) (now (stores .entry)) (limitsOf (now (limits .entry))) allowance (now (left .entry)) (now (right .entry)) (now (work .entry)) (now (answers .entry)) (now (scalars .entry)) .verdict) ⌝ }
-    ensures { λ _. ⌜ now (total .exit) ≡ replyOf count (now (words .entry)) (now (stores .entry)) (limitsOf (now (limits .entry))) allowance (now (left .entry)) (now (right .entry)) (now (work .entry)) (now (answers .entry)) (now (scalars .entry)) .total ⌝ }
-    ensures { λ _. ⌜ now (answers .exit) ≡ answersAfter count (now (words .entry)) (now (stores .entry)) (limitsOf (now (limits .entry))) allowance (now (left .entry)) (now (right .entry)) (now (work .entry)) (now (answers .entry)) (now (scalars .entry)) ⌝ }
-    ensures { λ _. ⌜ now (scalars .exit) ≡ scalarsAfter count (now (words .entry)) (now (stores .entry)) (limitsOf (now (limits .entry))) allowance (now (left .entry)) (now (right .entry)) (now (work .entry)) (now (answers .entry)) (now (scalars .entry)) ⌝ }
+    ensures { λ r. ⌜ r ≡
+        verdictNumber (replyOf count (now (words .entry)) (now (stores .entry)) (limitsOf (now (limits .entry))) allowance (now (left .entry)) (now (right .entry)) (now (work .entry)) (now (answers .entry)) (now (scalars .entry)) .verdict) ⌝ }
+    ensures { λ _. ⌜ now (index .exit) ≡
+        verdictIndex (replyOf count (now (words .entry)) (now (stores .entry)) (limitsOf (now (limits .entry))) allowance (now (left .entry)) (now (right .entry)) (now (work .entry)) (now (answers .entry)) (now (scalars .entry)) .verdict) ⌝ }
+    ensures { λ _. ⌜ now (total .exit) ≡
+        replyOf count (now (words .entry)) (now (stores .entry)) (limitsOf (now (limits .entry))) allowance (now (left .entry)) (now (right .entry)) (now (work .entry)) (now (answers .entry)) (now (scalars .entry)) .total ⌝ }
+    ensures { λ _. ⌜ now (answers .exit) ≡
+        answersAfter count (now (words .entry)) (now (stores .entry)) (limitsOf (now (limits .entry))) allowance (now (left .entry)) (now (right .entry)) (now (work .entry)) (now (answers .entry)) (now (scalars .entry)) ⌝ }
+    ensures { λ _. ⌜ now (scalars .exit) ≡
+        scalarsAfter count (now (words .entry)) (now (stores .entry)) (limitsOf (now (limits .entry))) allowance (now (left .entry)) (now (right .entry)) (now (work .entry)) (now (answers .entry)) (now (scalars .entry)) ⌝ }
     ensures { λ _. ⌜ now (left .exit) ≡
         cleared count (now (words .entry)) (now (stores .entry)) (limitsOf (now (limits .entry))) allowance (now (left .entry)) (now (right .entry)) (now (work .entry)) (now (answers .entry)) (now (scalars .entry)) (now (left .entry)) ⌝ }
     ensures { λ _. ⌜ now (right .exit) ≡

@@ -153,7 +153,8 @@ pub fn compare_list(
     ensures answers { λ _. ⌜ now (answers .exit) ≡ answersAfter count (now (words .entry)) (now (stores .entry)) limits allowance (now (left .entry)) (now (right .entry)) (now (work .entry)) (now (answers .entry)) (now (scalars .entry)) ⌝ }
     ensures scalars { λ _. ⌜ now (scalars .exit) ≡ scalarsAfter count (now (words .entry)) (now (stores .entry)) limits allowance (now (left .entry)) (now (right .entry)) (now (work .entry)) (now (answers .entry)) (now (scalars .entry)) ⌝ }
     ensures left { λ _. ⌜ now (left .exit) ≡ cleared count (now (words .entry)) (now (stores .entry)) limits allowance (now (left .entry)) (now (right .entry)) (now (work .entry)) (now (answers .entry)) (now (scalars .entry)) (now (left .entry)) ⌝ }
-    ensures right { λ _. ⌜ now (right .exit) ≡ cleared count (now (words .entry)) (now (stores .entry)) limits allowance (now (left .entry)) (now (right .entry)) (now (work .entry)) (now (answers .entry)) (now (scalars .entry)) (now (right .entry)) ⌝ }
+    ensures right { λ _. ⌜ now (right .exit) ≡
+        cleared count (now (words .entry)) (now (stores .entry)) limits allowance (now (left .entry)) (now (right .entry)) (now (work .entry)) (now (answers .entry)) (now (scalars .entry)) (now (right .entry)) ⌝ }
     ensures work { λ _. ⌜ now (work .exit) ≡ cleared count (now (words .entry)) (now (stores .entry)) limits allowance (now (left .entry)) (now (right .entry)) (now (work .entry)) (now (answers .entry)) (now (scalars .entry)) (now (work .entry)) ⌝ }
 {
     let places = answers.len();

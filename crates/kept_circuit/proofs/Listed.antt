@@ -27,10 +27,12 @@ use Rattle.gate.specs.Questions.{gateQuestions}
 use Rattle.gate.specs.Inner.Entries.{valid}
 use Rattle.circuit.specs.Footprint.{writes}
 use Rattle.circuit.proofs.Counts.{splits-one, weight-one, marks-more}
-use Rattle.kept_circuit.specs.Kept.{qubitsPlace, bitsPlace, gatesPlace, weightPlace, splitsPlace, writtenPlace, measuresPlace, maxQubits, maxBits, maxGates, headSize, gatePlace, gateWords, measures, measureWords, places, keptWords, countAt, gatesOf, keptGate, room, allUpTo, sound}
+use Rattle.kept_circuit.specs.Kept.{qubitsPlace, bitsPlace, gatesPlace, weightPlace, splitsPlace, writtenPlace, measuresPlace, maxQubits, maxBits, maxGates}
+use Rattle.kept_circuit.specs.Kept.{headSize, gatePlace, gateWords, measures, measureWords, places, keptWords, countAt, gatesOf, keptGate, room, allUpTo, sound}
 use Rattle.kept_circuit.specs.Edits.{counted, put, askGate, gateIn, coversBit, covers, takeable, noGate}
 use Rattle.kept_circuit.proofs.Covers.{every-bit, every-none, covers-yes}
-use Rattle.kept_circuit.proofs.Head.{six, headed, headed-middle, headed-append, length-headed, length-measures, measures-at, measures-few, measures-here, newly-here, marks-few, marks-middle, total-few, total-middle, length-middle, step-in, step-out, counted-head}
+use Rattle.kept_circuit.proofs.Head.{six, headed, headed-middle, headed-append, length-headed, length-measures, measures-at, measures-few}
+use Rattle.kept_circuit.proofs.Head.{measures-here, newly-here, marks-few, marks-middle, total-few, total-middle, length-middle, step-in, step-out, counted-head}
 
 pub kept-is : (n m : ℕ) (gs : List Gate) (spare : ℕ) → keptWords n m gs spare ≡ headed n m gs (places gs spare)
 unfolding keptWords headed

@@ -22,7 +22,9 @@ returns-2 c =
     (sym (u .before .is-accepted .ensures) ∙ u .if2 .taken) (c .refusal-of .ensures)
 
 refuse-requires : tie.Need-refuse-requires
-refuse-requires c κs = c .before .before .before .before .before .before .before .before .run-side .ensures .1 .0
+refuse-requires c κs =
+    let r = c .before .before .before .before .before .before .before .before in
+    r .run-side .ensures .1 .0
 
 returns-3 : tie.Need-returns-3
 returns-3 c =

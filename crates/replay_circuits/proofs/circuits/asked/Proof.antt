@@ -35,7 +35,10 @@ returns-4 c =
     let m = u .before .before .before in
     let k = m .before .before .before .before .before .args .kind in
     let r = m .match .rest in
-    (u .circuit-channel .ensures .0 ∙ of-channel k _ _ _ _ (r .0 .0 .1) (r .0 .1) (r .1), (u .circuit-channel .ensures .1 .0 ∙ of-channel k _ _ _ _ (r .0 .0 .1) (r .0 .1) (r .1), u .circuit-channel .ensures .1 .1 ∙ of-channel k _ _ _ _ (r .0 .0 .1) (r .0 .1) (r .1)))
+    let (verdict, (result, work)) = u .circuit-channel .ensures in (
+      verdict ∙ of-channel k _ _ _ _ (r .0 .0 .1) (r .0 .1) (r .1),
+      (result ∙ of-channel k _ _ _ _ (r .0 .0 .1) (r .0 .1) (r .1), work ∙ of-channel k _ _ _ _ (r .0 .0 .1) (r .0 .1) (r .1)),
+    )
 
 pub asked-spec : {M : Type 1} → statement M
 asked-spec =

@@ -1,14 +1,14 @@
 // A sum with a product, a product, one with a conjugate, and a sum of two products. No verdicts: a caller shows that all fits.
-use super::Scalar;
-use super::numerators::aligned_sum;
-use super::numerators::reduce;
 use exact::numerators::conj_product;
 use exact::numerators::product;
+use scalar::Scalar;
+use scalar::numerators::aligned_sum;
+use scalar::numerators::reduce;
 ghost use mathlib.Core.Path.{_≡_};
 ghost use Prim.Native.Nat.{_+_};
 ghost use Rattle.exact.specs.Exact.{exact, conj, narrowExponent};
 ghost use Rattle.exact.specs.Inner.Sizes.{Coords, Room};
 ghost use Rattle.scalar.specs.Calls.{value, scalarOf};
 
 // acc + x·y
 pub fn fma(acc: Scalar, x: Scalar, y: Scalar) -> Scalar
