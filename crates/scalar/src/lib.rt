@@ -8,7 +8,6 @@ ghost use Rattle.scalar.specs.Inner.Fitting.{fittingScalar};
 
 pub mod numerators;
 pub mod powers;
-pub mod products;
 pub mod ranges;
 
 use exact::numerators::neg4;

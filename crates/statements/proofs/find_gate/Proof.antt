@@ -20,8 +20,11 @@ abbrev μ-loop : tie.MeasureT-loop
 blanks-inside : (c : tie.After-blanks-end Inv-loop μ-loop) → c .blanks-end .result ≤ length (c .before .before .args .text .now)
 blanks-inside c = omega (arith, c .blanks-end .ensures, run-most isBlank (drop 0 (c .before .before .args .text .now)))
 
-inside : (c : tie.After-token-end Inv-loop μ-loop) → Inside (length (c .before .before .before .before .before .before .before .args .text .now)) (c .before .before .loop .begin) (c .token-end .result)
-inside c = token-inside (c .before .before .before .before .before .before .before .args .text .now) (c .before .before .loop .begin) (c .before .loop-test .taken) (c .token-end .ensures)
+abbrev start : tie.After-token-end Inv-loop μ-loop → tie.Start Inv-loop μ-loop
+start c = c .before .before .before .before .before .before .before
+
+inside : (c : tie.After-token-end Inv-loop μ-loop) → Inside (length (start c .args .text .now)) (c .before .before .loop .begin) (c .token-end .result)
+inside c = token-inside (start c .args .text .now) (c .before .before .loop .begin) (c .before .loop-test .taken) (c .token-end .ensures)
 
 returns : tie.Need-returns Inv-loop μ-loop
 returns c =
@@ -69,10 +72,13 @@ find-gate-spec =
     (λ c. omega (arith, blanks-inside (c .before), c .if1 .left)) (λ c κs. omega (arith, blanks-inside (c .before), c .if1 .left)) loop-holds
     (λ c κs. (c .loop-test .taken, c .before .loop .inv .stops (c .loop-test .taken)))
     (λ c. let i = inside c in search needs) (λ c. let i = inside c in search needs) (λ c. let i = inside c in search needs) (λ c κs. search needs) returns-2
-    (λ c. omega (arith, c .if3 .left, c .before .before .before .before .before .before .loop .inv .few, c .before .before .before .before .before .before .before .before .before .before .before .fits .index))
+    (λ c. let k = c .before .before .before .before in omega (arith, c .if3 .left, k .before .before .loop .inv .few, start k .fits .index))
     (λ c. search needs)
     (λ c. let i = inside (c .before .before .before .before) in search needs) (λ c. let i = inside (c .before .before .before .before) in search needs) (λ c. let i = inside (c .before .before .before .before) in search needs)
     (λ c κs. search needs)
     (λ c κs. inside (c .before .before .before .before .before .before) .within)
-    (λ c. let i = inside (c .before .before .before .before .before .before .before) in omega (arith, i .some, i .within, c .gap-end2 .ensures .along, c .gap-end2 .ensures .inside))
+    (λ c.
+    let k = c .before .before .before .before .before .before .before in
+    let i = inside k in
+    omega (arith, i .some, i .within, c .gap-end2 .ensures .along, c .gap-end2 .ensures .inside))
     loop-again returns-3)

@@ -15,7 +15,11 @@ Inv-loop text at i₀ i = Passing text at i
 abbrev μ-loop : tie.MeasureT-loop
 μ-loop text at i₀ i = length text - i
 
-inside : (c : tie.After-line-end Inv-loop μ-loop) → c .line-end .result ≤ length (c .before .before .before .before .before .before .before .before .before .args .text .now)
+begun : tie.After-line-end Inv-loop μ-loop → tie.Start Inv-loop μ-loop
+begun c = c .before .before .before .before .before .before .before .before .before
+
+inside : (c : tie.After-line-end Inv-loop μ-loop) → c .line-end .result ≤ length (begun c .args .text .now)
+unfolding begun
 inside c =
     let k = c .before .before in
     let e = k .before in

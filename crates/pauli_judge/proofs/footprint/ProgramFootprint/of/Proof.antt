@@ -60,7 +60,9 @@ weight-of-requires : tie.Need-weight-of-requires Inv-loop μ-loop
 weight-of-requires c κs = search needs
 
 add-weight : tie.Need-add-weight Inv-loop μ-loop
-add-weight c = omega (arith, c .weight-of .ensures .1, c .before .before .before .before .before .before .before .loop .inv .few)
+add-weight c =
+    let l = c .before .before .before .before .before .before .before in
+    omega (arith, c .weight-of .ensures .1, l .loop .inv .few)
 
 loop-less : tie.Need-loop-less Inv-loop μ-loop
 loop-less c = omega arith

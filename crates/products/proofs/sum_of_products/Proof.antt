@@ -7,10 +7,10 @@ use Rattle.exact.specs.Exact.{numbers, exact, numberOf}
 use Rattle.exact.specs.Inner.Sizes.{Within, roomExponent}
 use Rattle.exact.proofs.Exact.{exacts}
 use Rattle.exact.proofs.Align.{raised, product-within, factor-within, small, roomy, fused-both}
 use Rattle.scalar.specs.Calls.{value, scalarOf}
 use borrow.Author.Needs.{needs}
-use Rattle.scalar.proofs.products.sum_of_products.Statement.{statement}
-use Rattle.scalar.proofs.products.sum_of_products.Tie as tie
+use Rattle.products.proofs.sum_of_products.Statement.{statement}
+use Rattle.products.proofs.sum_of_products.Tie as tie
 
 abbrev start : tie.After-struct-known4 → tie.Start
 start c = c .before .before .before .before .before .before .before .before

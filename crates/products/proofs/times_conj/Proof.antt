@@ -7,10 +7,10 @@ use native.Mathlib.Omega.{arith}
 use Rattle.exact.specs.Exact.{lowest, numberOf, narrowNumerator}
 use Rattle.exact.specs.Inner.Sizes.{Within}
 use Rattle.exact.proofs.Align.{factor-within}
 use Rattle.scalar.specs.Calls.{value, scalarOf}
 use borrow.Author.Needs.{needs}
-use Rattle.scalar.proofs.products.times_conj.Statement.{statement}
-use Rattle.scalar.proofs.products.times_conj.Tie as tie
+use Rattle.products.proofs.times_conj.Statement.{statement}
+use Rattle.products.proofs.times_conj.Tie as tie
 
 abbrev start : tie.After-struct-known2 → tie.Start
 start c = c .before .before .before .before

@@ -9,10 +9,10 @@ use Rattle.exact.specs.Exact.{numbers, exact, maxNumerator, numberOf}
 use Rattle.exact.specs.Inner.Sizes.{Within}
 use Rattle.exact.proofs.Exact.{exacts}
 use Rattle.exact.proofs.Align.{raised, scaled-none, product-within, factor-within, small, roomy, fused}
 use Rattle.scalar.specs.Calls.{value, scalarOf}
 use borrow.Author.Needs.{needs}
-use Rattle.scalar.proofs.products.fma.Statement.{statement}
-use Rattle.scalar.proofs.products.fma.Tie as tie
+use Rattle.products.proofs.fma.Statement.{statement}
+use Rattle.products.proofs.fma.Tie as tie
 
 abbrev start : tie.After-struct-known2 → tie.Start
 start c = c .before .before .before .before

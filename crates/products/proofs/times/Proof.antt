@@ -6,10 +6,10 @@ use lib.IntN.{ℤ}
 use native.Mathlib.Omega.{arith}
 use Rattle.exact.specs.Exact.{lowest, numberOf}
 use Rattle.exact.proofs.Align.{factor-within}
 use Rattle.scalar.specs.Calls.{value, scalarOf}
 use borrow.Author.Needs.{needs}
-use Rattle.scalar.proofs.products.times.Statement.{statement}
-use Rattle.scalar.proofs.products.times.Tie as tie
+use Rattle.products.proofs.times.Statement.{statement}
+use Rattle.products.proofs.times.Tie as tie
 
 abbrev start : tie.After-struct-known2 → tie.Start
 start c = c .before .before .before .before
