@@ -11,7 +11,8 @@ use Rattle.exact.specs.Exact.{Exact, exact, half, imaginary, equal}
 use Rattle.scalar.specs.Claims as scalars
 use Rattle.circuit.specs.Limits.{ceilings}
 use Rattle.circuit.specs.Claims as circuits
-use Rattle.channel.specs.Claims.{entryOf}
+use Rattle.channel.specs.Layout as layout
+use Rattle.channel.specs.Claims.{look}
 use Rattle.effects.specs.Effects.{resultOf, povmOf}
 use Rattle.judge.specs.Call.{resultAfter}
 use Rattle.gate.specs.Operators.{sameBits}
@@ -38,7 +39,7 @@ abbrev pub holds : Row → Bool
 holds (scalar r) = scalars.holds r
 holds (verdict r) = circuits.holds r
 holds (listing t a) = sameBits (answerOf t (words 5200) (words 2000)) a
-holds (effect ws s r c old new) = equal (entryOf (resultOf (channelOf ws) (words 100)) s (r * 2 + c)) old && equal (entryOf (povmOf (channelOf ws) (words 100)) s (r * 2 + c)) new
+holds (effect ws s r c old new) = equal (look (layout.readBackIn (layout.effects 2) (resultOf (channelOf ws) (words 100))) s (r * 2 + c)) old && equal (look (layout.readBackIn (layout.effects 2) (povmOf (channelOf ws) (words 100))) s (r * 2 + c)) new
 
 abbrev pub listings : List Row
 listings =
