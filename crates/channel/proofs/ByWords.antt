@@ -172,4 +172,6 @@ by-words F l at = go (upTo maxExponent x) refl
     go : (a : Bool) → upTo maxExponent x ≡ a
         → said (upTo maxExponent x) (leb (natAbs x) maxExponent) (allBelow (entries F) (λ (k : ℕ). within maxNumerator (z k))) (eqb (natAbs x) 0 || not (allBelow (entries F) (λ (k : ℕ). numberHalves .even (z k)))) ≡ asked (upTo maxExponent x) A B
     go true e = (λ i. said (e i) (abs-up maxExponent x e i) (range i) (zero-test x i || not (parity i))) ∙ sym (ap (λ (a : Bool). asked a A B) e)
-    go false e = ap (λ (a : Bool). said a (leb (natAbs x) maxExponent) (allBelow (entries F) (λ (k : ℕ). within maxNumerator (z k))) (eqb (natAbs x) 0 || not (allBelow (entries F) (λ (k : ℕ). numberHalves .even (z k))))) e ∙ sym (ap (λ (a : Bool). asked a A B) e)
+    go false e =
+        ap (λ (a : Bool). said a (leb (natAbs x) maxExponent) (allBelow (entries F) (λ (k : ℕ). within maxNumerator (z k))) (eqb (natAbs x) 0 || not (allBelow (entries F) (λ (k : ℕ). numberHalves .even (z k))))) e
+        ∙ sym (ap (λ (a : Bool). asked a A B) e)

@@ -24,7 +24,8 @@ use Rattle.exact.specs.Exact.{Number, number, numberHalves, lowest, root2, maxE
 use Rattle.exact.proofs.Exact.{lowest-form, conj-lowest}
 use Rattle.store.specs.Store.{maxWord, storeFrom, before}
 use Rattle.channel.specs.Shared.{entry, shared, sharedOk, sharedFits, isShared}
-use Rattle.channel.specs.Layout.{word, storeAt, least, dimAt, bitsAt, countAt, Form, form, entrySize, entryWords, entryFrom, entries, from, rowStart, blockSize, rowWords, blockWords, kept, blockFrom, recordSize, recordAt, recordWords, first, next, header, words, numbersAt, sharedAt}
+use Rattle.channel.specs.Layout.{word, storeAt, least, dimAt, bitsAt, countAt, Form, form, entrySize, entryWords, entryFrom, entries, from, rowStart}
+use Rattle.channel.specs.Layout.{blockSize, rowWords, blockWords, kept, blockFrom, recordSize, recordAt, recordWords, first, next, header, words, numbersAt, sharedAt}
 use Rattle.channel.specs.WellFormed.{isDim, storeOk, isReal, headerOk, diagonalOk, blockOk, chainOk, wellFormedIn}
 use Rattle.channel.specs.Recast.{relink, recast}
 use Rattle.channel.specs.Claims.{Plain, Suits, Writable}

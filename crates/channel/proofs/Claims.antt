@@ -171,7 +171,8 @@ symmetric l r h = go (accepted (formVerdict l)) refl (accepted (formVerdict r)) 
         turned : (m n : ℕ) → eqb m n ≡ eqb n m
         turned m n = eqb-same m n n m sym sym
 
-    go : (p : Bool) → accepted (formVerdict l) ≡ p → (q : Bool) → accepted (formVerdict r) ≡ q → (accepted (formVerdict l) || accepted (formVerdict r)) ≡ true → (s : Bool) → eqb (dimAt l) (dimAt r) ≡ s → (t : Bool) → eqb (bitsAt l) (bitsAt r) ≡ t → compareOf r l ≡ swapped (compareOf l r)
+    go : (p : Bool) → accepted (formVerdict l) ≡ p → (q : Bool) → accepted (formVerdict r) ≡ q → (accepted (formVerdict l) || accepted (formVerdict r)) ≡ true
+        → (s : Bool) → eqb (dimAt l) (dimAt r) ≡ s → (t : Bool) → eqb (bitsAt l) (bitsAt r) ≡ t → compareOf r l ≡ swapped (compareOf l r)
     go false a true b h s c t d = theirs false true s t a b c d ∙ sym (ap swapped (mine false true s t a b c d))
     go false a false b h s c t d = absurd (true≢false (sym h ∙ (λ i. a i || b i)))
     go true a false b h s c t d = theirs true false s t a b c d ∙ sym (ap swapped (mine true false s t a b c d))

@@ -13,7 +13,8 @@ use Rattle.algebra.specs.Sum.{sum}
 use Rattle.algebra.specs.Words.{eqℤ, upTo}
 use Rattle.exact.specs.Exact.{Number, numbers, root2, Exact, exact, lowest, equal, conj, maxNumerator, maxExponent}
 use Rattle.channel.specs.Shared.{Shared, entry, isShared, shared, reduced}
-use Rattle.channel.specs.Layout.{Block, Form, form, full, channels, effects, packed, plainOnly, headerSize, recordHead, exponentPlace, entries, blockSize, recordSize, recordAt, words, first, next, word, storeAt, dimAt, bitsAt, countAt, numbersAt, blockAt}
+use Rattle.channel.specs.Layout.{Block, Form, form, full, channels, effects, packed, plainOnly}
+use Rattle.channel.specs.Layout.{headerSize, recordHead, exponentPlace, entries, blockSize, recordSize, recordAt, words, first, next, word, storeAt, dimAt, bitsAt, countAt, numbersAt, blockAt}
 use Rattle.channel.specs.WellFormed.{diagonalOk, blockOk, wellFormedIn}
 use Rattle.channel.specs.Recast.{relink, recast}
 use Rattle.channel.specs.Claims.{Lowest, Plain, Suits}

@@ -77,7 +77,8 @@ module _ (l : List ℤ) (d m n : ℕ) (B : ℕ → Block) (room : headerSize + n
       (λ j h. ap (λ (k : ℕ). pos (link (channels d) k) ∷ []) (least-same n (storesIn unlinked d) (λ (i : ℕ). B i .store) (before (storesIn unlinked d j)) (before (B j .store)) store-read (ap before (store-read j h))))
       ∙ heads-whole (recordSize (channels d)) unlinked headerSize (λ (j : ℕ). pos (next (channels d) d m n B j)) (λ (j : ℕ). pos (B j .store % 2 ^ 32) ∷ pos (B j .store / 2 ^ 32) ∷ pos (S j .exp) ∷ blockWords (channels d) (S j .num))
       (λ j. omega (arith, sized 0 j)) n (λ j k h q. word-read j (suc k) h (omega (arith, sized 0 j)))
-      ∙ blocks-over (recordSize (channels d)) l headerSize n (λ (j : ℕ). recordWords (channels d) 0 (B j .store) (S j)) (λ (j : ℕ). recordWords (channels d) (next (channels d) d m n B j) (B j .store) (S j)) (sized 0) (λ j. sized (next (channels d) d m n B j) j) room
+      ∙ blocks-over (recordSize (channels d)) l headerSize n (λ (j : ℕ). recordWords (channels d) 0 (B j .store) (S j)) (λ (j : ℕ). recordWords (channels d) (next (channels d) d m n B j) (B j .store) (S j)) (sized 0)
+      (λ j. sized (next (channels d) d m n B j) j) room
 
   first-whole : {b : List ℤ} → b ≡ linked d n unlinked → first (channels d) d m n (blockIn b (side d)) ≡ first (channels d) d m n B
   first-whole {b} e = ap (link (channels d)) (least-same n (storesIn b d) (λ (i : ℕ). B i .store) (λ (s : ℕ). true) (λ (s : ℕ). true) (λ i h. store-kept linking i ∙ store-read i h) refl)
@@ -100,7 +101,9 @@ module _ (l : List ℤ) (d m n : ℕ) (B : ℕ → Block) (room : headerSize + n
       recs = words.joined n (λ (j : ℕ). recordWords (channels d) (next (channels d) d m n B j) (B j .store) (S j))
 
       size : length (header (channels d) d m n B ++ recs) ≡ headerSize + n * recordSize (channels d)
-      size = length-append (header (channels d) d m n B) recs ∙ ap (λ (k : ℕ). headerSize + k) (length-joined (recordSize (channels d)) (λ (j : ℕ). recordWords (channels d) (next (channels d) d m n B j) (B j .store) (S j)) (λ j. sized (next (channels d) d m n B j) j) n)
+      size =
+          length-append (header (channels d) d m n B) recs
+          ∙ ap (λ (k : ℕ). headerSize + k) (length-joined (recordSize (channels d)) (λ (j : ℕ). recordWords (channels d) (next (channels d) d m n B j) (B j .store) (S j)) (λ j. sized (next (channels d) d m n B j) j) n)
 
   -- what is left once the records are linked and headed
   pub delivered : {a b c : List ℤ} → a ≡ unlinked → b ≡ linked d n a → c ≡ headed d m n b → c ≡ overwritten (channelWords d m n B) l

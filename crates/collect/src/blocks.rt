@@ -55,7 +55,8 @@ pub fn write_block(
     b: usize,
 )
     requires { ⌜ (b < count) × ((to + 1 + d * d * (d * d) * 4 ≤ length (now result)) × Bank (now work) at d count) ⌝ }
-    ensures { λ _. ⌜ now (result .exit) ≡ sets (now (result .entry)) to (pos (sharedOf (now (work .entry)) at d count (storeOf (now (work .entry)) at d b) .exp) ∷ blockWords (channels d) (sharedOf (now (work .entry)) at d count (storeOf (now (work .entry)) at d b) .num)) ⌝ }
+    ensures { λ _. ⌜ now (result .exit) ≡
+        sets (now (result .entry)) to (pos (sharedOf (now (work .entry)) at d count (storeOf (now (work .entry)) at d b) .exp) ∷ blockWords (channels d) (sharedOf (now (work .entry)) at d count (storeOf (now (work .entry)) at d b) .num)) ⌝ }
 {
     let out = to + 1;
     let w = d * d;

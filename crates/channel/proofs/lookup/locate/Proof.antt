@@ -111,4 +111,5 @@ locate-spec =
     tie.close
     (tie.spec (λ c κs. search needs) (λ c κs. search needs) (λ c κs. search needs) returns (λ c κs. search needs) (λ c κs. search needs) returns-2 pack-requires
     (λ c κs. let e = c .before .before .before in (right e, ap (λ (h : Shape). h .count) (is e))) (λ c κs. search needs) returns-3
-    (λ c. let q = width (c .before) in omega arith) (λ c. let q = inside (c .before) in omega arith) (λ c κs. width (c .before)) (λ c. let q = mul-le-mul (width (c .before .before)) (width (c .before .before)) in omega (arith, c .block-size .ensures)) returns-4)
+    (λ c. let q = width (c .before) in omega arith) (λ c. let q = inside (c .before) in omega arith) (λ c κs. width (c .before))
+    (λ c. let q = mul-le-mul (width (c .before .before)) (width (c .before .before)) in omega (arith, c .block-size .ensures)) returns-4)
