@@ -12,7 +12,7 @@ import sys
 
 from circuit_cases import BAD_GATES, BIG
 from circuits import PLAIN, flat, gate, text
-from rules import CEILINGS, H, MAX_WEIGHT, MEASURE, RESET, WEIGHT, X, bad_operand, channel_sizes, channel_verdict, checksum, counts, malformed, unsupported, weight
+from rules import CEILINGS, H, MAX_WEIGHT, MEASURE, RESET, WEIGHT, X, bad_operand, channel_sizes, channel_verdict, checksum, counts, malformed, split, unsupported, weight
 
 KIND = 25
 HEAD, GATE, MAX_QUBITS, MAX_BITS, MAX_GATES = 70, 5, 5, 64, 1024
@@ -115,7 +115,8 @@ def from_counts(words, store, result, work):
         return (1, 0)
     if heavy > MAX_WEIGHT:
         return (7, 0)
-    return (8, 0) if result < 4 + v * (3 + 5 * d**4) or work < (2 * b + 2) * (5 * d * d + 2) else (0, 0)
+    want = channel_sizes(n, split(splits, written))
+    return (8, 0) if result < want[0] or work < want[1] else (0, 0)
 
 
 def copied(words, room):

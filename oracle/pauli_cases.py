@@ -12,7 +12,7 @@ import sys
 from ask import ask, refusal
 from circuit_cases import BIG
 from circuits import text
-from rules import CEILINGS, MAX_WEIGHT
+from rules import CEILINGS, MAX_WEIGHT, channel_sizes, split
 
 KIND = 17
 ROTATE, IF, MEASURE, INTO = range(4)
@@ -88,7 +88,7 @@ def verdict(n, bits, store, nodes, operations, result, work):
         return (1, 0)
     if sum(2 if w[0] in (MEASURE, INTO) else (0, 2, 1, 2, 0, 2, 1, 2)[w[3]] for w in todo) > MAX_WEIGHT:
         return (7, 0)
-    return (8, 0) if result < 4 + v * (3 + 5 * d**4) or work < (2 * b + named + 2) * (5 * d * d + 3) else (0, 0)
+    return (8, 0) if result < channel_sizes(n, split(made, written))[0] or work < (2 * b + named + 2) * (5 * d * d + 3) else (0, 0)
 
 
 # ---- programs
