@@ -129,4 +129,5 @@ def main():
     print(f"seed {SEED}: {len(lines)} pairs by the Rust: {kinds[0]} same, {kinds[1]} of other dimensions, {kinds[2]} that differ in an entry", file=sys.stderr)
 
 
-main()
+if __name__ == "__main__":
+    main()

@@ -33,6 +33,9 @@ RECORD = {
     7: lambda given: counted(circuit(given[3:])),
     23: lambda given: circuit(given[3:]),
     10: lambda given: counted(counted(counted(given[2:]))),
+    17: lambda given: counted(counted(counted(given[4:]))),
+    24: lambda given: counted(counted(given[8:])),
+    25: lambda given: counted(words(given)[7:])[3:],
 }
 LISTING, READ, WRITTEN = 6, 8, 9
 

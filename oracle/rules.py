@@ -144,6 +144,12 @@ def channel_sizes(n, gs):
     return HEADER + 2**min(s, t) * record_size(d * d), (2 * 2**s + 2) * (5 * d * d + 2)
 
 
+def split(splits, written):
+    """Gates with so many measures and resets, and so many bits measured into, as far as there are measures."""
+    bits = min(splits, written)
+    return [(MEASURE, 0, b, 0, 0) for b in range(bits)] + [(RESET, 0, 0, 0, 0)] * (splits - bits)
+
+
 def unitary_sizes(n):
     d = 2**n
     return 5 * d * d, 4 * (5 * d * d + 2)

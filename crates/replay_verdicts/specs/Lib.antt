@@ -1,0 +1,4 @@
+pub mod Verdicts
+pub mod Edits
+pub mod Programs
+pub mod Cases
