@@ -16,12 +16,12 @@ pub fn pack_channel(channel: &[i64], result: &mut [i64], index: &mut u64) -> u32
 }
 
 // Unpack packed words: the verdict's number, and its index in `index`.
-pub fn unpack_channel(packed_words: &[i64], result: &mut [i64], index: &mut u64) -> u32
-    ensures { λ r. ⌜ r ≡ verdictNumber (unpackVerdict (now (packed_words .entry)) (now (result .entry))) ⌝ }
-    ensures { λ _. ⌜ now (index .exit) ≡ verdictIndex (unpackVerdict (now (packed_words .entry)) (now (result .entry))) ⌝ }
-    ensures { λ _. ⌜ now (result .exit) ≡ unpackResult (now (packed_words .entry)) (now (result .entry)) ⌝ }
+pub fn unpack_channel(words: &[i64], result: &mut [i64], index: &mut u64) -> u32
+    ensures { λ r. ⌜ r ≡ verdictNumber (unpackVerdict (now (words .entry)) (now (result .entry))) ⌝ }
+    ensures { λ _. ⌜ now (index .exit) ≡ verdictIndex (unpackVerdict (now (words .entry)) (now (result .entry))) ⌝ }
+    ensures { λ _. ⌜ now (result .exit) ≡ unpackResult (now (words .entry)) (now (result .entry)) ⌝ }
 {
-    let v = packed::unpack_channel(packed_words, result);
+    let v = packed::unpack_channel(words, result);
     report(v, index)
 }
 

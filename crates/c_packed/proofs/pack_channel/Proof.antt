@@ -16,7 +16,7 @@ same-length c = search needs
 
 returns : tie.Need-returns
 returns c =
-    let j = c .before .before .pack-channel in
+    let j = c .before .before .before .pack-channel in
     (c .report .ensures .0 ∙ ap verdictNumber (j .ensures .0), (c .report .ensures .1 ∙ ap verdictIndex (j .ensures .0), j .ensures .1))
 
 pub pack-channel-spec : {M : Type 1} → statement M

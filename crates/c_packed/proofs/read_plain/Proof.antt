@@ -16,7 +16,7 @@ same-length c = search needs
 
 returns : tie.Need-returns
 returns c =
-    let j = c .before .before .read-plain in
+    let j = c .before .before .before .read-plain in
     (c .report .ensures .0 ∙ ap verdictNumber (j .ensures .0), (c .report .ensures .1 ∙ ap verdictIndex (j .ensures .0), j .ensures .1))
 
 pub read-plain-spec : {M : Type 1} → statement M
