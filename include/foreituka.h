@@ -68,7 +68,9 @@ enum {
     FOREITUKA_OUTCOME = 19,         /* an outcome that is read before it is made; the operation's index is given */
     FOREITUKA_NO_PLACE = 20,        /* a kept circuit has no place free, or 1,024 gates */
     FOREITUKA_NO_GATE = 21,         /* a kept circuit has no gate at the position */
-    FOREITUKA_PLAIN = 23,           /* a gate outside the plain-gate profile; its index is given */
+    FOREITUKA_HERMITIAN = 22,       /* a channel to be packed with a block that is not Hermitian; the place along the chain, from 0, of the first is given */
+    FOREITUKA_PLAIN = 23,           /* a gate outside the plain-gate profile; its index is given. Or, from write_plain, a block with a √2 part; the place
+                                       along the chain, from 0, of the first is given */
     FOREITUKA_PAIRS = 24,           /* more than 32 pairs */
     FOREITUKA_COUNTS = 25,          /* the words of a kept circuit are too few, or their counts cannot be those of its gates */
     FOREITUKA_SAME = 100,           /* compare, judge_texts: no entry differs */
@@ -160,6 +162,9 @@ enum {
 #define FOREITUKA_UNITARY_WORDS(n) FOREITUKA_MATRIX_WORDS(n)
 #define FOREITUKA_UNITARY_WORK_WORDS(n) (4 * (FOREITUKA_MATRIX_WORDS(n) + 2))
 #define FOREITUKA_EFFECTS_WORDS(n, blocks) (FOREITUKA_HEADER_WORDS + (size_t)(blocks) * FOREITUKA_EFFECT_RECORD_WORDS(n))
+/* Words of a packed channel of n qubits and as many blocks, and of one with n0 and n2 alone for each entry. */
+#define FOREITUKA_PACKED_WORDS(n, blocks) (4 + (size_t)(blocks) * (4 + (((size_t)2 << 2 * (n)) * (((size_t)1 << 2 * (n)) + 1))))
+#define FOREITUKA_PLAIN_WORDS(n, blocks) (4 + (size_t)(blocks) * (4 + ((size_t)2 << 4 * (n))))
 
 /* the work of a Pauli program; nodes: one more than the highest node that an axis names, at least 2n + 1 (0 with no qubits and no axis) */
 #define FOREITUKA_PAULI_WORK_WORDS(n, measures, nodes) ((((size_t)2 << (measures)) + (nodes) + 2) * (FOREITUKA_MATRIX_WORDS(n) + 3))
@@ -286,6 +291,22 @@ uint32_t foreituka_classical_blocks(const int64_t *channel, size_t channel_words
 /* Each store's effect as the textbook has it, the POVM element E = Σ K†K: tr(E ρ) is the probability that a circuit leaves the store when it is given
  * ρ. Entry (r, c) is entry (c, r) of the transposed effect; all else is as in classical_blocks. */
 uint32_t foreituka_povm_effects(const int64_t *channel, size_t channel_words, int64_t *result, size_t result_words);
+
+/* Pack a channel: of each block, which is Hermitian, the entries (r, c) with r ≤ c alone, row after row. The records keep their order, with next indices to
+ * match. result: FOREITUKA_PACKED_WORDS words or more, with as many blocks as the channel has; the words past them are kept. A refusal leaves the result as
+ * it was. Replies: 10, 16, 22 (with the place along the chain of the first block that is not Hermitian), 8, 0, asked in this order. */
+uint32_t foreituka_pack_channel(const int64_t *channel, size_t channel_words, int64_t *result, size_t result_words, uint64_t *index);
+
+/* Unpack packed words: every used word of the channel that they were packed from. result: FOREITUKA_CHANNEL_WORDS words or more for as many blocks. Replies:
+ * 10 (packed words that are not well formed, with a diagonal entry that has n2 or n3 too), 8, 0. A block of zeros is not refused. */
+uint32_t foreituka_unpack_channel(const int64_t *packed, size_t packed_words, int64_t *result, size_t result_words, uint64_t *index);
+
+/* Write a channel whose blocks have no √2 part with n0 and n2 alone for each entry; all else is as in pack_channel. result: FOREITUKA_PLAIN_WORDS words or
+ * more. Replies: 10, 16, 23 (with the place along the chain of the first block that has a √2 part), 8, 0, asked in this order. */
+uint32_t foreituka_write_plain(const int64_t *channel, size_t channel_words, int64_t *result, size_t result_words, uint64_t *index);
+
+/* Read such words: every used word of the channel that they were written from. Replies: 10, 8, 0. */
+uint32_t foreituka_read_plain(const int64_t *words, size_t word_count, int64_t *result, size_t result_words, uint64_t *index);
 
 /* The index in `channel` of a store's block: its exponent stands there, word FOREITUKA_EXPONENT_PLACE of its record, and its 4·d^4 numerators behind
  * it. 0: a channel that is malformed or has a block of zeros, a store of the wrong length or with a byte above 1, or no such block. */

@@ -34,7 +34,7 @@ module _ (n m : ℕ) (σ : List ℕ) (l : Limits) (ns os : List ℕ) (r w : List
   known : Known n m σ ns os (length r) (length w)
   known = accepted-known n m σ l ns os r w e
 
-  result-is : resultAfter n m σ l ns os r w ≡ overwritten (programWords n m σ (nodesOf ns) (operationsOf os)) r
+  pub result-is : resultAfter n m σ l ns os r w ≡ overwritten (programWords n m σ (nodesOf ns) (operationsOf os)) r
   result-is = ap (λ (b : Bool). cond b (overwritten (programWords n m σ (nodesOf ns) (operationsOf os)) r) r) e
 
   program-delivers : ProgramDelivers n m σ l ns os r w
@@ -49,7 +49,7 @@ module _ (n m : ℕ) (σ : List ℕ) (l : Limits) (ns os : List ℕ) (r w : List
   }
 
   -- its branches, as those of a circuit
-  source : Source n m (programBranches n (nodesOf ns) σ (operationsOf os))
+  pub source : Source n m (programBranches n (nodesOf ns) σ (operationsOf os))
   source = record {
     small = known .qubit-count;
     few = known .bit-count;

@@ -2,6 +2,7 @@
 pub mod answering;
 pub mod channels;
 pub mod circuits;
+pub mod forms;
 pub mod kept;
 pub mod matrices;
 pub mod profile;
