@@ -2,6 +2,7 @@ pub mod Finding
 pub mod Numerators
 pub mod Summing
 pub mod Sharing
+pub mod Sparse
 pub mod Recording
 pub mod Rising
 pub mod Linking

@@ -22,7 +22,8 @@ use Rattle.channel.specs.Layout.{channels, blockWords}
 use Rattle.channel.proofs.Shared.{shared-same}
 use Rattle.channel.proofs.Full.{full-words}
 use Rattle.share.specs.Share.{numberAt, withNumerators, sharedFrom}
-use Rattle.overlaps.specs.Inner.Overlap.{numberIn, mirroredAt}
+use Rattle.overlaps.specs.Inner.Overlap.{numberIn}
+use Rattle.hermitian.specs.Inner.Sparse.{mirroredAt}
 use Rattle.overlaps.proofs.Numbers.{number-filled}
 use Rattle.collect.specs.Inner.Bank.{storeOf, entry, has, overlaps, numerators, sharedOf, Bank}
 use Rattle.collect.proofs.Numerators.{entry-is}

@@ -53,12 +53,16 @@ module _ (l : List ℤ) (d m n : ℕ) (B : ℕ → Block) (room : headerSize + n
   abbrev S : ℕ → Shared
   S j = shared (entries (channels d)) (B j .entry)
 
+  -- record j, as one of the chain
+  abbrev chained : ℕ → List ℤ
+  chained j = recordWords (channels d) (next (channels d) d m n B j) (B j .store) (S j)
+
   -- the records, and with next indices
   abbrev unlinked : List ℤ
   unlinked = blocks (recordSize (channels d)) l headerSize n (λ (j : ℕ). recordWords (channels d) 0 (B j .store) (S j))
 
   abbrev whole : List ℤ
-  whole = blocks (recordSize (channels d)) l headerSize n (λ (j : ℕ). recordWords (channels d) (next (channels d) d m n B j) (B j .store) (S j))
+  whole = blocks (recordSize (channels d)) l headerSize n chained
 
   sized : (x j : ℕ) → length (recordWords (channels d) x (B j .store) (S j)) ≡ recordSize (channels d)
   sized x j = length-record d x (B j .store) (S j)
@@ -77,8 +81,7 @@ module _ (l : List ℤ) (d m n : ℕ) (B : ℕ → Block) (room : headerSize + n
       (λ j h. ap (λ (k : ℕ). pos (link (channels d) k) ∷ []) (least-same n (storesIn unlinked d) (λ (i : ℕ). B i .store) (before (storesIn unlinked d j)) (before (B j .store)) store-read (ap before (store-read j h))))
       ∙ heads-whole (recordSize (channels d)) unlinked headerSize (λ (j : ℕ). pos (next (channels d) d m n B j)) (λ (j : ℕ). pos (B j .store % 2 ^ 32) ∷ pos (B j .store / 2 ^ 32) ∷ pos (S j .exp) ∷ blockWords (channels d) (S j .num))
       (λ j. omega (arith, sized 0 j)) n (λ j k h q. word-read j (suc k) h (omega (arith, sized 0 j)))
-      ∙ blocks-over (recordSize (channels d)) l headerSize n (λ (j : ℕ). recordWords (channels d) 0 (B j .store) (S j)) (λ (j : ℕ). recordWords (channels d) (next (channels d) d m n B j) (B j .store) (S j)) (sized 0)
-      (λ j. sized (next (channels d) d m n B j) j) room
+      ∙ blocks-over (recordSize (channels d)) l headerSize n (λ (j : ℕ). recordWords (channels d) 0 (B j .store) (S j)) chained (sized 0) (λ j. sized (next (channels d) d m n B j) j) room
 
   first-whole : {b : List ℤ} → b ≡ linked d n unlinked → first (channels d) d m n (blockIn b (side d)) ≡ first (channels d) d m n B
   first-whole {b} e = ap (link (channels d)) (least-same n (storesIn b d) (λ (i : ℕ). B i .store) (λ (s : ℕ). true) (λ (s : ℕ). true) (λ i h. store-kept linking i ∙ store-read i h) refl)
@@ -89,21 +92,19 @@ module _ (l : List ℤ) (d m n : ℕ) (B : ℕ → Block) (room : headerSize + n
   -- the header over the first words
   headed-whole : sets whole 0 (header (channels d) d m n B) ≡ overwritten (channelWords d m n B) l
   headed-whole =
-      sets-eq (header (channels d) d m n B) whole 0 (omega (arith, length-blocks (recordSize (channels d)) l headerSize (λ (j : ℕ). recordWords (channels d) (next (channels d) d m n B j) (B j .store) (S j)) n))
+      sets-eq (header (channels d) d m n B) whole 0 (omega (arith, length-blocks (recordSize (channels d)) l headerSize chained n))
       ∙ ap (λ (t : List ℤ). header (channels d) d m n B ++ t)
-      (ap (drop headerSize) (blocks-parts (recordSize (channels d)) (λ (j : ℕ). recordWords (channels d) (next (channels d) d m n B j) (B j .store) (S j)) (λ j. sized (next (channels d) d m n B j) j) l headerSize n room
+      (ap (drop headerSize) (blocks-parts (recordSize (channels d)) chained (λ j. sized (next (channels d) d m n B j) j) l headerSize n room
       ∙ append-assoc (take headerSize l) recs (drop (headerSize + n * recordSize (channels d)) l))
       ∙ drop-at (take headerSize l) (recs ++ drop (headerSize + n * recordSize (channels d)) l) headerSize (simp length-take (omega arith)))
       ∙ sym (append-assoc (header (channels d) d m n B) recs (drop (headerSize + n * recordSize (channels d)) l))
       ∙ ap (λ (k : ℕ). (header (channels d) d m n B ++ recs) ++ drop k l) (sym size)
     where
       recs : List ℤ
-      recs = words.joined n (λ (j : ℕ). recordWords (channels d) (next (channels d) d m n B j) (B j .store) (S j))
+      recs = words.joined n chained
 
       size : length (header (channels d) d m n B ++ recs) ≡ headerSize + n * recordSize (channels d)
-      size =
-          length-append (header (channels d) d m n B) recs
-          ∙ ap (λ (k : ℕ). headerSize + k) (length-joined (recordSize (channels d)) (λ (j : ℕ). recordWords (channels d) (next (channels d) d m n B j) (B j .store) (S j)) (λ j. sized (next (channels d) d m n B j) j) n)
+      size = length-append (header (channels d) d m n B) recs ∙ ap (λ (k : ℕ). headerSize + k) (length-joined (recordSize (channels d)) chained (λ j. sized (next (channels d) d m n B j) j) n)
 
   -- what is left once the records are linked and headed
   pub delivered : {a b c : List ℤ} → a ≡ unlinked → b ≡ linked d n a → c ≡ headed d m n b → c ≡ overwritten (channelWords d m n B) l

@@ -3,19 +3,16 @@ use super::bank::branch_store;
 use super::bank::find_branch;
 use cells::CELL;
 use channel::layout::ENTRY;
+use hermitian::mirror;
+use hermitian::share_block;
 use matrix::words::clear;
 use overlaps::add_upper;
-use overlaps::mirror;
-use share::share;
 ghost use mathlib.Core.Path.{_≡_};
-ghost use mathlib.Core.List.{_∷_};
 ghost use Prim.Native.Nat.{_+_, _*_, _<_, _≤_};
 ghost use lib.ListN.{length};
 ghost use lib.Seq.{sets};
-ghost use lib.IntN.{pos};
-ghost use Rattle.channel.specs.Layout.{channels, blockWords};
 ghost use Rattle.share.specs.Share.{withNumerators};
-ghost use Rattle.collect.specs.Inner.Bank.{storeOf, upper, sharedOf, Bank};
+ghost use Rattle.collect.specs.Inner.Bank.{storeOf, upper, sharedWords, Bank};
 
 // The largest power of two that a factor is over: all factors are brought over it.
 const SCALE: u32 = 29;
@@ -55,13 +52,12 @@ pub fn write_block(
     b: usize,
 )
     requires { ⌜ (b < count) × ((to + 1 + d * d * (d * d) * 4 ≤ length (now result)) × Bank (now work) at d count) ⌝ }
-    ensures { λ _. ⌜ now (result .exit) ≡
-        sets (now (result .entry)) to (pos (sharedOf (now (work .entry)) at d count (storeOf (now (work .entry)) at d b) .exp) ∷ blockWords (channels d) (sharedOf (now (work .entry)) at d count (storeOf (now (work .entry)) at d b) .num)) ⌝ }
+    ensures { λ _. ⌜ now (result .exit) ≡ sets (now (result .entry)) to (sharedWords (now (work .entry)) at d count (storeOf (now (work .entry)) at d b)) ⌝ }
 {
     let out = to + 1;
     let w = d * d;
     sum_block(result, out, work, at, d, count, b);
     mirror(result, out, w);
-    let e = share(result, out, w * w, SCALE + SCALE);
+    let e = share_block(result, out, w, SCALE + SCALE);
     result[to] = e as i64;
 }

@@ -1,11 +1,9 @@
--- A block while its rows are written: overlaps added from the diagonal on, and conjugates written below it.
+-- A block while its rows are written: overlaps added from the diagonal on.
 use mathlib.Core.Path.{_≡_, sym, ap, _∙_, subst}
 use mathlib.Core.Bool.{Bool, true, false, cond}
 use mathlib.Core.List.{List}
-use mathlib.Core.Logic.{inl}
 use Prim.Native.Nat.{ℕ, _+_, _*_, _-_, _/_, _%_, _≤_, _<_}
-use native.Mathlib.Nat.{le-refl, zero-mul, mul-le-mul}
-use native.Mathlib.Decide.{decLt}
+use native.Mathlib.Nat.{le-refl, zero-mul}
 use native.Mathlib.Omega.{arith}
 use lib.Arith.{digits-div, digits-mod}
 use lib.Dec.{leb}
@@ -13,14 +11,13 @@ use lib.ListN.{length}
 use lib.IntN.{ℤ}
 use borrow.Author.Tests.{le-leb, lt-leb}
 use Rattle.algebra.specs.Quadratic.{conjugate}
-use Rattle.algebra.proofs.Blocks.{Writing, begin, wrote, long, kept, rest, Same, block-in, blocks-same, blocks-more}
+use Rattle.algebra.proofs.Blocks.{Writing, begin, long, rest, Same, block-in, blocks-same, blocks-more}
 use Rattle.exact.specs.Exact.{Number, numbers, root2, listOf, maxNumerator}
-use Rattle.exact.specs.Inner.Sizes.{Within, roomNumerator}
-use Rattle.exact.proofs.Align.{roomy}
+use Rattle.exact.specs.Inner.Sizes.{Within}
 use Rattle.cells.specs.Cells.{cellSize}
 use Rattle.share.specs.Share.{withNumerators}
-use Rattle.overlaps.specs.Inner.Overlap.{numberIn, raisedAt, added, rowAdded, upperAdded, mirroredAt, Raised, Row, Block, Upper}
-use Rattle.overlaps.proofs.Numbers.{number-same, number-filled, numbers-there}
+use Rattle.overlaps.specs.Inner.Overlap.{numberIn, raisedAt, added, rowAdded, upperAdded, Raised, Row, Upper}
+use Rattle.overlaps.proofs.Numbers.{number-same, numbers-there}
 
 -- ---- b is l with r rows written
 abbrev pub Rows : List ℤ → ℕ → ℕ → (ℕ → Number) → List ℤ → ℕ → Type 0
@@ -31,10 +28,10 @@ no-rows l out w f = subst (Writing 4 l out (w * w) (λ (i : ℕ). listOf (f i)) 
 
 -- places of row r
 module _ (out w r : ℕ) where
-  row-place : (c : ℕ) → out + r * w * 4 + c * 4 ≡ out + (r * w + c) * 4
+  pub row-place : (c : ℕ) → out + r * w * 4 + c * 4 ≡ out + (r * w + c) * 4
   row-place c = omega arith
 
-  later-place : (i : ℕ) → out + (r * w + r) * 4 + i * 4 ≡ out + (r * w + (r + i)) * 4
+  pub later-place : (i : ℕ) → out + (r * w + r) * 4 + i * 4 ≡ out + (r * w + (r + i)) * 4
   later-place i = omega arith
 
   diagonal-place : out + r * w * 4 + r * 4 ≡ out + (r * w + r) * 4
@@ -45,7 +42,7 @@ entry-place k r i = omega arith
 
 module _ {l : List ℤ} {out w : ℕ} {f : ℕ → Number} {b : List ℤ} {r : ℕ} (hr : r < w) (ws : Rows l out w f b r) where
   -- row r written in two parts
-  two-parts : {o n : List ℤ} → o ≡ withNumerators b (out + r * w * 4) r (λ (c : ℕ). f (r * w + c)) → n ≡ withNumerators o (out + (r * w + r) * 4) (w - r) (λ (i : ℕ). f (r * w + (r + i))) → Rows l out w f n (r + 1)
+  pub two-parts : {o n : List ℤ} → o ≡ withNumerators b (out + r * w * 4) r (λ (c : ℕ). f (r * w + c)) → n ≡ withNumerators o (out + (r * w + r) * 4) (w - r) (λ (i : ℕ). f (r * w + (r + i))) → Rows l out w f n (r + 1)
   two-parts {o} {n} p q =
       record {
         sized = λ k. le-refl 4;
@@ -71,7 +68,7 @@ module _ {l : List ℤ} {out w : ℕ} {f : ℕ → Number} {b : List ℤ} {r : �
   own : (c : ℕ) → Same b l (out + (r * w + c) * 4) 4
   own c = rest ws (out + (r * w + c) * 4) 4 (omega arith)
 
-  own-is : (c : ℕ) → numberIn b (out + (r * w + c) * 4) ≡ numberIn l (out + (r * w + c) * 4)
+  pub own-is : (c : ℕ) → numberIn b (out + (r * w + c) * 4) ≡ numberIn l (out + (r * w + c) * 4)
   own-is c = number-same (own c)
 
 -- ---- overlaps added
@@ -111,68 +108,3 @@ module _ {l : List ℤ} {out : ℕ} {m : List ℤ} {k w e : ℕ} (p : Upper l ou
       after i h =
           upper-is l out m k w e r (r + i) true (omega arith) (le-leb r (r + i) (omega arith))
           ∙ sym (λ j. numbers ._⊕_ ((ap (numberIn b) (later-place out w r i) ∙ own-is hr ws (r + i)) j) (numbers ._⊗_ (raisedAt e m (k + r * cellSize)) (conjugate root2 (raisedAt e m (entry-place k r i j)))))
-
--- ---- conjugates below the diagonal
-mirror-is : (l : List ℤ) (out w r c : ℕ) (b : Bool) → c < w → leb r c ≡ b → mirroredAt l out w (r * w + c) ≡ cond b (numberIn l (out + (r * w + c) * 4)) (conjugate root2 (numberIn l (out + (c * w + r) * 4)))
-mirror-is l out w r c b h q =
-    (λ i. cond (leb (digits-div r h i) (digits-mod r h i)) (numberIn l (out + (r * w + c) * 4)) (conjugate root2 (numberIn l (out + (digits-mod r h i * w + digits-div r h i) * 4))))
-    ∙ ap (λ (t : Bool). cond t (numberIn l (out + (r * w + c) * 4)) (conjugate root2 (numberIn l (out + (c * w + r) * 4)))) q
-
--- row r from column r: b is l with c numbers of it written
-abbrev pub Mirroring : List ℤ → ℕ → ℕ → ℕ → List ℤ → ℕ → Type 0
-Mirroring l out w r b c = Writing 4 l (out + r * w * 4) r (λ (i : ℕ). listOf (conjugate root2 (numberIn l (out + (i * w + r) * 4)))) b c
-
-module _ {l : List ℤ} {out w : ℕ} (p : Block l out w) {b : List ℤ} {r : ℕ} (hr : r < w) (ws : Rows l out w (mirroredAt l out w) b r) where
-  -- numbers on and above the diagonal are as they were
-  upper-kept : (i c : ℕ) → i ≤ c → c < w → numberIn b (out + (i * w + c) * 4) ≡ numberIn l (out + (i * w + c) * 4)
-  upper-kept i c h hc = go (decLt i r)
-    where
-      go : Dec (i < r) → numberIn b (out + (i * w + c) * 4) ≡ numberIn l (out + (i * w + c) * 4)
-      go (yes a) =
-          ap (λ (n : List ℤ). numberIn n (out + (i * w + c) * 4)) (ws .is)
-          ∙ number-filled (mirroredAt l out w) l out (r * w) (i * w + c) (omega (arith, block-in a w)) (omega (arith, p .room, block-in hr w))
-          ∙ mirror-is l out w i c true hc (le-leb i c h)
-      go (no a) = number-same (rest ws (out + (i * w + c) * 4) 4 (omega (arith, lower)))
-        where
-          lower : r * w ≤ i * w
-          lower = let h : r ≤ i = omega arith in mul-le-mul h (le-refl w)
-
-  pub mirror-asks : Block b out w
-  mirror-asks = record { room = omega (arith, p .room, long ws); sums = λ i c h hc. subst (λ (z : Number). Within maxNumerator z) (sym (upper-kept i c h hc)) (p .sums i c h hc) }
-
-  pub mirror-more : {n : List ℤ} → n ≡ withNumerators b (out + r * w * 4) r (λ (c : ℕ). conjugate root2 (numberIn b (out + (c * w + r) * 4))) → Rows l out w (mirroredAt l out w) n (r + 1)
-  mirror-more {n} q =
-      two-parts hr ws
-      (q ∙ blocks-same 4 b (out + r * w * 4) r _ _ (λ c h. ap listOf (sym (before c h))))
-      (sym (numbers-there n (out + (r * w + r) * 4) (w - r) (λ (i : ℕ). mirroredAt l out w (r * w + (r + i))) after))
-    where
-      before : (c : ℕ) → c < r → mirroredAt l out w (r * w + c) ≡ conjugate root2 (numberIn b (out + (c * w + r) * 4))
-      before c h = mirror-is l out w r c false (omega arith) (lt-leb r c h) ∙ ap (conjugate root2) (sym (upper-kept c r (omega arith) hr))
-
-      row : Writing 4 b (out + r * w * 4) r (λ (c : ℕ). listOf (conjugate root2 (numberIn b (out + (c * w + r) * 4)))) n r
-      row = wrote (λ j. le-refl 4) q
-
-      after : (i : ℕ) → i < w - r → mirroredAt l out w (r * w + (r + i)) ≡ numberIn n (out + (r * w + r) * 4 + i * 4)
-      after i h =
-          mirror-is l out w r (r + i) true (omega arith) (le-leb r (r + i) (omega arith))
-          ∙ sym (number-same (rest row (out + (r * w + r) * 4 + i * 4) 4 (omega arith)) ∙ ap (numberIn b) (later-place out w r i) ∙ own-is hr ws (r + i))
-
--- a number of column r, and its place in row r
-module _ {l : List ℤ} {out w r : ℕ} (p : Block l out w) (hr : r < w) {b : List ℤ} {c : ℕ} (ws : Mirroring l out w r b c) (hc : c < r) where
-  above : c * w + r + 1 ≤ r * w
-  above = omega (arith, block-in hc w)
-
-  column-same : Same b l (out + (c * w + r) * 4) 4
-  column-same = kept ws (out + (c * w + r) * 4) 4 (inl (omega (arith, above)))
-
-  pub column-is : numberIn b (out + (c * w + r) * 4) ≡ numberIn l (out + (c * w + r) * 4)
-  column-is = number-same column-same
-
-  pub column-room : out + (c * w + r) * 4 + 4 ≤ length l
-  column-room = omega (arith, above, p .room, block-in hr w)
-
-  pub own-room : out + r * w * 4 + c * 4 + 4 ≤ length l
-  own-room = omega (arith, p .room, block-in hr w)
-
-  pub column-small : Within roomNumerator (numberIn b (out + (c * w + r) * 4))
-  column-small = subst (λ (z : Number). Within roomNumerator z) (sym column-is) (roomy (numberIn l (out + (c * w + r) * 4)) (p .sums c r (omega arith) hr))

@@ -7,17 +7,15 @@ use exact::numerators::conj_product;
 use exact::numerators::scaled4;
 use exact::numerators::sum4;
 ghost use mathlib.Core.Path.{_≡_};
-ghost use Prim.Native.Nat.{ℕ, _+_, _*_, _<_, _≤_};
+ghost use Prim.Native.Nat.{_+_, _*_, _≤_};
 ghost use lib.ListN.{length};
 ghost use lib.Seq.{sets};
-ghost use Rattle.algebra.specs.Quadratic.{conjugate};
-ghost use Rattle.exact.specs.Exact.{root2, numberOf, listOf};
-ghost use Rattle.exact.specs.Inner.Sizes.{Within, roomNumerator};
+ghost use Rattle.exact.specs.Exact.{numberOf, listOf};
 ghost use Rattle.share.specs.Share.{withNumerators};
-ghost use Rattle.overlaps.specs.Inner.Overlap.{numberIn, raisedAt, added, rowAdded, upperAdded, mirroredAt, Raised, Adding, Row, Upper, Block};
+ghost use Rattle.overlaps.specs.Inner.Overlap.{numberIn, raisedAt, added, rowAdded, upperAdded, Raised, Adding, Row, Upper};
 
 // The numerators at `at`.
-fn read_number(s: &[i64], at: usize) -> [i64; 4]
+pub fn read_number(s: &[i64], at: usize) -> [i64; 4]
     requires { ⌜ at + 4 ≤ length (now s) ⌝ }
     ensures { λ r. ⌜ r ≡ listOf (numberIn (now (s .entry)) at) ⌝ }
 {
@@ -29,7 +27,7 @@ fn read_number(s: &[i64], at: usize) -> [i64; 4]
 }
 
 // Write numerators to `at`.
-fn write_number(s: &mut [i64], at: usize, x: [i64; 4])
+pub fn write_number(s: &mut [i64], at: usize, x: [i64; 4])
     requires { ⌜ at + 4 ≤ length (now s) ⌝ }
     ensures { λ _. ⌜ now (s .exit) ≡ sets (now (s .entry)) at (listOf (numberOf x)) ⌝ }
 {
@@ -93,44 +91,6 @@ pub fn add_upper(result: &mut [i64], out: usize, work: &[i64], k: usize, w: usiz
     while r < w {
         let p = k + r * CELL;
         add_row(result, out + (r * w + r) * ENTRY, work, p, p, w - r, e);
-        r += 1;
-    }
-}
-
-// Write the conjugate of the number at `from` to `at`.
-fn write_conj(s: &mut [i64], from: usize, at: usize)
-    requires { ⌜ (from + 4 ≤ length (now s)) × ((at + 4 ≤ length (now s)) × Within roomNumerator (numberIn (now s) from)) ⌝ }
-    ensures { λ _. ⌜ now (s .exit) ≡ sets (now (s .entry)) at (listOf (conjugate root2 (numberIn (now (s .entry)) from))) ⌝ }
-{
-    let x = read_number(s, from);
-    let y = [x[0], x[1], -x[2], -x[3]];
-    write_number(s, at, y);
-}
-
-// Write the conjugates of the first r numbers of column r of the block at `out`, of w columns, to row r.
-fn mirror_column(s: &mut [i64], out: usize, w: usize, r: usize)
-    requires { ⌜ (r < w) × Block (now s) out w ⌝ }
-    ensures { λ _. ⌜ now (s .exit) ≡ withNumerators (now (s .entry)) (out + r * w * 4) r (λ (c : ℕ). conjugate root2 (numberIn (now (s .entry)) (out + (c * w + r) * 4))) ⌝ }
-{
-    let mut c = 0;
-    while c < r {
-        write_conj(
-            s,
-            out + (c * w + r) * ENTRY,
-            out + r * w * ENTRY + c * ENTRY,
-        );
-        c += 1;
-    }
-}
-
-// Write the conjugate of each number above the diagonal of the block at `out`, of w rows, to its place across the diagonal.
-pub fn mirror(s: &mut [i64], out: usize, w: usize)
-    requires { ⌜ Block (now s) out w ⌝ }
-    ensures { λ _. ⌜ now (s .exit) ≡ withNumerators (now (s .entry)) out (w * w) (mirroredAt (now (s .entry)) out w) ⌝ }
-{
-    let mut r = 0;
-    while r < w {
-        mirror_column(s, out, w, r);
         r += 1;
     }
 }

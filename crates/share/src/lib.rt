@@ -11,23 +11,24 @@ ghost use mir.Val.{SFits, ofZ};
 ghost use Rattle.algebra.specs.Words.{fillWords};
 ghost use Rattle.share.specs.Share.{orWords, sharedFrom, withNumerators};
 
-// The bits that some of n words has.
-fn or_words(s: &[i64], at: usize, n: usize) -> i64
-    requires { ⌜ at + n ≤ length (now s) ⌝ }
-    ensures bits { λ r. ⌜ ofZ w64 r ≡ orWords (now (s .entry)) at n ⌝ }
-    ensures fit { λ r. ⌜ ((i : ℕ) → i < n → SFits w64 (getD (now (s .entry)) (at + i) (pos 0))) ⌝ }
+// The bits that some of k + n words from `at` on has: g has those of the first k.
+pub fn or_more(s: &[i64], at: usize, k: usize, n: usize, g: i64) -> i64
+    requires { ⌜ (at + (k + n) ≤ length (now s)) × (ofZ w64 g ≡ orWords (now s) at k) ⌝ }
+    ensures bits { λ r. ⌜ ofZ w64 r ≡ orWords (now (s .entry)) at (k + n) ⌝ }
+    ensures fit { λ r. ⌜ ((i : ℕ) → k ≤ i → i < k + n → SFits w64 (getD (now (s .entry)) (at + i) (pos 0))) ⌝ }
 {
-    let mut g = 0i64;
-    let mut i = 0;
-    while i < n {
-        g = g | s[at + i];
+    let end = k + n;
+    let mut h = g;
+    let mut i = k;
+    while i < end {
+        h = h | s[at + i];
         i += 1;
     }
-    g
+    h
 }
 
 // Shift each of n words by t.
-fn shift_words(s: &mut [i64], at: usize, n: usize, t: u32)
+pub fn shift_words(s: &mut [i64], at: usize, n: usize, t: u32)
     requires { ⌜ (at + n ≤ length (now s)) × (t ≤ 63) ⌝ }
     ensures { λ _. ⌜ now (s .exit) ≡ fillWords (now (s .entry)) at n (λ (i : ℕ). shrZ (getD (now (s .entry)) (at + i) (pos 0)) (2 ^ t)) ⌝ }
 {
@@ -46,7 +47,7 @@ pub fn share(s: &mut [i64], at: usize, n: usize, e: u32) -> u32
     ensures numerators { λ r. ⌜ now (s .exit) ≡ withNumerators (now (s .entry)) at n (sharedFrom (now (s .entry)) at n e .num) ⌝ }
 {
     let m = n * 4;
-    let g = or_words(s, at, m);
+    let g = or_more(s, at, 0, m, 0);
     let t = least(common_zeros(g, 0, 0, 0), e);
     shift_words(s, at, m, t);
     e - t

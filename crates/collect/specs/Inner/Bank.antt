@@ -6,7 +6,7 @@ use Prim.Native.Nat.{ℕ, zero, suc, _+_, _*_, _/_, _%_, _^_, _<_, _≤_}
 use lib.Dec.{eqb, leb}
 use lib.ListN.{length, getD}
 use lib.Seq.{sets}
-use lib.IntN.{ℤ}
+use lib.IntN.{ℤ, pos}
 use Rattle.algebra.specs.Quadratic.{conjugate}
 use Rattle.algebra.specs.Lists.{allBelow}
 use Rattle.algebra.specs.Words.{blocks}
@@ -87,6 +87,10 @@ module _ (l : List ℤ) (at d : ℕ) where
   -- its shared form
   abbrev pub sharedOf : ℕ → ℕ → Shared
   sharedOf n s = shared (layout.entries (layout.channels d)) (blockOf n s .entry)
+
+  -- its exponent and its numerators
+  abbrev pub sharedWords : ℕ → ℕ → List ℤ
+  sharedWords n s = pos (sharedOf n s .exp) ∷ layout.blockWords (layout.channels d) (sharedOf n s .num)
 
   -- the record of a store's block, as the last of a chain
   abbrev pub recordOf : ℕ → ℕ → List ℤ

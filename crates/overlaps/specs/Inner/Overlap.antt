@@ -31,10 +31,6 @@ rowAdded l to m p k e c = added l (to + c * 4) (raisedAt e m p) e m (k + c * cel
 abbrev pub upperAdded : List ℤ → ℕ → List ℤ → ℕ → ℕ → ℕ → ℕ → Number
 upperAdded l out m k w e i = cond (leb (i / w) (i % w)) (added l (out + i * 4) (raisedAt e m (k + i / w * cellSize)) e m (k + i % w * cellSize)) (numberIn l (out + i * 4))
 
--- entry i of the block: below the diagonal, the conjugate of the entry across it
-abbrev pub mirroredAt : List ℤ → ℕ → ℕ → ℕ → Number
-mirroredAt l out w i = cond (leb (i / w) (i % w)) (numberIn l (out + i * 4)) (conjugate root2 (numberIn l (out + (i % w * w + i / w) * 4)))
-
 -- a factor over at most 2^e
 pub record Raised (m : List ℤ) (q e : ℕ) : Type 0 where
   pub factor : Factor m q

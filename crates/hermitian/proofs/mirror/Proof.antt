@@ -3,10 +3,11 @@ use Prim.Native.Nat.{_-_, _≤_}
 use native.Mathlib.Nat.{le-refl, mul-le-mul}
 use native.Mathlib.Omega.{arith}
 use Rattle.algebra.proofs.Blocks.{done, long}
-use Rattle.overlaps.specs.Inner.Overlap.{mirroredAt}
-use Rattle.overlaps.proofs.Rows.{Rows, no-rows, mirror-asks, mirror-more}
-use Rattle.overlaps.proofs.mirror.Statement.{statement}
-use Rattle.overlaps.proofs.mirror.Tie as tie
+use Rattle.hermitian.specs.Inner.Sparse.{mirroredAt}
+use Rattle.overlaps.proofs.Rows.{Rows, no-rows}
+use Rattle.hermitian.proofs.Mirrored.{mirror-asks, mirror-more}
+use Rattle.hermitian.proofs.mirror.Statement.{statement}
+use Rattle.hermitian.proofs.mirror.Tie as tie
 
 abbrev Inv-loop : tie.InvT-loop
 Inv-loop s₀ out w r₀ s r = (r ≤ w) × Rows s₀ out w (mirroredAt s₀ out w) s r
@@ -20,7 +21,7 @@ loop-holds c = let s = c .args in (omega arith, no-rows (s .s .now) (s .out) (s 
 mirror-column-requires : tie.Need-mirror-column-requires Inv-loop μ-loop
 mirror-column-requires c κs =
     let t = c .before in
-    (t .loop-test .taken, mirror-asks (t .before .before .pre) (t .loop-test .taken) (t .before .loop .inv .1))
+    mirror-asks (t .before .before .pre) (t .loop-test .taken) (t .before .loop .inv .1)
 
 add-r : tie.Need-add-r Inv-loop μ-loop
 add-r c = omega arith

@@ -11,8 +11,8 @@ use Rattle.algebra.proofs.Signed.{reads, neg-fits, neg-back}
 use Rattle.exact.specs.Exact.{root2, numberOf, listOf}
 use Rattle.exact.specs.Inner.Sizes.{Within, roomNumerator}
 use borrow.Author.Needs.{needs}
-use Rattle.overlaps.proofs.write_conj.Statement.{statement}
-use Rattle.overlaps.proofs.write_conj.Tie as tie
+use Rattle.hermitian.proofs.write_conj.Statement.{statement}
+use Rattle.hermitian.proofs.write_conj.Tie as tie
 
 -- the numerators that were read
 size : (r : tie.After-read-number) → Within roomNumerator (numberOf (r .read-number .result))
