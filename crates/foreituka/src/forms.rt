@@ -6,7 +6,11 @@ ghost use Rattle.plain_words.specs.Plain.{plainWriteVerdict, plainWriteResult, 
 
 // Pack a channel: the verdict's number, and its index in `index`.
 #[no_mangle]
-pub extern "C" fn foreituka_pack_channel(channel: &[i64], result: &mut [i64], index: &mut u64) -> u32
+pub extern "C" fn foreituka_pack_channel(
+    channel: &[i64],
+    result: &mut [i64],
+    index: &mut u64,
+) -> u32
     ensures { λ r. ⌜ r ≡ verdictNumber (packVerdict (now (channel .entry)) (now (result .entry))) ⌝ }
     ensures { λ _. ⌜ now (index .exit) ≡ verdictIndex (packVerdict (now (channel .entry)) (now (result .entry))) ⌝ }
     ensures { λ _. ⌜ now (result .exit) ≡ packResult (now (channel .entry)) (now (result .entry)) ⌝ }
@@ -16,7 +20,11 @@ pub extern "C" fn foreituka_pack_channel(channel: &[i64], result: &mut [i64], in
 
 // Unpack packed words: the verdict's number, and its index in `index`.
 #[no_mangle]
-pub extern "C" fn foreituka_unpack_channel(words: &[i64], result: &mut [i64], index: &mut u64) -> u32
+pub extern "C" fn foreituka_unpack_channel(
+    words: &[i64],
+    result: &mut [i64],
+    index: &mut u64,
+) -> u32
     ensures { λ r. ⌜ r ≡ verdictNumber (unpackVerdict (now (words .entry)) (now (result .entry))) ⌝ }
     ensures { λ _. ⌜ now (index .exit) ≡ verdictIndex (unpackVerdict (now (words .entry)) (now (result .entry))) ⌝ }
     ensures { λ _. ⌜ now (result .exit) ≡ unpackResult (now (words .entry)) (now (result .entry)) ⌝ }
