@@ -1,15 +1,13 @@
-// Numerators over one power of two, brought to their shared form in place: the power of two that all of them have in common is taken out at once.
-use exact::numerators::common_zeros;
-use exact::numerators::least;
+// What brings numerators over one power of two to their shared form in place: the bits that some word has, and all words shifted.
 ghost use mathlib.Core.Path.{_≡_};
-ghost use Prim.Native.Nat.{ℕ, _+_, _*_, _^_, _<_, _≤_};
+ghost use Prim.Native.Nat.{ℕ, _+_, _^_, _<_, _≤_};
 ghost use lib.ListN.{length, getD};
 ghost use lib.IntN.{pos};
 ghost use lib.Signed.{shrZ};
 ghost use mir.Syntax.{w64};
 ghost use mir.Val.{SFits, ofZ};
 ghost use Rattle.algebra.specs.Words.{fillWords};
-ghost use Rattle.share.specs.Share.{orWords, sharedFrom, withNumerators};
+ghost use Rattle.share.specs.Share.{orWords};
 
 // The bits that some of k + n words from `at` on has: g has those of the first k.
 pub fn or_more(s: &[i64], at: usize, k: usize, n: usize, g: i64) -> i64
@@ -38,17 +36,4 @@ pub fn shift_words(s: &mut [i64], at: usize, n: usize, t: u32)
         s[at + i] = x >> t;
         i += 1;
     }
-}
-
-// Bring n numbers from `at` on, four numerators each, over 2^e, to their shared form; its exponent.
-pub fn share(s: &mut [i64], at: usize, n: usize, e: u32) -> u32
-    requires { ⌜ (at + n * 4 ≤ length (now s)) × (e ≤ 63) ⌝ }
-    ensures exponent { λ r. ⌜ r ≡ sharedFrom (now (s .entry)) at n e .exp ⌝ }
-    ensures numerators { λ r. ⌜ now (s .exit) ≡ withNumerators (now (s .entry)) at n (sharedFrom (now (s .entry)) at n e .num) ⌝ }
-{
-    let m = n * 4;
-    let g = or_more(s, at, 0, m, 0);
-    let t = least(common_zeros(g, 0, 0, 0), e);
-    shift_words(s, at, m, t);
-    e - t
 }
