@@ -1,8 +1,8 @@
 -- The verdicts by their tests, and what an accepted one says.
-use mathlib.Core.Path.{_≡_, refl, sym, ap, _∙_, subst}
+use mathlib.Core.Path.{_≡_, refl, sym, ap, _∙_}
 use mathlib.Core.Bool.{Bool, true, false, cond, not, true≢false}
 use mathlib.Core.List.{List}
-use Prim.Native.Nat.{ℕ, _*_, _≤_}
+use Prim.Native.Nat.{ℕ}
 use lib.Dec.{eqb, leb}
 use lib.ListN.{length}
 use lib.IntN.{ℤ}
@@ -11,15 +11,15 @@ use Rattle.verdict.specs.declared.Verdict.{Verdict}
 use Rattle.verdict.specs.declared.Verdict.the-variants.{Accepted, ShortBuffer, Malformed, ZeroBlock, NotHermitianAt, NotPlainAt}
 use Rattle.verdict.specs.Verdict.{accepted}
 use Rattle.channel.specs.declared.Shape.{Shape}
-use Rattle.channel.specs.Layout.{Form, side, dimAt, countAt}
+use Rattle.channel.specs.Layout.{Form, dimAt, countAt}
 use Rattle.channel.specs.WellFormed.{wellFormedIn, wellFormed, hasZeroBlock, verdictBy}
 use Rattle.channel.specs.Inner.Shapes.{shapeAt, noShape, shapeBy}
 use Rattle.channel.proofs.Judging.{formed-in, in-channel}
 use Rattle.channel.proofs.Words.{square-small}
 use Rattle.recast.specs.declared.Parts.{Parts}
-use Rattle.recast.specs.Words.{formOf, formIn, sizeIn}
+use Rattle.recast.specs.Words.{formIn, sizeIn}
 use Rattle.recast.specs.Inner.Records.{Ready}
-use Rattle.form_calls.specs.Calls.{own, fault, refusal, writeVerdict, readVerdict}
+use Rattle.form_calls.specs.Calls.{own, fault, writeVerdict, readVerdict}
 
 abbrev pub full : Parts
 full = record { half = false; plain = false }
@@ -62,10 +62,6 @@ pub refused-first : (l : List ℤ) (p z t b h : Bool) (i : ℕ) → accepted (ve
 refused-first l true true t b h i e = refl
 refused-first l true false t b h i e = absurd (true≢false e)
 refused-first l false z t b h i e = refl
-
-pub opposite : (z : Bool) → not z ≡ true → z ≡ false
-opposite true e = absurd (true≢false (sym e))
-opposite false e = refl
 
 -- a shape by the verdict that it goes with
 module _ (l : List ℤ) (h : Shape) (v : Verdict) (e : h ≡ shapeBy v l) (same : shapeBy v l .verdict ≡ v) where

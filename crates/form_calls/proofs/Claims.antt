@@ -15,8 +15,8 @@ use Rattle.exact.specs.Exact.{Exact, conj}
 use Rattle.channel.specs.Layout.{Form, entries, recordAt, side, words, word, dimAt, bitsAt, countAt, expAt, numbersAt, blockAt}
 use Rattle.channel.specs.WellFormed.{wellFormedIn, wellFormed, hasZeroBlock}
 use Rattle.channel.specs.Recast.{recast}
-use Rattle.channel.specs.Claims.{Plain, Suits, Sound}
-use Rattle.channel.specs.Forms.{restores, blockOf, used, Restored}
+use Rattle.channel.specs.Claims.{Plain, Suits}
+use Rattle.channel.specs.Forms.{restores, blockOf, Restored}
 use Rattle.channel.proofs.Judging.{in-channel}
 use Rattle.channel.proofs.Restore.{cell-below}
 use Rattle.channel.proofs.Written.{written, written-entry}
@@ -28,7 +28,7 @@ use Rattle.recast.specs.Words.{formIn, sizeIn, recastInto}
 use Rattle.recast.proofs.Whole.{into-is}
 use Rattle.form_calls.specs.Calls.{own, fault, refusal, writeVerdict, readVerdict, writeResult, readResult}
 use Rattle.form_calls.specs.Claims.{Read, ReadsBack, Written, WritesBack, along, blockAlong, FirstUnfit, NamesFirst, Suited, NeverUnfit, Source, FormedExactly}
-use Rattle.form_calls.proofs.Answers.{writeBy, readBy, asked, asked-read, opposite, write-ready, read-ready}
+use Rattle.form_calls.proofs.Answers.{writeBy, readBy, asked, asked-read, write-ready, read-ready}
 use Rattle.form_calls.proofs.Walking.{each-fits, no-fault, after, fault-most, First, fault-first, first-fault}
 
 -- the same entries

@@ -1,5 +1,5 @@
 -- A channel's words written in a form that keeps less, and read from there: what is asked, in order, and what is left in the result.
-use mathlib.Core.Bool.{Bool, cond, not}
+use mathlib.Core.Bool.{cond, not}
 use mathlib.Core.List.{List, [], _∷_}
 use Prim.Native.Nat.{ℕ}
 use lib.Dec.{eqb, leb}

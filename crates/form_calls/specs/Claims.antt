@@ -1,7 +1,7 @@
 -- What is claimed of a channel's words written in a form that keeps less, and read from there.
 use mathlib.Core.Path.{_≡_}
 use mathlib.Core.Bool.{true, false}
-use mathlib.Core.List.{List, _++_}
+use mathlib.Core.List.{List}
 use Prim.Native.Nat.{ℕ, zero, suc, _<_, _≤_}
 use lib.ListN.{length}
 use lib.IntN.{ℤ, natAbs}

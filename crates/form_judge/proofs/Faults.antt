@@ -1,5 +1,5 @@
 -- One step of the walk to the first block that a form does not restore.
-use mathlib.Core.Path.{_≡_, refl, ap, _∙_}
+use mathlib.Core.Path.{_≡_, ap, _∙_}
 use mathlib.Core.Bool.{Bool, true, false, cond}
 use mathlib.Core.List.{List}
 use Prim.Native.Nat.{ℕ, suc, _-_, _<_, _≤_}

@@ -1,8 +1,8 @@
 -- What is claimed of packed channels.
 use mathlib.Core.Path.{_≡_}
 use mathlib.Core.List.{List}
-use Prim.Native.Nat.{ℕ, _+_, _*_, _<_}
-use lib.IntN.{ℤ, pos}
+use Prim.Native.Nat.{ℕ, _+_, _*_}
+use lib.IntN.{ℤ}
 use Rattle.exact.specs.Exact.{Exact}
 use Rattle.channel.specs.Layout.{packed, side, dimAt, countAt}
 use Rattle.channel.specs.Claims.{Suits}

@@ -10,7 +10,7 @@ use lib.ListN.{length}
 use lib.IntN.{ℤ, pos, natAbs}
 use borrow.Author.Tests.{eqb-true}
 use Rattle.channel.specs.Layout.{Form, headerSize, recordHead, blockSize, recordSize, recordAt, word, bitsAt, countAt}
-use Rattle.channel.specs.WellFormed.{blockOk, wellFormedIn}
+use Rattle.channel.specs.WellFormed.{blockOk}
 use Rattle.channel.specs.Inner.Shapes.{OnwardIn}
 use Rattle.channel.proofs.Judging.{formed-in, chain-end}
 use Rattle.channel.proofs.Chain.{begin-in, first-in, on-start, on-block, on-next, on-index, chain-from}

@@ -2,7 +2,6 @@
 use mathlib.Core.Path.{sym, ap}
 use mathlib.Core.Bool.{Bool, cond}
 use Rattle.verdict.specs.declared.Verdict.the-variants.{NotHermitianAt, NotPlainAt}
-use borrow.Author.Needs.{needs}
 use Rattle.form_calls.proofs.refusal.Statement.{statement}
 use Rattle.form_calls.proofs.refusal.Tie as tie
 

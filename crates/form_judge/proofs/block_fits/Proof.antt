@@ -10,7 +10,6 @@ use Rattle.channel.specs.Layout.{numbersAt}
 use Rattle.recast.specs.Words.{formOf}
 use Rattle.form_judge.specs.Inner.Judging.{cellFits}
 use Rattle.form_judge.proofs.Blocks.{restores-cells}
-use borrow.Author.Needs.{needs}
 use Rattle.form_judge.proofs.block_fits.Statement.{statement}
 use Rattle.form_judge.proofs.block_fits.Tie as tie
 

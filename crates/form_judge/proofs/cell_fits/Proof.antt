@@ -1,6 +1,5 @@
 -- `cell_fits` meets its contract.
 use mathlib.Core.Bool.{_&&_}
-use borrow.Author.Needs.{needs}
 use Rattle.form_judge.proofs.cell_fits.Statement.{statement}
 use Rattle.form_judge.proofs.cell_fits.Tie as tie
 

@@ -1,27 +1,26 @@
 -- `chain_ok` meets its contract.
-use mathlib.Core.Path.{_≡_, refl, sym, ap, _∙_}
-use mathlib.Core.Bool.{Bool, true, false, _&&_}
+use mathlib.Core.Path.{_≡_, sym, ap, _∙_}
+use mathlib.Core.Bool.{true, false, _&&_}
 use Prim.Native.Nat.{ℕ, _+_, _*_, _-_, _<_, _≤_}
 use native.Mathlib.Nat.{le-trans}
 use native.Mathlib.Omega.{arith}
 use mathlib.Core.List.{List}
 use lib.Dec.{T}
 use lib.ListN.{length}
-use lib.IntN.{ℤ, pos, natAbs}
+use lib.IntN.{ℤ, natAbs}
 use lib.Signed.{nonNeg}
 use mir.Syntax.{w64}
 use mir.Val.{toZ}
 use borrow.Author.Tests.{not-true, not-false}
-use Rattle.algebra.specs.Words.{upTo, eqℤ}
+use Rattle.algebra.specs.Words.{upTo}
 use Rattle.algebra.proofs.Signed.{reads}
 use Rattle.algebra.proofs.Tests.{and-split}
 use Rattle.store.specs.Store.{maxWord}
-use Rattle.channel.specs.Layout.{Form, recordHead, blockSize, recordSize, word, storeAt}
+use Rattle.channel.specs.Layout.{Form, recordHead, blockSize, recordSize, word}
 use Rattle.channel.specs.WellFormed.{isStart, storeOk, recordOk, chainOk}
 use Rattle.channel.proofs.Words.{bits-zero, Starts, starts, starts-inside}
 use Rattle.channel.proofs.Judging.{no-start, no-record, goes-on, chain-end}
 use Rattle.recast.specs.Words.{formOf}
-use borrow.Author.Needs.{needs}
 use Rattle.form_judge.proofs.chain_ok.Statement.{statement}
 use Rattle.form_judge.proofs.chain_ok.Tie as tie
 

@@ -1,14 +1,14 @@
 -- `diagonal_ok` meets its contract.
-use mathlib.Core.Path.{_≡_, refl, sym, ap, _∙_, subst}
+use mathlib.Core.Path.{_≡_, refl, sym, ap, _∙_}
 use mathlib.Core.Bool.{Bool, true, false, not, _||_}
-use Prim.Native.Nat.{ℕ, _+_, _*_, _-_, _<_, _≤_}
+use Prim.Native.Nat.{ℕ, _+_, _*_, _-_, _≤_}
 use native.Mathlib.Omega.{arith}
 use lib.ListN.{length}
 use borrow.Author.Tests.{not-true, not-false}
 use Rattle.algebra.specs.Lists.{allBelow}
 use Rattle.algebra.proofs.Tests.{all-step, all-no}
 use Rattle.exact.specs.Exact.{numberOf}
-use Rattle.channel.specs.Layout.{Form, recordHead, recordSize, blockSize, entrySize, numbersAt}
+use Rattle.channel.specs.Layout.{Form, recordHead, entrySize, numbersAt}
 use Rattle.channel.specs.WellFormed.{isReal}
 use Rattle.recast.specs.Words.{formOf}
 use Rattle.recast.specs.Inner.Records.{Kept}

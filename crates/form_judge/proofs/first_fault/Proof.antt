@@ -12,7 +12,6 @@ use Rattle.channel.proofs.Chain.{begin-in, first-in, long-in, on-inside, on-blo
 use Rattle.recast.specs.Words.{formOf}
 use Rattle.form_judge.specs.Faults.{faultFrom, faultOf}
 use Rattle.form_judge.proofs.Faults.{fault-here, fault-on, fault-end}
-use borrow.Author.Needs.{needs}
 use Rattle.form_judge.proofs.first_fault.Statement.{statement}
 use Rattle.form_judge.proofs.first_fault.Tie as tie
 

@@ -1,9 +1,7 @@
 -- `is_real` meets its contract.
-use mathlib.Core.Path.{sym, _∙_}
 use mathlib.Core.Bool.{_&&_}
 use lib.ListN.{getD}
 use lib.IntN.{pos}
-use Rattle.algebra.specs.Words.{eqℤ}
 use Rattle.channel.proofs.Words.{eq-small}
 use borrow.Author.Needs.{needs}
 use Rattle.form_judge.proofs.is_real.Statement.{statement}

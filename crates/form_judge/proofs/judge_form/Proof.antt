@@ -9,7 +9,7 @@ use borrow.Author.Tests.{not-true, not-false}
 use Rattle.verdict.specs.declared.Verdict.{Verdict}
 use Rattle.channel.specs.declared.Shape.{Shape}
 use Rattle.channel.specs.Layout.{Form, word}
-use Rattle.channel.specs.WellFormed.{headerOk, chainOk, chained, wellFormedIn, verdictBy}
+use Rattle.channel.specs.WellFormed.{headerOk, chainOk, wellFormedIn, verdictBy}
 use Rattle.channel.specs.Inner.Shapes.{shapeAt, shapeBy}
 use Rattle.channel.proofs.Judging.{verdict-test, shape-test, shape-is, well-formed}
 use Rattle.recast.specs.Words.{formOf, formIn}

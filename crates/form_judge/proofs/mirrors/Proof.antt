@@ -1,6 +1,6 @@
 -- `mirrors` meets its contract.
-use mathlib.Core.Path.{_≡_, sym, ap, _∙_, subst}
-use mathlib.Core.Bool.{Bool, not, _||_}
+use mathlib.Core.Path.{sym, ap, _∙_, subst}
+use mathlib.Core.Bool.{Bool, _||_}
 use Prim.Native.Nat.{ℕ, _+_, _*_}
 use Rattle.exact.specs.Exact.{Number, numberOf, maxNumerator}
 use Rattle.exact.specs.Inner.Sizes.{Within}
@@ -8,7 +8,6 @@ use Rattle.channel.specs.Layout.{numbersAt}
 use Rattle.channel.specs.Forms.{isConjugate}
 use Rattle.recast.specs.Words.{formOf}
 use Rattle.recast.proofs.Places.{in-range}
-use borrow.Author.Needs.{needs}
 use Rattle.form_judge.proofs.mirrors.Statement.{statement}
 use Rattle.form_judge.proofs.mirrors.Tie as tie
 

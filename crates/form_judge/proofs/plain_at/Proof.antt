@@ -1,8 +1,8 @@
 -- `plain_at` meets its contract.
-use mathlib.Core.Path.{_≡_, sym, ap, _∙_}
+use mathlib.Core.Path.{sym, ap, _∙_}
 use mathlib.Core.Bool.{Bool, not, _||_}
 use mathlib.Core.List.{List}
-use Prim.Native.Nat.{ℕ, _+_, _*_}
+use Prim.Native.Nat.{_+_, _*_}
 use lib.IntN.{ℤ}
 use Rattle.exact.specs.Exact.{numberOf}
 use Rattle.channel.specs.Layout.{numbersAt}

@@ -9,7 +9,6 @@ use Rattle.algebra.proofs.Tests.{all-step, all-no}
 use Rattle.channel.specs.Layout.{numbersAt}
 use Rattle.recast.specs.Words.{formOf}
 use Rattle.form_judge.specs.Inner.Judging.{cellFits}
-use borrow.Author.Needs.{needs}
 use Rattle.form_judge.proofs.row_fits.Statement.{statement}
 use Rattle.form_judge.proofs.row_fits.Tie as tie
 

@@ -1,5 +1,5 @@
 -- `block_size` meets its contract.
-use mathlib.Core.Path.{_≡_, sym, subst}
+use mathlib.Core.Path.{sym, subst}
 use Prim.Native.Nat.{ℕ, _*_, _≤_}
 use native.Mathlib.Omega.{arith}
 use Rattle.recast.proofs.Places.{words-small}

@@ -5,7 +5,6 @@ use native.Mathlib.Nat.{le-of-eq}
 use native.Mathlib.Omega.{arith}
 use lib.ListN.{length}
 use lib.Seq.{sets}
-use lib.IntN.{ℤ}
 use Rattle.algebra.proofs.Blocks.{Writing, begin, again, done, long, block-in}
 use Rattle.channel.specs.Layout.{Form, headerSize, recordSize, recordAt, word}
 use Rattle.channel.specs.Recast.{recastRecord}

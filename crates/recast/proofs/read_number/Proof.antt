@@ -4,7 +4,6 @@ use mathlib.Core.List.{List}
 use Prim.Native.Nat.{ℕ, _+_, _*_, _<_, _≤_}
 use native.Mathlib.Omega.{arith}
 use lib.ListN.{length}
-use lib.IntN.{ℤ}
 use Rattle.algebra.specs.Quadratic.{conjugate}
 use Rattle.exact.specs.Exact.{Number, root2, numberOf, listOf, maxNumerator}
 use Rattle.exact.specs.Inner.Sizes.{Within}

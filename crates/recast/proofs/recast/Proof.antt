@@ -1,11 +1,10 @@
 -- `recast` meets its contract.
 use mathlib.Core.Path.{_≡_, sym, ap, _∙_, subst}
 use mathlib.Core.List.{List, [], _∷_}
-use Prim.Native.Nat.{ℕ, _+_, _*_, _^_, _<_, _≤_}
+use Prim.Native.Nat.{ℕ, _^_, _<_, _≤_}
 use native.Mathlib.Omega.{arith}
 use lib.ListN.{length, length-set}
 use lib.Seq.{sets}
-use lib.IntN.{ℤ}
 use mir.Syntax.{w64}
 use mir.Val.{SFits}
 use Rattle.algebra.proofs.Signed.{reads}
@@ -62,7 +61,8 @@ put-four-requires c κs = let q = room (c .before .before .before .before .befor
 copy-records-requires : tie.Need-copy-records-requires
 copy-records-requires c κs =
     let p = c .before .before in
-    let s = p .before .before .before .before .before .before .before in
+    let x = p .before .before .before in
+    let s = x .before .before .before .before in
     let e : length (p .put-four .last .0) ≡ length (s .args .result .now) = ap length (p .put-four .ensures) ∙ simp length-set in
     (records-of (F s) (G s) (s .args .s .now) (s .args .n) (s .args .result .now) (s .pre) (big s), subst (λ (k : ℕ). recordAt (G s) (s .args .n) ≤ k) (sym e) (room s))
 

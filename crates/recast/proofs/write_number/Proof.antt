@@ -1,11 +1,10 @@
 -- `write_number` meets its contract.
-use mathlib.Core.Path.{_≡_, sym, ap, _∙_, subst}
+use mathlib.Core.Path.{sym, ap, _∙_, subst}
 use mathlib.Core.Bool.{Bool}
-use mathlib.Core.List.{[], _∷_}
-use Prim.Native.Nat.{ℕ, _+_, _≤_}
+use Prim.Native.Nat.{_+_, _≤_}
 use native.Mathlib.Numerals.{add-one, add-two, add-three}
 use native.Mathlib.Omega.{arith}
-use lib.IntN.{ℤ, pos}
+use lib.IntN.{pos}
 use lib.ListN.{length, getD, set, length-set}
 use lib.Seq.{sets}
 use Rattle.algebra.proofs.Signed.{reads}

@@ -2,7 +2,7 @@
 use mathlib.Core.Path.{_≡_}
 use mathlib.Core.Bool.{true}
 use mathlib.Core.List.{List}
-use Prim.Native.Nat.{ℕ, _+_, _*_, _-_, _/_, _^_, _<_, _≤_}
+use Prim.Native.Nat.{ℕ, _+_, _-_, _/_, _^_, _<_, _≤_}
 use lib.ListN.{length}
 use lib.IntN.{ℤ, pos, natAbs}
 use Rattle.channel.specs.Layout.{Form, headerSize, recordSize, recordAt, from, word, countAt}
