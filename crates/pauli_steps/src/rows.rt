@@ -1,9 +1,9 @@
 // The rows of p·1 + q·A, where the axis A has a mask form: row r has p in column r, and q times a power of i in the column with the bits x flipped.
 use cells::CELL;
 use cells::write_cell;
+use products::times;
 use scalar::Scalar;
 use scalar::powers::power;
-use scalar::products::times;
 ghost use mathlib.Core.Path.{_≡_};
 ghost use mathlib.Core.Bool.{cond};
 ghost use Prim.Native.Nat.{_+_, _*_, _≤_, _<_};
