@@ -490,10 +490,11 @@ fn main() {
     let kept = ["keystroke in a kept circuit of 1 gate", "keystroke in a kept circuit of 1,024 gates"];
     let listed = "a list of 32 pairs of 48 gates";
     let omegas = "1,024 scalars by omega";
+    let forms = ["pack_channel, h and t on all", "unpack_channel, h and t on all", "write_plain, GHZ", "read_plain, GHZ"];
     // 1,024 gates on different qubits: kind, qubits of a gate
     let full = [("1,024 x in one layer, refused", X, 1), ("1,024 ccx in one layer, refused", CCX, 3)];
     if let Some(o) = &only {
-        if !rows().iter().map(|r| r.family).chain(names).chain([omegas]).chain(TEXTS).chain(full.map(|f| f.0)).chain(schedules).chain(kept).chain([listed]).any(|n| n.contains(o.as_str()))
+        if !rows().iter().map(|r| r.family).chain(names).chain([omegas]).chain(TEXTS).chain(full.map(|f| f.0)).chain(schedules).chain(kept).chain([listed]).chain(forms).any(|n| n.contains(o.as_str()))
             && !PAIRS.iter().any(|f| pair_name(f).contains(o.as_str()))
         {
             eprintln!("no circuit's name has the words {o:?}");
@@ -657,6 +658,31 @@ fn main() {
         let rust = rust_median(most, rust_budget, || assert!(black_box(x.as_ref().unwrap()).compare(black_box(y.as_ref().unwrap())).is_ok()));
         measured(&mut lines, Line { name: format!("{name} | 4"), bars: Bars { floor: Some(READING_BAR), before: Some(BEFORE_BAR), ..plain_bar }, rust, before, archive: t[0], plain: t[1], of: ("read", left.len() + right.len()), floor: t[2], copy: t[3], zeroing: 0.0 });
     }
+    // a channel of four qubits packed and unpacked, and one without √2 parts written and read
+    for (k, name) in forms.iter().enumerate().filter(|(_, n)| only.as_ref().is_none_or(|o| n.contains(o.as_str()))) {
+        let family = name.split_once(", ").unwrap().1;
+        let w = rows().into_iter().find(|r| r.family == family && r.words.qubits == 4).unwrap().words;
+        let (whole, _) = agreed(&w, None);
+        let run = |calls: &Calls, k: usize, from: &[i64], to: &mut [i64]| {
+            let call = [calls.pack_channel, calls.unpack_channel, calls.write_plain, calls.read_plain][k];
+            assert_eq!(unsafe { call(from.as_ptr(), from.len(), to.as_mut_ptr(), to.len(), &mut 0) }, 0, "{}: refused", calls.name);
+            black_box(&to);
+        };
+        let side = 1 << (2 * w.qubits);
+        let mut less = vec![-7; rust::HEADER + rust::HEAD + 2 * side * if k < 2 { side + 1 } else { side }];
+        run(&ARCHIVE, k / 2 * 2, &whole, &mut less);
+        let (from, to) = if k % 2 == 0 { (&whole, &less) } else { (&less, &whole) };
+        let (mut a, mut b) = (vec![-7; to.len()], vec![-7; to.len()]);
+        let (mut floor, mut copy) = (a.clone(), a.clone());
+        let t = medians(samples, budget, &mut [
+            &mut || run(&ARCHIVE, k, from, &mut a),
+            &mut || run(&PLAIN, k, from, &mut b),
+            &mut || { black_box(&mut floor[..]).fill(0); black_box(&floor); },
+            &mut || { black_box(&mut copy[..]).copy_from_slice(black_box(&to[..])); black_box(&copy); },
+        ]);
+        assert!(a == *to && b == *to, "the archive and plain C write other words, or they are not read back");
+        measured(&mut lines, Line { name: format!("{name} | 4"), bars: Bars::default(), rust: f64::NAN, before: f64::NAN, archive: t[0], plain: t[1], of: ("write", to.len()), floor: t[2], copy: t[3], zeroing: 0.0 });
+    }
     if only.as_ref().is_none_or(|o| omegas.contains(o.as_str())) {
         let mut answers = Vec::new();
         for calls in [&ARCHIVE, &PLAIN] {
@@ -684,7 +710,7 @@ fn main() {
     lines.iter().for_each(Line::print);
     println!("\nThe floor: writing the result's words once by memset; for compare, reading both channels' words once; one for each number of words, the least over all rows;");
     println!("for a refused layer, reading the gates' words once; for a schedule, those of both lists and the table; for a keystroke, reading the counts once; for a list of pairs, writing the words of all its channels once.");
-    println!("Scalars by omega have no bar.");
+    println!("Scalars by omega have no bar, and neither have packing, unpacking, and writing and reading without √2 parts: beside them stands memcpy of the words that they write.");
     println!("The Rust has no layers: beside them stands its channel of the gate list, and nothing beside a refusal, a schedule or a kept circuit, which it does not have.");
     println!("\nGrowth with n: the archive's time for each of the d^4·V entries of a channel, in ns. It is no worse than the work where it does not rise, or");
     println!("rises no faster than the floor's (a result that no longer fits a cache). A dash: no such row; six h and measure on 4 qubits are over the limits.\n");

@@ -38,7 +38,7 @@ static size_t gate_words;
 static uint32_t qubits, bits;
 /* 3 qubits with 5 bits measured into make the largest channel, a little larger than 4 qubits with 1 */
 static int64_t left[FOREITUKA_CHANNEL_WORDS(3, 5)], right[FOREITUKA_CHANNEL_WORDS(3, 5)];
-static int64_t work[FOREITUKA_CHANNEL_WORK_WORDS(QUBITS, 6)], effects[FOREITUKA_EFFECTS_WORDS(QUBITS, 64)];
+static int64_t work[FOREITUKA_CHANNEL_WORK_WORDS(QUBITS, 6)], effects[FOREITUKA_EFFECTS_WORDS(QUBITS, 64)], less[FOREITUKA_PACKED_WORDS(3, 32)];
 static int64_t x[5] = {1, 1, 1, 1, 1}, y[5] = {3, -1, 5, 7, 2}, out[5], scalars[10];
 static uint64_t place[3], index_of;
 static uint32_t reply;
@@ -72,6 +72,10 @@ static void unitary(void) {
 static void compare(void) { reply = foreituka_compare(left, WORDS(left), right, WORDS(right), place, scalars); }
 static void blocks(void) { reply = foreituka_classical_blocks(left, WORDS(left), effects, WORDS(effects)); }
 static void povm(void) { reply = foreituka_povm_effects(left, WORDS(left), effects, WORDS(effects)); }
+static void pack(void) { reply = foreituka_pack_channel(left, WORDS(left), less, WORDS(less), &index_of); }
+static void unpack(void) { reply = foreituka_unpack_channel(less, WORDS(less), right, WORDS(right), &index_of); }
+static void write_plain(void) { reply = foreituka_write_plain(left, WORDS(left), less, WORDS(less), &index_of); }
+static void read_plain(void) { reply = foreituka_read_plain(less, WORDS(less), right, WORDS(right), &index_of); }
 static void lookup(void) { reply = (uint32_t)foreituka_lookup(left, WORDS(left), store, bits); }
 static void phase(void) {
     size_t d = (size_t)1 << qubits;
@@ -156,6 +160,10 @@ static void sizes(void) {
     for (int n = 0; n <= 4; n++) size(FOREITUKA_EFFECTS_WORDS(n, 1));
     printf(" – |\n| effects, each further block |");
     for (int n = 0; n <= 4; n++) size(FOREITUKA_EFFECTS_WORDS(n, 2) - FOREITUKA_EFFECTS_WORDS(n, 1));
+    printf(" – |\n| packed channel, one block |");
+    for (int n = 0; n <= 4; n++) size(FOREITUKA_PACKED_WORDS(n, 1));
+    printf(" – |\n| channel without √2 parts, one block |");
+    for (int n = 0; n <= 4; n++) size(FOREITUKA_PLAIN_WORDS(n, 1));
     printf(" – |\n");
 }
 
@@ -164,9 +172,9 @@ static int exact(void) {
     for (uint32_t n = 0; n <= FOREITUKA_MAX_QUBITS; n++) {
         size_t d2 = FOREITUKA_DIM(n) * FOREITUKA_DIM(n), words = FOREITUKA_UNITARY_WORDS(n), needed = FOREITUKA_UNITARY_WORK_WORDS(n);
         gate_words = 0;
-        for (int less = 0; less < 4; less++) {
-            reply = foreituka_circuit_unitary(n, gates, 0, limits, left, words - (less & 1), work, needed - (less >> 1), &index_of);
-            if (reply != (less ? FOREITUKA_SHORT : FOREITUKA_ACCEPTED)) return 1;
+        for (int fewer = 0; fewer < 4; fewer++) {
+            reply = foreituka_circuit_unitary(n, gates, 0, limits, left, words - (fewer & 1), work, needed - (fewer >> 1), &index_of);
+            if (reply != (fewer ? FOREITUKA_SHORT : FOREITUKA_ACCEPTED)) return 1;
         }
         for (uint32_t splits = 0; splits <= (n ? 6 : 0); splits++)
             for (uint32_t written = splits ? 1 : 0; written <= splits; written++) {
@@ -176,16 +184,26 @@ static int exact(void) {
                 for (uint32_t i = 0; i < splits; i++) gate(FOREITUKA_GATE_MEASURE, i % n, i < written ? i : 0, 0);
                 words = FOREITUKA_CHANNEL_WORDS(n, written);
                 needed = FOREITUKA_CHANNEL_WORK_WORDS(n, splits);
-                for (int less = 0; less < 4; less++) {
-                    reply = foreituka_circuit_channel(n, written, store, written, gates, gate_words, limits, left, words - (less & 1), work,
-                                                      needed - (less >> 1), &index_of);
-                    if (reply != (less ? FOREITUKA_SHORT : FOREITUKA_ACCEPTED)) return 1;
-                    if (less) continue;
+                for (int fewer = 0; fewer < 4; fewer++) {
+                    reply = foreituka_circuit_channel(n, written, store, written, gates, gate_words, limits, left, words - (fewer & 1), work,
+                                                      needed - (fewer >> 1), &index_of);
+                    if (reply != (fewer ? FOREITUKA_SHORT : FOREITUKA_ACCEPTED)) return 1;
+                    if (fewer) continue;
                     size_t effect_words = FOREITUKA_EFFECTS_WORDS(n, left[2]);
                     if (foreituka_classical_blocks(left, words, effects, effect_words) != FOREITUKA_ACCEPTED ||
                         foreituka_classical_blocks(left, words, effects, effect_words - 1) != FOREITUKA_SHORT ||
                         foreituka_povm_effects(left, words, effects, effect_words) != FOREITUKA_ACCEPTED ||
                         foreituka_povm_effects(left, words, effects, effect_words - 1) != FOREITUKA_SHORT)
+                        return 1;
+                    size_t packed_words = FOREITUKA_PACKED_WORDS(n, left[2]), plain_words = FOREITUKA_PLAIN_WORDS(n, left[2]), all = FOREITUKA_HEADER_WORDS + (size_t)left[2] * FOREITUKA_RECORD_WORDS(n);
+                    if (foreituka_pack_channel(left, words, less, packed_words - 1, &index_of) != FOREITUKA_SHORT ||
+                        foreituka_pack_channel(left, words, less, packed_words, &index_of) != FOREITUKA_ACCEPTED ||
+                        foreituka_unpack_channel(less, packed_words, right, all - 1, &index_of) != FOREITUKA_SHORT ||
+                        foreituka_unpack_channel(less, packed_words, right, all, &index_of) != FOREITUKA_ACCEPTED || memcmp(left, right, all * sizeof *left) ||
+                        foreituka_write_plain(left, words, less, plain_words - 1, &index_of) != FOREITUKA_SHORT ||
+                        foreituka_write_plain(left, words, less, plain_words, &index_of) != FOREITUKA_ACCEPTED ||
+                        foreituka_read_plain(less, plain_words, right, all - 1, &index_of) != FOREITUKA_SHORT ||
+                        foreituka_read_plain(less, plain_words, right, all, &index_of) != FOREITUKA_ACCEPTED || memcmp(left, right, all * sizeof *left))
                         return 1;
                 }
             }
@@ -194,7 +212,7 @@ static int exact(void) {
 }
 
 /* in the order of the table */
-enum { CHANNEL, LAYERED, SCHEDULE, UNITARY, COMPARE, BLOCKS, POVM, LOOKUP, PHASE, SCALARS, CALLS };
+enum { CHANNEL, LAYERED, SCHEDULE, UNITARY, COMPARE, BLOCKS, POVM, PACK, UNPACK, WRITE_PLAIN, READ_PLAIN, LOOKUP, PHASE, SCALARS, CALLS };
 
 int main(void) {
     if (exact()) return fprintf(stderr, "memory: a size of the header is not what the calls ask for; reply %u\n", reply), 1;
@@ -216,6 +234,15 @@ int main(void) {
             of[BLOCKS] = most(of[BLOCKS], used_by(blocks));
             of[POVM] = most(of[POVM], used_by(povm));
             of[LOOKUP] = most(of[LOOKUP], used_by(lookup));
+            of[PACK] = most(of[PACK], used_by(pack));
+            of[UNPACK] = most(of[UNPACK], used_by(unpack));
+            if (reply != FOREITUKA_ACCEPTED) return fprintf(stderr, "memory: packed and refused %u at %u qubits\n", reply, n), 1;
+            gate_words = 0; /* channels without √2 parts */
+            for (int i = 0; n > 0 && i < splits; i++) gate(FOREITUKA_GATE_MEASURE, (uint32_t)i % n, 0, 0);
+            channel();
+            of[WRITE_PLAIN] = most(of[WRITE_PLAIN], used_by(write_plain));
+            of[READ_PLAIN] = most(of[READ_PLAIN], used_by(read_plain));
+            if (reply != FOREITUKA_ACCEPTED) return fprintf(stderr, "memory: written and refused %u at %u qubits\n", reply, n), 1;
         }
     for (uint32_t n = 0; n <= FOREITUKA_MAX_QUBITS; n++) {
         all_kinds(n, 0);
@@ -231,7 +258,8 @@ int main(void) {
     for (uint32_t i = 0; i < 1024; i++) gate(FOREITUKA_GATE_CCX, 3 * i, 3 * i + 1, 3 * i + 2);
     of[SCHEDULE] = used_by(schedule);
     if (reply != FOREITUKA_ACCEPTED) return fprintf(stderr, "memory: schedule refused %u\n", reply), 1;
-    static const char *names[CALLS] = {"circuit_channel", "layered_channel", "judge_schedule", "circuit_unitary", "compare", "classical_blocks", "povm_effects", "lookup",
+    static const char *names[CALLS] = {"circuit_channel", "layered_channel", "judge_schedule", "circuit_unitary", "compare", "classical_blocks", "povm_effects", "pack_channel", "unpack_channel", "write_plain",
+                                       "read_plain", "lookup",
                                        "equivalent_up_to_global_phase", "scalar calls"};
     sizes();
     printf("\n| call | stack, bytes |\n|---|---|\n");

@@ -80,6 +80,14 @@ calls! {
         foreituka_classical_blocks, plain_classical_blocks;
     povm_effects(channel: *const i64, channel_words: usize, result: *mut i64, result_words: usize) -> u32,
         foreituka_povm_effects, plain_povm_effects;
+    pack_channel(channel: *const i64, channel_words: usize, result: *mut i64, result_words: usize, index: *mut u64) -> u32,
+        foreituka_pack_channel, plain_pack_channel;
+    unpack_channel(packed: *const i64, packed_words: usize, result: *mut i64, result_words: usize, index: *mut u64) -> u32,
+        foreituka_unpack_channel, plain_unpack_channel;
+    write_plain(channel: *const i64, channel_words: usize, result: *mut i64, result_words: usize, index: *mut u64) -> u32,
+        foreituka_write_plain, plain_write_plain;
+    read_plain(words: *const i64, word_count: usize, result: *mut i64, result_words: usize, index: *mut u64) -> u32,
+        foreituka_read_plain, plain_read_plain;
     lookup(channel: *const i64, channel_words: usize, store: *const u8, store_bytes: usize) -> usize,
         foreituka_lookup, plain_lookup;
     equivalent_up_to_global_phase(left_dim: usize, left: *const i64, left_words: usize, right_dim: usize, right: *const i64,

@@ -3,6 +3,7 @@ use crate::calls::CEILINGS;
 use crate::calls::kind::{CH, CNOT, H, MEASURE, RESET, RZ, SX, T, X};
 use crate::checks::{Case, Damage, Edit, KEPT_HEAD, MAX_WEIGHT, NARROW, NARROW_EXPONENT, Operation, WIDEST, terms, weight};
 use crate::lent::Rng;
+use crate::packed;
 use crate::programs;
 use crate::rust::{EXPONENT, HEAD, HEADER, NUMERATORS, Words, record_words};
 use std::sync::LazyLock;
@@ -116,7 +117,7 @@ fn gate(rng: &mut Rng, n: u32, bits: u32, kinds: &[u32]) -> Option<[u32; 5]> {
 }
 
 /// A sound circuit: at most so many gates, a weight of at most MAX_WEIGHT, at most `splits` measures and resets.
-fn circuit(rng: &mut Rng, n: u32, bits: u32, length: u64, splits: u32) -> Words {
+pub fn circuit(rng: &mut Rng, n: u32, bits: u32, length: u64, splits: u32) -> Words {
     let mut kinds = PLAIN.to_vec();
     // measures and resets often enough to matter
     kinds.extend([MEASURE, MEASURE, MEASURE, RESET]);
@@ -134,7 +135,7 @@ fn circuit(rng: &mut Rng, n: u32, bits: u32, length: u64, splits: u32) -> Words 
     Words { qubits: n, bits, store, gates }
 }
 
-fn some_bits(rng: &mut Rng) -> u32 {
+pub fn some_bits(rng: &mut Rng) -> u32 {
     *rng.pick(&[0, 1, 1, 2, 2, 3, 5, 31, 32, 33, 63, 64])
 }
 
@@ -397,7 +398,7 @@ fn comparison(_: u64, rng: &mut Rng) -> Case {
 }
 
 /// A word that may do harm where it is put.
-fn harmful(rng: &mut Rng) -> i64 {
+pub fn harmful(rng: &mut Rng) -> i64 {
     let words = [0, 1, 2, 3, 4, 5, 8, 12, 16, 32, 60, 61, 64, 65, 68, 72, 140, -1, -2, NARROW, 1 << 31, (1 << 32) - 1, 1 << 32, WIDEST / 2,
         WIDEST - 1, WIDEST, WIDEST + 1, -WIDEST, -WIDEST - 1, i64::MAX, i64::MIN];
     *rng.pick(&words)
@@ -987,6 +988,8 @@ pub fn sets() -> Vec<Set> {
         Set { name: "programs-faulty", about: "Pauli programs with faults of every kind", count: 30000, quick: 1000, case: programs::faulty },
         Set { name: "work-list", about: "lists of pairs under an allowance", count: 6000, quick: 300, case: work_lists },
         Set { name: "damaged", about: "channels with words damaged, blocks of zeros and blocks at other exponents", count: 20000, quick: 600, case: damaged },
+        Set { name: "packed", about: "channels packed and unpacked, as delivered and damaged", count: 20000, quick: 1000, case: packed::packed },
+        Set { name: "plain-words", about: "channels written and read without √2 parts, as delivered and damaged", count: 20000, quick: 1000, case: packed::plain },
         Set { name: "phases", about: "phase tests, both orders", count: 8000, quick: 300, case: phases },
         Set { name: "scalars", about: "scalar calls at the ranges' ends", count: 100000, quick: 3000, case: scalars },
     ];

@@ -1,6 +1,7 @@
 //! One comparison: a call's input, the archive's reply, the plain C version's, and the Rust's where it can be asked.
 use crate::calls::{ARCHIVE, CEILINGS, Calls, PLAIN};
 use crate::lent::{Lent, Rng};
+use crate::packed::{self, Form, Hurt, Origin};
 use crate::programs::{self, Program};
 use crate::rust::{self, EXPONENT, HEAD, HEADER, NUMERATORS, Words, record_words};
 use crate::semantics::Matrix;
@@ -109,6 +110,8 @@ pub enum Case {
     /// compare (both orders), classical_blocks, povm_effects and lookup on words of any kind: those of two circuits' channels with blocks set to zero, blocks at an exponent that is one too
     /// large, and words set to values.
     Damaged { left: Words, right: Words, blanks: Vec<(bool, u64)>, doubled: Vec<(bool, u64)>, sets: Vec<(bool, u64, i64)>, cut: u64, store: Vec<u8>, short: u64 },
+    /// A channel and its words in a form that keeps less, each with damages, written and read, with words more or less than the result needs.
+    Forms { origin: Origin, form: Form, hurts: Vec<Hurt>, kept_hurts: Vec<Hurt>, extra: i64 },
     /// The phase test on the unitaries of two circuits, the right one times a scalar, with words set to values.
     Phase { left: Words, right: Words, scale: [i64; 5], sets: Vec<(bool, u64, i64)>, dims: (usize, usize), cut: u64 },
     Scalar(Operation),
@@ -1022,7 +1025,8 @@ fn double(block: &mut [i64]) {
     block[1..].iter_mut().for_each(|n| *n *= 2);
 }
 
-fn plain_channel(w: &Words) -> Vec<i64> {
+/// The archive's channel of a circuit; no words where it is refused.
+pub fn channel_of(w: &Words) -> Vec<i64> {
     circuit_call(&ARCHIVE, Ask::Channel, w, &CEILINGS, (0, 0)).map(|r| r.result).unwrap_or_default()
 }
 
@@ -1148,7 +1152,7 @@ pub fn check(case: &Case, counts: &mut Counts) -> Fault {
             compare(&y, &x, Ok((&b, &a)), counts)
         }
         Case::Damaged { left, right, blanks, doubled, sets, cut, store, short } => {
-            let (mut x, mut y) = (plain_channel(left), plain_channel(right));
+            let (mut x, mut y) = (channel_of(left), channel_of(right));
             for (words, side) in [(&mut x, false), (&mut y, true)] {
                 each_block(words, doubled, side, double);
                 each_block(words, blanks, side, |block| block.fill(0));
@@ -1163,6 +1167,7 @@ pub fn check(case: &Case, counts: &mut Counts) -> Fault {
             effects(&x, left, *short as usize, counts)?;
             lookup(&x, store, left, counts)
         }
+        Case::Forms { .. } => packed::check(case, counts),
         Case::Phase { left, right, scale, sets, dims, cut } => {
             let of = |w: &Words| circuit_call(&ARCHIVE, Ask::Unitary, w, &CEILINGS, (0, 0)).map(|r| r.result).unwrap_or_default();
             let (mut x, mut y) = (of(left), of(right));
@@ -1184,7 +1189,7 @@ pub fn check(case: &Case, counts: &mut Counts) -> Fault {
 // ---- smaller inputs
 
 /// Circuits with a gate or a bit less, or with simpler gates.
-fn smaller_words(w: &Words) -> Vec<Words> {
+pub fn smaller_words(w: &Words) -> Vec<Words> {
     let mut out = Vec::new();
     let gates: Vec<&[u32]> = w.gates.chunks(5).collect();
     let half = gates.len() / 2;
@@ -1357,6 +1362,7 @@ fn smaller(case: &Case) -> Vec<Case> {
             }
             out
         }
+        Case::Forms { .. } => packed::smaller(case),
         Case::Phase { left, right, scale, sets, dims, cut } => {
             let with = |left: &Words, right: &Words, scale: [i64; 5], sets: Vec<(bool, u64, i64)>| Case::Phase {
                 left: left.clone(), right: right.clone(), scale, sets, dims: *dims, cut: *cut,

@@ -7,6 +7,7 @@ mod checks;
 mod circuit;
 mod driver;
 mod lent;
+mod packed;
 mod pbc;
 mod programs;
 mod qasm;

@@ -252,6 +252,14 @@ fn delivered(p: &Program, limits: &[u64; 6], lent: (usize, usize), due: (u32, u6
     Ok(result.words()[..used].to_vec())
 }
 
+/// The archive's channel of a program; no words where it is refused.
+pub fn channel_of(p: &Program) -> Vec<i64> {
+    #[cfg(pauli_channel)]
+    return delivered(p, &CEILINGS, p.need(), p.due(&CEILINGS, p.need())).unwrap_or_default();
+    #[cfg(not(pauli_channel))]
+    return Vec::new();
+}
+
 #[cfg(pauli_channel)]
 fn same_channel(p: &Program, got: &[i64], c: &Channel, counts: &mut Counts) -> Result<(), String> {
     let side = 1 << (2 * p.qubits);
