@@ -34,6 +34,7 @@ RECORD = {
     23: lambda given: circuit(given[3:]),
     10: lambda given: counted(counted(counted(given[2:]))),
     17: lambda given: counted(counted(counted(given[4:]))),
+    18: lambda given: counted(counted(counted(given[4:]))),
     24: lambda given: counted(counted(given[8:])),
     25: lambda given: counted(words(given)[7:])[3:],
 }

@@ -226,4 +226,5 @@ def main():
     print(f"seed {seed}: {len(lines)} programs, {sum(map(bool, commands))} of which the Rust was asked; by verdict {dict(sorted(verdicts.items()))}", file=sys.stderr)
 
 
-main()
+if __name__ == "__main__":
+    main()
