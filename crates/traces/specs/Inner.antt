@@ -1,0 +1,2 @@
+-- What inner functions ask.
+pub mod Inside
