@@ -2,7 +2,6 @@ pub mod Summing
 pub mod Entries
 pub mod Linking
 pub mod Strides
-pub mod Small
 pub mod Records
 pub mod Answers
 pub mod Reading

@@ -1,9 +1,11 @@
 -- Sums of scalars with a verdict at each step: the partial sums, in range as long as each step is accepted.
 use mathlib.Core.Path.{_≡_, refl, sym, ap, _∙_, subst}
 use mathlib.Core.Bool.{Bool, true, false, cond, _&&_}
-use Prim.Native.Nat.{ℕ, zero, suc, _+_, _*_, _≤_, _<_}
+use Prim.Native.Nat.{ℕ, zero, suc, _+_, _*_, _/_, _%_, _≤_, _<_}
+use native.Mathlib.Nat.{mul-le-mul, div-lt-iff-lt-mul, mod-lt}
 use native.Mathlib.Numerals.{add-one}
 use native.Mathlib.Omega.{arith}
+use lib.Arith.{digits-lt}
 use Rattle.algebra.specs.Sum.{sum}
 use Rattle.algebra.proofs.Tests.{all-at, all-step, all-no}
 use Rattle.exact.specs.Exact.{Exact, exact, inRange, wellFormed}
@@ -13,12 +15,29 @@ use Rattle.scalar.specs.declared.Answer.{Answer}
 use Rattle.verdict.specs.Verdict.{accepted as isAccepted}
 use Rattle.verdict.specs.declared.Verdict.the-variants.{TooLarge, Malformed}
 use Rattle.scalar.specs.Calls.{value, scalarOf, accepted, refusedWith, fitting, addAnswer}
-use Rattle.traces.proofs.Laws.{square}
+use Rattle.channel.specs.Layout.{side, effectPlace}
 use Rattle.effects.specs.Effects.{partialsFit}
 use Rattle.effects.specs.Inner.Readable.{Dim}
 
+-- ---- the places that are summed
+square : (d : ℕ) → d ≤ 16 → d * d ≤ 256
+square d h = mul-le-mul h h
+
+module _ (d i : ℕ) (m : Dim d) (h : i < d * d) where
+  pub row-below : i / d < d
+  row-below = div-lt-iff-lt-mul (m .some) .1 h
+
+  pub col-below : i % d < d
+  col-below = mod-lt i (m .some)
+
+pub place-below : (d r c o : ℕ) → r < d → c < d → o < d → effectPlace d r c o < side d * side d
+place-below d r c o p q k = digits-lt (digits-lt k p) (digits-lt k q)
+
 pub dim-square : {d : ℕ} → Dim d → d * d ≤ 256
-dim-square m = square (m .small)
+dim-square {d} m = square d (m .small)
+
+pub dim-fourth : {d : ℕ} → Dim d → side d * side d ≤ 65536
+dim-fourth m = mul-le-mul (dim-square m) (dim-square m)
 
 -- ---- one sum
 fitting-tests : (x : Exact) → isAccepted (fitting x .verdict) ≡ inRange x

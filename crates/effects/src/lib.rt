@@ -14,10 +14,6 @@ use scalar::Answer;
 use scalar::Scalar;
 use scalar::ZERO;
 use scalar::refused;
-use share::share;
-use traces::is_small;
-use traces::sum_terms;
-use traces::term_place;
 use verdict::Verdict;
 ghost use mathlib.Core.Path.{_≡_};
 ghost use mathlib.Core.Bool.{true, cond};
@@ -31,14 +27,24 @@ ghost use Rattle.exact.specs.Exact.{within, maxNumerator, maxExponent, numberOf
 ghost use Rattle.scalar.specs.Calls.{value, accepted, refusedWith};
 ghost use Rattle.verdict.specs.declared.Verdict.the-variants.{TooLarge};
 ghost use Rattle.channel.specs.Shared.{sharedExponent, scaled};
-ghost use Rattle.channel.specs.Layout.{channels, effects, headerSize, blockSize, blockWords, recordSize, word};
+ghost use Rattle.channel.specs.Layout.{channels, effects, headerSize, blockSize, blockWords, recordSize, effectPlace, word};
 ghost use Rattle.channel.specs.Recast.{relink};
 ghost use Rattle.channel.specs.Inner.Shapes.{shapeBy};
 ghost use Rattle.share.specs.Share.{withNumerators};
-ghost use Rattle.traces.specs.Traces.{isSmall, tracedAt};
 ghost use Rattle.effects.specs.Effects.{term, effectAt, partialsFit, termsFit, recordFits, sumsFit, effectHeader, effectShared, effectRecord, withRecords, effectsWords, resultBy, effectsVerdict, resultOf, povmOf};
 ghost use Rattle.effects.specs.Inner.Readable.{Dim, Readable, Records, Linked, Ready};
 ghost use Rattle.effects.specs.Inner.Strides.{strided, stridedAt, Strides, formAt, Effect, sharedWords};
+
+// The place in a block of its entry (o·d + r, o·d + c).
+fn term_place(d: usize, r: usize, c: usize, o: usize) -> usize
+    requires { ⌜ Dim d × ((r < d) × ((c < d) × (o < d))) ⌝ }
+    ensures { λ k. ⌜ k ≡ effectPlace d r c o ⌝ }
+{
+    let w = d * d;
+    let row = o * d + r;
+    let col = o * d + c;
+    row * w + col
+}
 
 // Entry i of the effect of the block at `at`, or 9 where a partial sum leaves the range.
 fn sum_entry(s: &[i64], at: usize, d: usize, i: usize) -> Answer
@@ -135,14 +141,11 @@ fn entries_fit(s: &[i64], at: usize, d: usize, e: u32) -> bool
     true
 }
 
-// Whether every partial sum of the block at `at` fits, and then the finished effect: all do where the numerators are small.
+// Whether every partial sum of the block at `at` fits, and then the finished effect.
 fn record_fits(s: &[i64], at: usize, d: usize) -> bool
     requires { ⌜ Readable (now s) at d ⌝ }
     ensures { λ r. ⌜ r ≡ recordFits (now (s .entry)) at d ⌝ }
 {
-    if is_small(s, at, d) {
-        return true;
-    }
     if !terms_fit(s, at, d) {
         return false;
     }
@@ -237,48 +240,6 @@ fn write_entries(
     }
 }
 
-// Write the numerators of the effect of the block at `at`, over the block's exponent, from `out` on.
-fn write_sums(
-    s: &[i64],
-    at: usize,
-    d: usize,
-    rows: usize,
-    cols: usize,
-    result: &mut [i64],
-    out: usize,
-)
-    requires { ⌜ Effect (now s) at d rows cols × ((isSmall (now s) at d ≡ true) × (out + blockSize (effects d) ≤ length (now result))) ⌝ }
-    ensures { λ _. ⌜ now (result .exit) ≡ withNumerators (now (result .entry)) out (d * d) (λ (i : ℕ). tracedAt (now (s .entry)) at d (strided d rows cols i)) ⌝ }
-{
-    let n = d * d;
-    let mut i = 0;
-    while i < n {
-        let k = strided(d, rows, cols, i);
-        let v = sum_terms(s, at, d, k);
-        write_number(result, out + i * ENTRY, v.n);
-        i += 1;
-    }
-}
-
-// Write the effect's shared exponent to `out`, and its numerators after it, by integers: all of them are small.
-fn write_small(
-    s: &[i64],
-    at: usize,
-    d: usize,
-    rows: usize,
-    cols: usize,
-    result: &mut [i64],
-    out: usize,
-)
-    requires { ⌜ Effect (now s) at d rows cols × ((isSmall (now s) at d ≡ true) × (out + 1 + blockSize (effects d) ≤ length (now result))) ⌝ }
-    ensures { λ _. ⌜ now (result .exit) ≡ sets (now (result .entry)) out (sharedWords d (effectShared (stridedAt rows cols) (now (s .entry)) at d)) ⌝ }
-{
-    write_sums(s, at, d, rows, cols, result, out + 1);
-    let x = s[at + EXPONENT];
-    let e = share(result, out + 1, d * d, x as u32);
-    result[out] = e as i64;
-}
-
 // Write the effect's shared exponent to `out`, and its numerators after it.
 fn write_block(
     s: &[i64],
@@ -292,10 +253,6 @@ fn write_block(
     requires { ⌜ Effect (now s) at d rows cols × (out + 1 + blockSize (effects d) ≤ length (now result)) ⌝ }
     ensures { λ _. ⌜ now (result .exit) ≡ sets (now (result .entry)) out (sharedWords d (effectShared (stridedAt rows cols) (now (s .entry)) at d)) ⌝ }
 {
-    if is_small(s, at, d) {
-        write_small(s, at, d, rows, cols, result, out);
-        return;
-    }
     let e = effect_exponent(s, at, d);
     result[out] = e as i64;
     write_entries(s, at, d, rows, cols, e, result, out + 1);

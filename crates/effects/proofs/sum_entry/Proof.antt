@@ -9,8 +9,7 @@ use Rattle.verdict.specs.declared.Verdict.the-variants.{TooLarge}
 use Rattle.scalar.specs.Calls.{scalarOf, acceptedAs, accepted, refusedWith}
 use Rattle.channel.specs.Layout.{channels, entryAt, side}
 use Rattle.effects.specs.Effects.{term, effectAt}
-use Rattle.effects.proofs.Summing.{Summed, stops, goes-on, done}
-use Rattle.traces.proofs.Laws.{row-below, col-below, place-below}
+use Rattle.effects.proofs.Summing.{row-below, col-below, place-below, Summed, stops, goes-on, done}
 use Rattle.effects.proofs.Entries.{entries-in, entry-formed}
 use Rattle.effects.proofs.sum_entry.Statement.{statement}
 use Rattle.effects.proofs.sum_entry.Tie as tie
@@ -25,10 +24,10 @@ abbrev terms : tie.In-loop Inv-loop μ-loop → ℕ → Exact
 terms n = let s = n .before .before .args in term (s .s .now) (s .at) (s .d) (s .i)
 
 row : (s : tie.Start Inv-loop μ-loop) → s .args .i / s .args .d < s .args .d
-row s = row-below (s .args .d) (s .args .i) (s .pre .0 .dim .some) (s .pre .1)
+row s = row-below (s .args .d) (s .args .i) (s .pre .0 .dim) (s .pre .1)
 
 col : (s : tie.Start Inv-loop μ-loop) → s .args .i % s .args .d < s .args .d
-col s = col-below (s .args .d) (s .args .i) (s .pre .0 .dim .some) (s .pre .1)
+col s = col-below (s .args .d) (s .args .i) (s .pre .0 .dim) (s .pre .1)
 
 -- the term that comes next
 module _ (c : tie.After-term-place Inv-loop μ-loop) where
@@ -61,7 +60,7 @@ loop-holds : tie.Need-loop-holds Inv-loop μ-loop
 loop-holds c = record { count = omega arith; is = refl; fit = refl }
 
 term-place-requires : tie.Need-term-place-requires Inv-loop μ-loop
-term-place-requires c κs = let s = c .before .before in (s .pre .0 .dim .small, (row s, (col s, c .loop-test .taken)))
+term-place-requires c κs = let s = c .before .before in (s .pre .0 .dim, (row s, (col s, c .loop-test .taken)))
 
 read-entry-requires : tie.Need-read-entry-requires Inv-loop μ-loop
 read-entry-requires c κs = let b = below c in entries-in (start c .args .s .now) (start c .args .at) (start c .args .d) (start c .pre .0) (c .term-place .result + 1) (omega arith)

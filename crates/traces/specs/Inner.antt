@@ -1,2 +1,0 @@
--- What inner functions ask.
-pub mod Inside
