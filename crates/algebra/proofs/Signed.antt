@@ -23,7 +23,7 @@ use Rattle.algebra.proofs.Tests.{leb_same, eqb_same}
 
 -- ---- what is written is read back
 pub reads : (z : ℤ) → mag z < 2 ^ 63 → to_z w64 (of_z w64 z) ≡ z
-reads z h = to_z-of_z (record { sfits = h })
+reads z h = to_z-of_z {w = w64} (record { sfits = h })
 
 pub back : (z : ℤ) → nat_abs z < 2 ^ 63 → to_z w64 (of_z w64 z) ≡ z
 back z h = to_z-of_z (sfits_abs {w = w64} h)

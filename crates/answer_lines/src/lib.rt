@@ -17,7 +17,7 @@ use text::page::{put, put_all, put_decimal};
 use verdict::Verdict;
 
 // Why a text or its circuit is refused: the byte at fault with its line and column, or the place of the gate at fault; how many gates a text has that has too many. Each is 0 where there is none.
-#[derive(Drop)]
+#[derive(Clone, Copy)]
 pub struct Refusal {
     pub verdict: Verdict,
     pub position: usize,
@@ -27,7 +27,7 @@ pub struct Refusal {
 }
 
 // Which text: the left or the right one of two, or the only one.
-#[derive(Drop)]
+#[derive(Clone, Copy)]
 pub enum Which {
     Left,
     Right,

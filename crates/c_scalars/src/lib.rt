@@ -9,7 +9,7 @@ use c_words::{read_operand, scalar_words};
 use cells::CELL;
 use scalar::{Answer, Scalar};
 
-#[derive(Drop)]
+#[derive(Clone, Copy)]
 pub enum Constant {
     Zero,
     I,
@@ -17,14 +17,14 @@ pub enum Constant {
     Omega(u32),
 }
 
-#[derive(Drop)]
+#[derive(Clone, Copy)]
 pub enum Unary {
     Neg,
     Conj,
     Half,
 }
 
-#[derive(Drop)]
+#[derive(Clone, Copy)]
 pub enum Binary {
     Add,
     Mul,

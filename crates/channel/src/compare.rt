@@ -17,7 +17,7 @@ use store::comes_before;
 use verdict::Verdict;
 
 // Bit j of a store weighs 2^j.
-#[derive(Drop)]
+#[derive(Clone, Copy)]
 pub struct Place {
     pub store: u64,
     pub row: usize,
@@ -25,7 +25,7 @@ pub struct Place {
 }
 
 // A refusal has document 01's number; the other answers are none.
-#[derive(Drop)]
+#[derive(Clone, Copy)]
 pub enum Found {
     Refused(Verdict),
     Same,
@@ -34,7 +34,7 @@ pub enum Found {
 }
 
 // Both scalars are zero unless an entry differs.
-#[derive(Drop)]
+#[derive(Clone, Copy)]
 pub struct Difference {
     pub found: Found,
     pub left: Scalar,
@@ -42,7 +42,7 @@ pub struct Difference {
 }
 
 // The sides that have a block of the next store.
-#[derive(Drop)]
+#[derive(Clone, Copy)]
 struct Turn {
     pub left: bool,
     pub right: bool,
@@ -50,7 +50,7 @@ struct Turn {
 }
 
 // A place on a chain: the index of the next record, how many are left, and the record's store (0 at the end).
-#[derive(Drop)]
+#[derive(Clone, Copy)]
 struct Cursor {
     pub at: usize,
     pub left: usize,

@@ -7,7 +7,7 @@ pub mod well_formed;
 use verdict::Verdict;
 
 // The verdict on words given as a channel, and their header; its numbers are 0 where the words are refused.
-#[derive(Drop)]
+#[derive(Clone, Copy)]
 pub struct Shape {
     pub verdict: Verdict,
     pub dim: usize,

@@ -9,7 +9,7 @@ use super::well_formed::judge;
 use store::{is_store, pack};
 
 // A part of a slice.
-#[derive(Drop)]
+#[derive(Clone, Copy)]
 pub struct Span {
     pub start: usize,
     pub size: usize,

@@ -13,7 +13,7 @@ use store::{MAX_WORD, comes_before, fits_bits, join};
 use verdict::Verdict;
 
 // What is found of a record: whether its block is zero, and its store; or `ok` false, false and 0.
-#[derive(Drop)]
+#[derive(Clone, Copy)]
 struct Judged {
     pub ok: bool,
     pub zero: bool,

@@ -9,7 +9,7 @@ ghost use Rattle.circuit.specs.Inner.Footprint.{newly};
 use gate::judge::{GateWords, read_gate};
 use gate::{GATE, MEASURE};
 
-#[derive(Drop)]
+#[derive(Clone, Copy)]
 pub struct Footprint {
     // gates
     pub gates: u64,

@@ -2,7 +2,7 @@
 ghost use Rattle.std.specs.Prelude.{◌≡◌};
 ghost use Rattle.circuit.specs.Limits.{ceilings, matrix_ceilings, branch_ceilings};
 
-#[derive(Drop)]
+#[derive(Clone, Copy)]
 pub struct Limits {
     pub max_qubits: u64,
     pub max_matrix_cells: u64,

@@ -75,7 +75,7 @@ pub fn judge_numbers(
 }
 
 // What circuit_channel learns of a circuit: the verdict and, where that accepts, its measures and resets.
-#[derive(Drop)]
+#[derive(Clone, Copy)]
 pub struct Judged {
     pub verdict: Verdict,
     pub splits: u64,

@@ -11,7 +11,7 @@ use cells::CELL;
 // As many splits as make MAX_BRANCHES.
 pub const MAX_SPLITS: u64 = 6;
 
-#[derive(Drop)]
+#[derive(Clone, Copy)]
 pub struct Sizes {
     pub branches: u64,
     pub stores: u64,

@@ -23,21 +23,21 @@ pub const MAX_NUMBERS: usize = 3 + MAX_BITS + GATE * MAX_GATES;
 const MAX_BYTE: u32 = 255;
 
 // How many qubits, bits and gates a circuit has. In the numbers of its text the store begins at 2, and the gates' words at 3 + bits.
-#[derive(Drop)]
+#[derive(Clone, Copy)]
 pub struct Circuit {
     pub qubits: u32,
     pub bits: u32,
     pub gates: usize,
 }
 
-#[derive(Drop)]
+#[derive(Clone, Copy)]
 pub enum Input {
     Refused,
     Given(Circuit),
 }
 
 // What the first numbers of an input say, and whether those of its store are bytes.
-#[derive(Drop)]
+#[derive(Clone, Copy)]
 struct Seen {
     count: usize,
     qubits: u32,

@@ -21,7 +21,7 @@ use work_list::serving::{charge_of, serve, wipe};
 pub const MAX_PAIRS: usize = 32;
 
 // The verdict on the list, and the sum of what is spent on the pairs that are served; 0 where the list is refused.
-#[derive(Drop)]
+#[derive(Clone, Copy)]
 pub struct Reply {
     pub verdict: Verdict,
     pub total: u64,

@@ -20,7 +20,7 @@ pub const SCALARS: usize = 10;
 const PASSED_OVER: u32 = 107;
 
 // The place of an entry that differs, a refusal's number and index; zeros where there is none.
-#[derive(Drop)]
+#[derive(Clone, Copy)]
 pub struct Details {
     pub store: u64,
     pub row: u64,

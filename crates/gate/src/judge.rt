@@ -10,7 +10,7 @@ use crate::{LAST_KIND, MEASURE, RESET, RZ};
 use verdict::Verdict;
 
 // The five words of a gate.
-#[derive(Drop)]
+#[derive(Clone, Copy)]
 pub struct GateWords {
     pub kind: u32,
     pub a: u32,
@@ -20,7 +20,7 @@ pub struct GateWords {
 }
 
 // Which call asks: circuit_channel, with its bit count; circuit_unitary; or judge_schedule, with its bit count, which leaves question 6 to the other two.
-#[derive(Drop)]
+#[derive(Clone, Copy)]
 pub enum Asking {
     Channel(u32),
     Unitary,

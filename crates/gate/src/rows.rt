@@ -11,7 +11,7 @@ use cells::{CELL, write_cell};
 use scalar::{ONE, Scalar, ZERO};
 
 // The entries of a row in its own column and in its partner's.
-#[derive(Drop)]
+#[derive(Clone, Copy)]
 pub struct Pair {
     pub own: Scalar,
     pub other: Scalar,

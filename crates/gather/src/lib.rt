@@ -9,7 +9,7 @@ use exact::MAX_NUMERATOR;
 use exact::ranges::at_most;
 
 // What is seen of numerators: whether each is in range, each even, each zero.
-#[derive(Drop)]
+#[derive(Clone, Copy)]
 pub struct Seen {
     pub range: bool,
     pub even: bool,

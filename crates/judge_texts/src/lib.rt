@@ -16,7 +16,7 @@ use text_channel::refusals::refuse;
 use text_sides::{Side, run_side};
 
 // No room for an answer; the left text or circuit refused, or the right one; or what the comparison of both channels found.
-#[derive(Drop)]
+#[derive(Clone, Copy)]
 pub enum Answer {
     NoRoom,
     Left(Refusal),
@@ -25,7 +25,7 @@ pub enum Answer {
 }
 
 // An answer, and how many bytes say it. Both scalars are zero unless an entry differs.
-#[derive(Drop)]
+#[derive(Clone, Copy)]
 pub struct Judgement {
     pub answer: Answer,
     pub left: Scalar,

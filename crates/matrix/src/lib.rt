@@ -6,14 +6,14 @@ pub mod identity;
 pub mod linear;
 pub mod words;
 
-#[derive(Drop)]
+#[derive(Clone, Copy)]
 pub enum Phase {
     Equivalent,
     Different,
 }
 
 // Whether two matrices are equal up to a global phase; a refusal says "different".
-#[derive(Drop)]
+#[derive(Clone, Copy)]
 pub struct PhaseAnswer {
     pub phase: Phase,
     pub verdict: Verdict,

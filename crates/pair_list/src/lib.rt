@@ -12,7 +12,7 @@ pub const CIRCUIT_HEAD: usize = 3;
 pub const PAIR_HEAD: usize = 6;
 
 // Where a circuit of a pair lies: its gates in the words from `gates` to `gates_end`, its store in the bytes from `store` to `store_end`.
-#[derive(Drop)]
+#[derive(Clone, Copy)]
 pub struct Spot {
     pub qubits: u32,
     pub bits: u32,

@@ -13,7 +13,7 @@ use gate::GATE;
 use gate::judge::{GateWords, read_gate};
 use pauli_words::operations::{MEASURE, MEASURE_INTO, splits_of};
 
-#[derive(Drop)]
+#[derive(Clone, Copy)]
 pub struct ProgramFootprint {
     // one more than the highest node named
     pub nodes: u64,

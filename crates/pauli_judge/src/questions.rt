@@ -107,7 +107,7 @@ fn judge_numbers(
 }
 
 // What pauli_channel learns of a program: the verdict and, where that accepts, what the program asks for.
-#[derive(Drop)]
+#[derive(Clone, Copy)]
 pub struct JudgedProgram {
     pub verdict: Verdict,
     pub footprint: ProgramFootprint,

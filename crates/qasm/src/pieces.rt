@@ -29,7 +29,7 @@ pub const ONE: usize = 54;
 
 // What has been read: which piece is due, where the registers' names stand (nowhere: an empty part), their sizes, and how many words the gates have;
 // after a fault its number and position.
-#[derive(Drop)]
+#[derive(Clone, Copy)]
 pub struct Progress {
     pub place: usize,
     pub q_from: usize,

@@ -12,7 +12,7 @@ use super::steps::run;
 use verdict::Verdict;
 
 // What a text says: how many qubits and bits it declares, how many words its gates have; or why it is refused, with the position of the fault.
-#[derive(Drop)]
+#[derive(Clone, Copy)]
 pub struct Reading {
     pub qubits: u32,
     pub bits: u32,

@@ -14,7 +14,7 @@ use gate::judge::read_gate;
 use verdict::Verdict;
 
 // How many bytes the text has; or why there is none.
-#[derive(Drop)]
+#[derive(Clone, Copy)]
 pub struct Written {
     pub bytes: usize,
     pub verdict: Verdict,

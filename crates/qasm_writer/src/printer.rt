@@ -47,7 +47,7 @@ const STARTS: [usize; 28] = [
 ];
 
 // A part of the names.
-#[derive(Drop)]
+#[derive(Clone, Copy)]
 pub struct Span {
     pub start: usize,
     pub end: usize,

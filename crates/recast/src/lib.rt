@@ -13,7 +13,7 @@ ghost use Rattle.recast.specs.Inner.Records.{Kept, Readable, Linked, Records, Re
 use channel::layout::{EXPONENT, HEADER, RECORD_HEAD};
 
 // What is kept of a block: only the entries (r, c) with r ≤ c, and only n0 and n2 of an entry.
-#[derive(Drop)]
+#[derive(Clone, Copy)]
 pub struct Parts {
     pub half: bool,
     pub plain: bool,

@@ -6,7 +6,7 @@ use crate::numeral::read;
 use crate::words::fitting;
 
 // Where the bytes begin and end, and where the next number of the text begins.
-#[derive(Drop)]
+#[derive(Clone, Copy)]
 pub struct Line {
     pub start: usize,
     pub end: usize,

@@ -6,7 +6,7 @@ use text::bytes::{is_blank, is_digit};
 use text::number::{MAX_TENTH, with_digit};
 
 // A number, its size with no sign, and where the next one begins.
-#[derive(Drop)]
+#[derive(Clone, Copy)]
 pub struct Word {
     pub value: i64,
     pub size: u64,
@@ -14,7 +14,7 @@ pub struct Word {
 }
 
 // What is read of a number: its digits' value, and whether a minus sign came.
-#[derive(Drop)]
+#[derive(Clone, Copy)]
 struct Digits {
     pub size: u64,
     pub negative: bool,

@@ -8,7 +8,7 @@ use crate::record::Record;
 use crate::tally::Tally;
 
 // How a case begins: its kind, whether its record is the Rust's, and where what it is given begins.
-#[derive(Drop)]
+#[derive(Clone, Copy)]
 pub struct Heading {
     pub kind: u64,
     pub rust: bool,
@@ -28,7 +28,7 @@ pub fn read_heading(text: &[u8], at: usize) -> Heading
 }
 
 // The kind of the last case, what was counted of its kind, and where the next case begins.
-#[derive(Drop)]
+#[derive(Clone, Copy)]
 pub struct Progress {
     kind: u64,
     tally: Tally,

@@ -10,7 +10,7 @@ use scalar::Scalar;
 
 // Whether all that was compared so far agrees, where the rest of the record begins, and how many numbers were compared. Only the comparisons below
 // change it.
-#[derive(Drop)]
+#[derive(Clone, Copy)]
 pub struct Record {
     agrees: bool,
     next: usize,

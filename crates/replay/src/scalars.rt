@@ -6,7 +6,7 @@ use crate::numeral::{low, read};
 use scalar::Scalar;
 
 // A scalar, and where the next number begins.
-#[derive(Drop)]
+#[derive(Clone, Copy)]
 pub struct ScalarRead {
     pub value: Scalar,
     pub next: usize,

@@ -7,7 +7,7 @@ use exact::ranges::at_most;
 const PRIME: u64 = 2147483647;
 
 // The two sums.
-#[derive(Drop)]
+#[derive(Clone, Copy)]
 struct Sums {
     pub a: u64,
     pub b: u64,

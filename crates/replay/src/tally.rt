@@ -7,7 +7,7 @@ use crate::record::Record;
 use libc::STDOUT_FILENO;
 
 // All cases; those that agree, by where the record comes from; those that do not, and the number of the first of these, from 1; the numbers compared.
-#[derive(Drop)]
+#[derive(Clone, Copy)]
 pub struct Tally {
     cases: u64,
     of_rust: u64,

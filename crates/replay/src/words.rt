@@ -6,7 +6,7 @@ use crate::numeral::{low, read};
 use matrix::words::clear;
 
 // How many places of a slice were read into, and where the next number of the text begins.
-#[derive(Drop)]
+#[derive(Clone, Copy)]
 pub struct Part {
     pub len: usize,
     pub next: usize,

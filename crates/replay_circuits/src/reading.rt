@@ -17,7 +17,7 @@ pub const ENDS: usize = 1100;
 pub const LAYERED: u64 = 7;
 
 // Limits, and where the next number begins.
-#[derive(Drop)]
+#[derive(Clone, Copy)]
 struct Bounds {
     limits: Limits,
     next: usize,
@@ -54,7 +54,7 @@ fn read_limits(text: &[u8], at: usize) -> Bounds
 }
 
 // A circuit whose store and gates are in two slices: how much of each is its own, and where the next number begins.
-#[derive(Drop)]
+#[derive(Clone, Copy)]
 pub struct Circuit {
     pub limits: Limits,
     pub n: u32,

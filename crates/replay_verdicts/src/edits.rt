@@ -21,7 +21,7 @@ const STORE: usize = 65;
 const GATES: usize = 100;
 
 // An edit: 0 start, 1 append, 2 remove last, else replace; the position, and the gate's words, of which start takes a and b as its counts. Then where the next number begins.
-#[derive(Drop)]
+#[derive(Clone, Copy)]
 struct Edit {
     which: u64,
     position: usize,

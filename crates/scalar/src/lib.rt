@@ -16,7 +16,7 @@ use ranges::{are_narrow, are_well_formed};
 use verdict::Verdict;
 
 // (n[0] + n[1]·√2 + n[2]·i + n[3]·i·√2) / 2^e
-#[derive(Drop)]
+#[derive(Clone, Copy)]
 pub struct Scalar {
     pub n: [i64; 4],
     pub e: u32,
@@ -29,7 +29,7 @@ pub const ONE: Scalar = Scalar {
     e: 0,
 };
 
-#[derive(Drop)]
+#[derive(Clone, Copy)]
 pub struct Answer {
     pub value: Scalar,
     pub verdict: Verdict,

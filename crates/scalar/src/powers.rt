@@ -8,7 +8,7 @@ ghost use Rattle.scalar.specs.Inner.Powers.{are_powers};
 use super::Scalar;
 
 // A scalar in bytes, since there are no statics: where the table is read, the whole of it is stored first.
-#[derive(Drop)]
+#[derive(Clone, Copy)]
 struct Small {
     pub n: [i8; 4],
     pub e: u8,

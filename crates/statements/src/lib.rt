@@ -6,7 +6,7 @@ use qasm::bytes::is_same;
 use qasm::scan::{blanks_end, gap_end, token_end};
 
 // A gate's position, and how many gates stand before it. Beyond the last gate: the text's end, and how many there are.
-#[derive(Drop)]
+#[derive(Clone, Copy)]
 pub struct Spot {
     pub position: usize,
     pub before: usize,

@@ -14,7 +14,7 @@ pub const MAX_NUMBER: u64 = 4294967295;
 pub const MAX_TENTH: u64 = 1844674407370955160;
 
 // The number in a piece of text; `ok` is false, and the value 0, where there is none.
-#[derive(Drop)]
+#[derive(Clone, Copy)]
 pub struct Number {
     pub ok: bool,
     pub value: u32,

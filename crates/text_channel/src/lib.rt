@@ -15,7 +15,7 @@ use verdict::Verdict;
 pub const MAX_ANSWER: usize = 1024;
 
 // What was refused, if anything, and how many bytes say it.
-#[derive(Drop)]
+#[derive(Clone, Copy)]
 pub struct Delivery {
     pub refusal: Refusal,
     pub bytes: usize,

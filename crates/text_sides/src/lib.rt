@@ -11,7 +11,7 @@ use qasm::reader::read_qasm;
 use verdict::Verdict;
 
 // What becomes of a text. `read`: a circuit was read, of so many qubits, bits and gates' words, and the verdict is the judge's; otherwise it is the reader's, with the position of the fault.
-#[derive(Drop)]
+#[derive(Clone, Copy)]
 pub struct Side {
     pub read: bool,
     pub qubits: u32,

@@ -6,7 +6,7 @@ use scalar::Scalar;
 use verdict::Verdict;
 
 // The answer to a pair: the left circuit is refused, or the right one; the pair is passed over; or both channels are compared.
-#[derive(Drop)]
+#[derive(Clone, Copy)]
 pub enum Finding {
     LeftRefused(Verdict),
     RightRefused(Verdict),
@@ -15,7 +15,7 @@ pub enum Finding {
 }
 
 // With the pair's cost, which is 0 where a circuit is refused. Both scalars are zero unless an entry differs.
-#[derive(Drop)]
+#[derive(Clone, Copy)]
 pub struct Answer {
     pub finding: Finding,
     pub cost: u64,

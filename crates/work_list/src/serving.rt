@@ -20,7 +20,7 @@ use scalar::ZERO;
 use verdict::Verdict;
 
 // The verdict on a circuit and, where that accepts, its multiply terms.
-#[derive(Drop)]
+#[derive(Clone, Copy)]
 struct Weighed {
     pub verdict: Verdict,
     pub terms: u64,
