@@ -1,4 +1,6 @@
 // The bytes of an answer on two texts: a first line for scripts, then lines for people, put into lent room from its start on.
+#![tactic(auto)]
+
 ghost use Rattle.std.specs.Prelude.{◌++◌};
 ghost use Rattle.scalar.specs.Calls.{value};
 ghost use Rattle.text.specs.Decimal.{decimal};

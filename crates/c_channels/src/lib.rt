@@ -1,4 +1,6 @@
 // The calls of the C interface on channels.
+#![tactic(auto)]
+
 ghost use Rattle.std.specs.Prelude.{◌≡◌};
 ghost use Rattle.verdict.specs.Verdict.{verdict_number};
 ghost use Rattle.channel.specs.Compare.{compare_of};

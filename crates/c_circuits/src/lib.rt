@@ -1,4 +1,6 @@
 // The calls of the C interface on circuits.
+#![tactic(auto)]
+
 ghost use Rattle.std.specs.Prelude.{◌≡◌};
 ghost use Rattle.verdict.specs.Verdict.{verdict_number, verdict_index};
 ghost use Rattle.circuit.specs.Layers.{layered_verdict};

@@ -1,4 +1,6 @@
 // The calls of the C interface on circuits that are kept with their counts.
+#![tactic(auto)]
+
 ghost use Rattle.std.specs.Prelude.{◌≡◌};
 ghost use Rattle.verdict.specs.Verdict.{verdict_number, verdict_index};
 ghost use Rattle.gate.specs.Gate.{gate_at};

@@ -1,4 +1,6 @@
 // The calls of the C interface on matrices.
+#![tactic(auto)]
+
 ghost use Rattle.std.specs.Prelude.{◌≡◌};
 ghost use Rattle.matrix.specs.Phase.{phase_answer};
 ghost use Rattle.c_matrices.specs.Matrices.{found_number, phase_number};

@@ -1,4 +1,6 @@
 // The calls of the C interface on the plain-gate profile.
+#![tactic(auto)]
+
 ghost use Rattle.std.specs.Prelude.{◌≡◌};
 ghost use Rattle.verdict.specs.Verdict.{verdict_number, verdict_index};
 ghost use Rattle.plain.specs.Questions.{plain_verdict};

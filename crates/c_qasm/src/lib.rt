@@ -1,4 +1,6 @@
 // The calls of the C interface on texts of OpenQASM 2.
+#![tactic(auto)]
+
 ghost use Rattle.std.specs.Prelude.{◌≡◌};
 ghost use Rattle.verdict.specs.Verdict.{verdict_number, verdict_index};
 ghost use Rattle.qasm.specs.Reading.{read_of, filled};

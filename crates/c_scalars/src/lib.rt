@@ -1,4 +1,6 @@
 // The scalar calls of the C interface: a scalar is five words, n0 to n3 and e. One body for the calls that take no scalar, one, and two.
+#![tactic(auto)]
+
 ghost use Rattle.std.specs.Prelude.{◌≡◌};
 ghost use Rattle.verdict.specs.Verdict.{verdict_number};
 ghost use Rattle.scalar.specs.Calls.{value, integer_answer};

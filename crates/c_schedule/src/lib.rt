@@ -1,4 +1,6 @@
 // The call of the C interface on schedules.
+#![tactic(auto)]
+
 ghost use Rattle.std.specs.Prelude.{◌≡◌};
 ghost use Rattle.verdict.specs.Verdict.{verdict_number, verdict_index};
 ghost use Rattle.schedule.specs.Questions.{schedule_verdict};

@@ -1,4 +1,6 @@
 // The calls of the C interface on what texts say, and on the words of an answer.
+#![tactic(auto)]
+
 ghost use Rattle.std.specs.Prelude.{◌≡◌, ◌++◌};
 ghost use Rattle.verdict.specs.Verdict.{verdict_number};
 ghost use Rattle.text.specs.Page.{page, write};

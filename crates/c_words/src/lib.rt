@@ -1,4 +1,6 @@
 // What the calls of the C interface share: replies, scalars as five words, and a verdict's number with its index.
+#![tactic(auto)]
+
 ghost use Rattle.std.specs.Prelude.{◌≡◌};
 ghost use Rattle.scalar.specs.Calls.{value, scalar_of};
 ghost use Rattle.cells.specs.Cells.{cell_words};

@@ -1,4 +1,6 @@
 // The call of the C interface on lists of pairs.
+#![tactic(auto)]
+
 ghost use Rattle.std.specs.Prelude.{◌≡◌};
 ghost use Rattle.verdict.specs.Verdict.{verdict_number, verdict_index};
 ghost use Rattle.c_circuits.specs.Circuits.{limits_of};

@@ -1,4 +1,6 @@
 // A scalar as five words of a lent slice, n0 to n3 and e: read, written, and tested.
+#![tactic(auto)]
+
 ghost use Rattle.std.specs.Prelude.{◌≡◌, true, ◌+◌, ◌≤◌, length};
 ghost use Rattle.std.proofs.lemmas.List.Edits.{sets};
 ghost use Rattle.exact.specs.Exact.{list_of};

@@ -1,4 +1,6 @@
 // Channels as words: well-formedness, lookup by store, comparison.
+#![tactic(auto)]
+
 pub mod compare;
 pub mod layout;
 pub mod lookup;

@@ -1,3 +1,5 @@
 // The text of a circuit: decimal numbers, read as a program's input.
+#![tactic(auto)]
+
 pub mod input;
 mod numbers;

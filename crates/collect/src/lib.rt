@@ -1,4 +1,6 @@
 // The channel of a bank's surviving branches, written as words.
+#![tactic(auto)]
+
 pub mod bank;
 pub mod blocks;
 pub mod links;

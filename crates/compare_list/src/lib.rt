@@ -1,4 +1,6 @@
 // compare_list: pairs of circuits compared in list order, under one allowance of multiply terms.
+#![tactic(auto)]
+
 pub mod words;
 
 ghost use Rattle.std.specs.Prelude.{◌≡◌, length};

@@ -1,4 +1,6 @@
 // The effects of a channel's blocks, transposed and as the textbook has them. The sums are tried before the first word is written, so that a refusal leaves the result as it was.
+#![tactic(auto)]
+
 ghost use Rattle.std.specs.Prelude.{◌≡◌, true, cond, ℕ, ◌+◌, ◌*◌, ◌<◌, ◌≤◌, max, [], ◌∷◌, length, pos};
 ghost use Rattle.std.proofs.lemmas.List.Edits.{sets};
 ghost use Rattle.algebra.specs.Lists.{all_below};

@@ -1,4 +1,6 @@
 // Exact numbers: arithmetic on the four numerators, and the questions asked of them.
+#![tactic(auto)]
+
 pub mod numerators;
 pub mod ranges;
 

@@ -1,4 +1,6 @@
 // The archive for programs in C and Rust: each call under its name of include/foreituka.h, in one line. The bodies are the c_ crates'.
+#![tactic(auto)]
+
 pub mod answering;
 pub mod channels;
 pub mod circuits;

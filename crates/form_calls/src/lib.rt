@@ -1,4 +1,6 @@
 // A channel's words written in a form that keeps less of each block, and read from there. A refusal leaves the result as it was.
+#![tactic(auto)]
+
 ghost use Rattle.std.specs.Prelude.{◌≡◌, cond, ◌+◌, ◌*◌, ◌≤◌, leb};
 ghost use Rattle.verdict.specs.declared.Verdict.TheVariants.{NotHermitianAt, NotPlainAt};
 ghost use Rattle.channel.specs.Layout.{header_size};

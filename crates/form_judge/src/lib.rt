@@ -1,4 +1,6 @@
 // Words of a form: whether they are well formed, and which block along their chain another form does not restore.
+#![tactic(auto)]
+
 ghost use Rattle.std.specs.Prelude.{◌≡◌, true, not, ◌+◌, ◌<◌, ◌≤◌, length};
 ghost use Rattle.algebra.specs.Lists.{all_below};
 ghost use Rattle.exact.specs.Exact.{number_of, max_numerator};

@@ -1,4 +1,6 @@
 // The gates of a circuit: the questions asked of one gate, and the rows of its matrices.
+#![tactic(auto)]
+
 pub mod judge;
 pub mod rows;
 pub mod share;

@@ -1,4 +1,6 @@
 // Passes over many words: what all of them have in common is gathered without an early exit, so that a pass becomes vector code.
+#![tactic(auto)]
+
 ghost use Rattle.std.specs.Prelude.{◌≡◌, ◌+◌, ◌≤◌, length};
 ghost use Rattle.std.specs.Int.{w64};
 ghost use Rattle.std.proofs.Common.{of_z};

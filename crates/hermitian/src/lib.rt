@@ -1,5 +1,7 @@
 // Hermitian blocks of numerators over one power of two: their lower half from their upper, and all of them brought to their shared form in place.
 // A row whose number on the diagonal is zero is zero, and is passed over.
+#![tactic(auto)]
+
 ghost use Rattle.std.specs.Prelude.{◌≡◌, ℕ, ◌+◌, ◌*◌, ◌^◌, ◌<◌, ◌≤◌, length, get_or, pos};
 ghost use Rattle.std.proofs.lemmas.List.Edits.{sets};
 ghost use Rattle.std.specs.Int.Signed.{shr_z};

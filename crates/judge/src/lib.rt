@@ -1,2 +1,4 @@
 // The judge: circuits as quantum channels.
+#![tactic(auto)]
+
 pub mod call;

@@ -1,5 +1,7 @@
 // Judges pairs of texts. Standard input: how many pairs there are, then for each how many initial bits are given and these bits, the left text and the right one, each with
 // its length on a line before it and a newline behind it. Each answer goes to standard output, with a line of dashes behind it.
+#![tactic(auto)]
+
 use circuit::limits::Limits;
 use judge_texts::judge_texts;
 use libc::{STDIN_FILENO, STDOUT_FILENO};

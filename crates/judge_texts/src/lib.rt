@@ -1,4 +1,6 @@
 // Two texts of OpenQASM 2 in, one answer out: whether their circuits do the same, from the first byte read to the last byte answered.
+#![tactic(auto)]
+
 ghost use Rattle.std.specs.Prelude.{◌≡◌};
 ghost use Rattle.qasm.specs.Reading.{read_of, filled};
 ghost use Rattle.text.specs.Page.{page, write};

@@ -1,4 +1,6 @@
 // A kept circuit judged by its counts, and its gates copied out.
+#![tactic(auto)]
+
 ghost use Rattle.std.specs.Prelude.{◌≡◌, true, ◌+◌, ◌≤◌, length};
 ghost use Rattle.std.proofs.lemmas.List.Edits.{sets};
 ghost use Rattle.store.specs.Store.{max_word};

@@ -1,4 +1,6 @@
 // Lists the channel of a circuit: its numbers come on standard input, and the lines go to standard output.
+#![tactic(auto)]
+
 use circuit_text::input::MAX_BYTES;
 use libc::{STDIN_FILENO, STDOUT_FILENO};
 use listing::{MAX_LISTING, list};

@@ -1,4 +1,6 @@
 // The job of the program that lists a channel: the text of a circuit in, the bytes of its answer out.
+#![tactic(auto)]
+
 mod blocks;
 pub mod lines;
 mod spaced;

@@ -1,4 +1,6 @@
 // Matrices as words.
+#![tactic(auto)]
+
 use verdict::Verdict;
 
 pub mod global_phase;

@@ -1,4 +1,6 @@
 // Overlaps of a Kraus matrix's entries, added to a block of numerators over one power of two: integer products and sums, with no lowest form for any entry.
+#![tactic(auto)]
+
 ghost use Rattle.std.specs.Prelude.{◌≡◌, ◌+◌, ◌*◌, ◌≤◌, length};
 ghost use Rattle.std.proofs.lemmas.List.Edits.{sets};
 ghost use Rattle.exact.specs.Exact.{number_of, list_of};

@@ -1,4 +1,6 @@
 // Packed channels: half of each block. Blocks are Hermitian, so the entries (r, c) with r ≤ c decide them.
+#![tactic(auto)]
+
 ghost use Rattle.std.specs.Prelude.{◌≡◌};
 ghost use Rattle.packed.specs.Packed.{pack_verdict, pack_result, unpack_verdict, unpack_result};
 

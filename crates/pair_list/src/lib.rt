@@ -1,4 +1,6 @@
 // Where the pairs of a list, and the circuits of a pair, lie in words and bytes.
+#![tactic(auto)]
+
 ghost use Rattle.std.specs.Prelude.{◌≡◌, ◌+◌, ◌≤◌, length};
 ghost use Rattle.pair_list.specs.Pairs.{circuit_head, pair_head, bits_at, gate_words_at, pair_words, pair_bytes, circuit_at, framed, framing};
 ghost use Rattle.pair_list.specs.Inner.Spots.{Framed, Placed, Holds};

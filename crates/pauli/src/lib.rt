@@ -1,2 +1,4 @@
 // The judge of Pauli programs: programs as quantum channels.
+#![tactic(auto)]
+
 pub mod call;

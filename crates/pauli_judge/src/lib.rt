@@ -1,4 +1,6 @@
 // The questions of Pauli programs, in order.
+#![tactic(auto)]
+
 pub mod footprint;
 pub mod questions;
 pub mod sizes;

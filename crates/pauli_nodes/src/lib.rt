@@ -1,1 +1,2 @@
 // Nodes and operations of Pauli programs: definitions and laws; nothing here runs.
+#![tactic(auto)]

@@ -1,4 +1,6 @@
 // The words of Pauli programs: their nodes and operations judged, the axes by mask forms of the nodes.
+#![tactic(auto)]
+
 pub mod masks;
 pub mod nodes;
 pub mod operations;

@@ -1,4 +1,6 @@
 // The plain-gate profile: circuits of a rack that has no t gate and stores no √2 parts.
+#![tactic(auto)]
+
 ghost use Rattle.std.specs.Prelude.{◌≡◌};
 ghost use Rattle.verdict.specs.Questions.{first_no};
 ghost use Rattle.gate.specs.Inner.Words.{gate_of};

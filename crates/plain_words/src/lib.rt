@@ -1,4 +1,6 @@
 // Channels whose blocks have no √2 part, with n0 and n2 alone for each entry.
+#![tactic(auto)]
+
 ghost use Rattle.std.specs.Prelude.{◌≡◌};
 ghost use Rattle.plain_words.specs.Plain.{plain_write_verdict, plain_write_result, plain_read_verdict, plain_read_result};
 

@@ -1,4 +1,6 @@
 // A product, and a sum of two products. No verdicts: a caller shows that all fits.
+#![tactic(auto)]
+
 ghost use Rattle.std.specs.Prelude.{◌≡◌};
 ghost use Rattle.exact.specs.Exact.{exact, narrow_exponent};
 ghost use Rattle.exact.specs.Inner.Sizes.{Coords};

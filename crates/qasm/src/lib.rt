@@ -1,4 +1,6 @@
 // OpenQASM 2: a circuit read from the text that laboratories exchange, and written as one.
+#![tactic(auto)]
+
 pub mod bytes;
 mod names;
 mod pieces;

@@ -1,4 +1,6 @@
 // A circuit written as a text of OpenQASM 2.
+#![tactic(auto)]
+
 pub mod printer;
 mod room;
 

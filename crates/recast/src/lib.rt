@@ -1,4 +1,6 @@
 // Words taken from one form to another: the records in their order, with next indices to match, and of each block what the form keeps. Each block is read once.
+#![tactic(auto)]
+
 ghost use Rattle.std.specs.Prelude.{◌≡◌, cond, [], ◌∷◌, ℕ, ◌+◌, ◌*◌, ◌-◌, ◌<◌, ◌≤◌, length};
 ghost use Rattle.std.proofs.lemmas.List.Edits.{sets};
 ghost use Rattle.algebra.specs.Quadratic.{conjugate};

@@ -1,4 +1,6 @@
 // Replays of recorded answers: a text of numbers is read, the calls are made, their answers are held against the record, and agreement is counted.
+#![tactic(auto)]
+
 pub mod answers;
 pub mod calls;
 pub mod count;

@@ -1,5 +1,7 @@
 // Replays the recorded answers of pauli_channel. The text: how many cases there are, then the cases; a case is its kind, its source (0 the Rust, 1 document 02), what the call is
 // given, and what it answered.
+#![tactic(auto)]
+
 mod programs;
 
 ghost use Rattle.std.specs.Prelude.{◌≡◌};

@@ -1,5 +1,7 @@
 // Replays the recorded answers of the calls that read and write OpenQASM 2. The text: how many cases there are, then the cases; a case is its kind, its source
 // (1 document 02), what the call is given, and what it answered.
+#![tactic(auto)]
+
 mod texts;
 
 ghost use Rattle.std.specs.Prelude.{◌≡◌};

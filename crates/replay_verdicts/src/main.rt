@@ -1,5 +1,7 @@
 // Replays the recorded answers of calls that judge without running: edits of kept circuits with the verdict on them, and judge_pauli. The text: how many cases there are, then the
 // cases; a case is its kind, its source (0 the Rust, 1 document 02), what the calls are given, and what they answered.
+#![tactic(auto)]
+
 mod edits;
 mod programs;
 mod verdicts;

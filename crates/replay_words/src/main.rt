@@ -2,6 +2,8 @@
 // judge_schedule.
 // The text: how many cases there are, then the cases; a case is its kind, its source (0 the Rust, 1 document 01), what the calls are given, and what they
 // answered.
+#![tactic(auto)]
+
 mod channels;
 mod numbers;
 mod schedules;

@@ -1,4 +1,6 @@
 // Exact scalars and their calls. Each call answers with a scalar and a verdict; a refusal hands back zero.
+#![tactic(auto)]
+
 ghost use Rattle.std.specs.Prelude.{◌≡◌, true, ◌≤◌};
 ghost use Rattle.exact.specs.Exact.{exact, imaginary, inv_sqrt_two, well_formed};
 ghost use Rattle.scalar.specs.Calls.{value, accepted_as, accepted, refused_with, fitting, integer_answer, omega_answer, neg_answer, conj_answer, half_answer, add_answer, mul_answer};

@@ -1,4 +1,6 @@
 // A scheduler's work judged: a gate list, a reordered one, and a table that gives each new gate its old position.
+#![tactic(auto)]
+
 ghost use Rattle.std.specs.Prelude.{◌≡◌, not, ℕ, ◌/◌, ◌≤◌, ◌<◌, length, get_or};
 ghost use Rattle.algebra.specs.Lists.{all_below};
 ghost use Rattle.verdict.specs.Questions.{first_no};

@@ -1,4 +1,6 @@
 // Where the gates of a text of OpenQASM 2 stand.
+#![tactic(auto)]
+
 ghost use Rattle.std.specs.Prelude.{◌≡◌, min};
 ghost use Rattle.statements.specs.Statements.{declares, gate_count, gate_position};
 

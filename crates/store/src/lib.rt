@@ -1,4 +1,6 @@
 // Stores: the values of the classical bits. As bytes, one a bit; as a number, in which bit j weighs 2^j; as two words of 32 bits, the low one first.
+#![tactic(auto)]
+
 ghost use Rattle.std.specs.Prelude.{◌≡◌, true, ◌+◌, ◌≤◌, ◌^◌, ltb, length, get_or, take, drop, pos};
 ghost use Rattle.algebra.specs.Words.{from_bits, up_to};
 ghost use Rattle.store.specs.Store.{store_fits, before, max_word, store_from};

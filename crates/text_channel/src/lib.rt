@@ -1,4 +1,6 @@
 // The channel of the circuit in a text of OpenQASM 2, or why there is none, in words.
+#![tactic(auto)]
+
 pub mod refusals;
 
 ghost use Rattle.std.specs.Prelude.{◌≡◌};

@@ -1,4 +1,6 @@
 // A text of OpenQASM 2: its circuit read, judged and run.
+#![tactic(auto)]
+
 ghost use Rattle.std.specs.Prelude.{◌≡◌, ◌≤◌, min, length};
 ghost use Rattle.std.proofs.lemmas.List.Edits.{sets};
 ghost use Rattle.judge.specs.Call.{verdict_of, result_after, work_after};

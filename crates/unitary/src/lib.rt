@@ -1,4 +1,6 @@
 // circuit_unitary: its questions, then the circuit run from the identity with no classical bits.
+#![tactic(auto)]
+
 ghost use Rattle.std.specs.Prelude.{◌≡◌, ℕ, ◌+◌, ◌≤◌, length, get_or, pos};
 ghost use Rattle.algebra.specs.Words.{fill_words};
 ghost use Rattle.gate.specs.Gate.{gates_of};

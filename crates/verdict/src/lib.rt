@@ -1,4 +1,6 @@
 // What a call answers: accepted, or a refusal with document 01's number and, where it names one, an index.
+#![tactic(auto)]
+
 ghost use Rattle.std.specs.Prelude.{◌≡◌};
 ghost use Rattle.verdict.specs.Verdict.{verdict_number, verdict_index, accepted};
 

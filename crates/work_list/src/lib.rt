@@ -1,4 +1,6 @@
 // Pairs of circuits judged in list order under one allowance of multiply terms: the answer to one pair.
+#![tactic(auto)]
+
 pub mod serving;
 
 use channel::compare::Found;

@@ -1,0 +1,12 @@
+-- `numbers::put_denominator` meets its contract.
+use Rattle.text.proofs.Put.{text, then}
+use Rattle.answers.proofs.Sums.{denominator-small, denominator_large}
+use Rattle.answers.proofs.numbers.put_denominator.Goals as goal
+
+pub returns-then-e-le-MAX_EXPONENT : goal.returns-then-e-le-MAX_EXPONENT
+returns-then-e-le-MAX_EXPONENT c =
+    text (denominator-small c.args.e c.if-e-le-MAX_EXPONENT.true) (then c.put-a.ensures c.put_decimal.ensures)
+
+pub returns : goal.returns
+returns c =
+    text (denominator_large c.args.e c.if-e-le-MAX_EXPONENT.false) (then c.put_all-b.ensures c.put_decimal-2.ensures)

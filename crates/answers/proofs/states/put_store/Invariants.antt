@@ -1,0 +1,11 @@
+-- `states::put_store` meets its contract.
+use Rattle.text.specs.Page.{page}
+use Rattle.text.proofs.Put.{text, Left, left-all, left_less, left-none, left_is}
+use Rattle.answers.proofs.Bits.{bit_bytes, bits_none, bits-some, bits-more, bits-end}
+use Rattle.answers.proofs.states.put_store.Given as goal
+
+abbrev pub invariant-loop-left : goal.invariant-loop-left
+invariant-loop-left l = Left (page l.initial.out l.at) (bit_bytes l.m l.store) (page l.out l.p) (bit_bytes l.left l.rest)
+
+abbrev pub decreases-loop-left : goal.decreases-loop-left
+decreases-loop-left l = l.left

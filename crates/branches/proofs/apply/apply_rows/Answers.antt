@@ -1,0 +1,167 @@
+-- `apply_rows` meets its contract.
+use mathlib.Core.Path.{◌≡◌, sym, ap, ◌∙◌, subst}
+use Prim.Native.Nat.{ℕ, ◌+◌, ◌*◌, ◌-◌, ◌≤◌, ◌<◌}
+use native.Mathlib.Nat.{mul-le-mul, le_refl}
+use native.Mathlib.Omega.{arith}
+use lib.ListN.{length}
+use Rattle.branches.specs.Inner.Bank.{row_size}
+use Rattle.exact.specs.Exact.{narrow_exponent}
+use Rattle.algebra.proofs.Blocks.{done, long, block_in_lem}
+use Rattle.exact.specs.Inner.Sizes.{Coords}
+use Rattle.scalar.specs.Calls.{value}
+use Rattle.cells.specs.Cells.{cell_at, cell_size}
+use Rattle.cells.proofs.Cell.{cell_same, exponent_same}
+use Rattle.branches.proofs.Products.{Applied, none_applied, own_same, other-same, scaling, applied_more}
+use Rattle.branches.proofs.apply.apply_rows.Lts as lts
+use Rattle.branches.proofs.apply.apply_rows.Reads as reads
+use Rattle.branches.proofs.apply.apply_rows.Tie as tie
+use Rattle.branches.proofs.apply.apply_rows.Goals as goal
+
+abbrev After-partner_row-s : Type 0
+After-partner_row-s = lts.After-partner_row tie.the-claims reads.Pre reads.Post goal.the-invariant-loop-r goal.the-decreases-loop-r
+
+abbrev In-loop-r : Type 0
+In-loop-r = lts.In-loop tie.the-claims reads.Pre reads.Post goal.the-invariant-loop-r goal.the-decreases-loop-r
+
+abbrev Start : Type 0
+Start = lts.Start tie.the-claims reads.Pre reads.Post goal.the-invariant-loop-r goal.the-decreases-loop-r
+
+abbrev After-read_cell-y : Type 0
+After-read_cell-y = lts.After-read_cell2 tie.the-claims reads.Pre reads.Post goal.the-invariant-loop-r goal.the-decreases-loop-r
+
+abbrev After-read_cell-x : Type 0
+After-read_cell-x = lts.After-read_cell tie.the-claims reads.Pre reads.Post goal.the-invariant-loop-r goal.the-decreases-loop-r
+
+pub loop-r-init : goal.loop-r-init
+loop-r-init c = let a = c.args in none_applied a.work-1.now a.m a.op a.old a.new a.d
+
+-- a row, and its partner
+module _ (u : After-partner_row-s) where
+  abbrev t : In-loop-r
+  t = u.before
+
+  abbrev s : Start
+  s = t.before.before
+
+  abbrev r : ℕ
+  r = t.loop-r.r
+
+  taken : r < s.args.d
+  taken = t.loop-r-test.true
+
+  row_in : (k : ℕ) → k < s.args.d → s.args.old + k * s.args.d * cell_size + s.args.d * cell_size ≤ length s.args.work.now
+  row_in k h = omega (arith, s.requires.old_room, block_in_lem h s.args.d)
+
+  abbrev other : ℕ
+  other = u.partner_row-s.result
+
+  other_lt : other < s.args.d
+  other_lt = subst (λ (k : ℕ). k < s.args.d) (sym u.partner_row-s.ensures) (s.requires.below r taken)
+
+  new_in : s.args.new + r * s.args.d * cell_size + s.args.d * cell_size ≤ length s.args.work.now
+  new_in = omega (arith, s.requires.new_room, block_in_lem taken s.args.d)
+
+  entries_in : s.args.op + r * row_size + row_size ≤ length s.args.work.now
+  entries_in = omega (arith, s.requires.op_room, taken)
+
+  inv : Applied s.args.work.now s.args.m s.args.op s.args.old s.args.new s.args.d t.loop-r.work r
+  inv = t.loop-r.invariant
+
+  same_size : length t.loop-r.work ≡ length s.args.work.now
+  same_size = long inv
+
+-- both are below 32, the row as it is in the matrix and m as the partner of row 0
+pub partner_row-s-requires : goal.partner_row-s-requires
+partner_row-s-requires c =
+    let p = c.requires in
+    let h = c.loop-r-test.true in
+    let d = p.dim in
+    let first = p.below 0 (omega (arith, h)) in
+    (omega (arith, h, d), omega (arith, first, d))
+
+pub overflow_mul-a : goal.overflow_mul-a
+overflow_mul-a c = omega (arith, entries_in c)
+
+pub overflow_add-a : goal.overflow_add-a
+overflow_add-a c = omega (arith, entries_in c)
+
+pub overflow_add-b : goal.overflow_add-b
+overflow_add-b c = omega (arith, entries_in c)
+
+pub read_cell-x-requires : goal.read_cell-x-requires
+read_cell-x-requires c = let t = c.before in (omega (arith, entries_in t, same_size t), exponent_same (own_same (s t).requires (taken t) (inv t)) ∙ ((s t).requires.own (r t) (taken t)).exponent)
+
+pub read_cell-y-requires : goal.read_cell-y-requires
+read_cell-y-requires c =
+    let t = c.before.before.before in
+    (omega (arith, entries_in t, same_size t), exponent_same (other-same (s t).requires (taken t) (inv t)) ∙ ((s t).requires.other (r t) (taken t)).exponent)
+
+pub overflow_mul-p : goal.overflow_mul-p
+overflow_mul-p c = let t = c.before.before.before.before in omega (arith, row_in t (r t) (taken t))
+
+pub overflow_mul-p-in-loop-r : goal.overflow_mul-p-in-loop-r
+overflow_mul-p-in-loop-r c = let t = c.before.before.before.before in omega (arith, row_in t (r t) (taken t))
+
+pub overflow_add-p : goal.overflow_add-p
+overflow_add-p c = let t = c.before.before.before.before in omega (arith, row_in t (r t) (taken t))
+
+pub overflow_mul-q : goal.overflow_mul-q
+overflow_mul-q c = let t = c.before.before.before.before in omega (arith, row_in t (other t) (other_lt t))
+
+pub overflow_mul-q-in-loop-r : goal.overflow_mul-q-in-loop-r
+overflow_mul-q-in-loop-r c = let t = c.before.before.before.before in omega (arith, row_in t (other t) (other_lt t))
+
+pub overflow_add-q : goal.overflow_add-q
+overflow_add-q c = let t = c.before.before.before.before in omega (arith, row_in t (other t) (other_lt t))
+
+pub overflow_mul-to : goal.overflow_mul-to
+overflow_mul-to c = omega (arith, new_in c.before.before.before.before)
+
+pub overflow_mul-to-in-loop-r : goal.overflow_mul-to-in-loop-r
+overflow_mul-to-in-loop-r c = omega (arith, new_in c.before.before.before.before)
+
+pub overflow_add-to : goal.overflow_add-to
+overflow_add-to c = omega (arith, new_in c.before.before.before.before)
+
+-- the two entries that were read
+module _ (y : After-read_cell-y) where
+  abbrev x : After-read_cell-x
+  x = y.before.before
+
+  abbrev at : After-partner_row-s
+  at = x.before.before
+
+  own_is : value x.read_cell-x.result ≡ cell_at (s at).args.work.now ((s at).args.op + r at * row_size)
+  own_is = ap value x.read_cell-x.ensures ∙ cell_same (own_same (s at).requires (taken at) (inv at))
+
+  partner_is : value y.read_cell-y.result ≡ cell_at (s at).args.work.now ((s at).args.op + r at * row_size + cell_size)
+  partner_is = ap value y.read_cell-y.ensures ∙ cell_same (other-same (s at).requires (taken at) (inv at))
+
+pub combine_rows-requires : goal.combine_rows-requires
+combine_rows-requires c =
+    let y = c.before in
+    let u = at y in
+    let p = (s u).requires in
+    let h = taken u in (
+      scaling p h (inv u) (r u) h (subst (Coords 1 narrow_exponent) (sym (own_is y)) (p.own (r u) h).coords),
+      scaling p h (inv u) (other u) (other_lt u) (subst (Coords 1 narrow_exponent) (sym (partner_is y)) (p.other (r u) h).coords),
+    )
+
+pub overflow_add-r : goal.overflow_add-r
+overflow_add-r c = omega arith
+
+pub loop-r-smaller : goal.loop-r-smaller
+loop-r-smaller c = omega arith
+
+pub loop-r-preserved : goal.loop-r-preserved
+loop-r-preserved c =
+    let f = c.before in
+    let y = f.before.before in
+    let u = at y in
+    applied_more (s u).requires (taken u) (inv u) (own_is y) (partner_is y) u.partner_row-s.ensures f.combine_rows.ensures
+
+pub shape_of-work : goal.shape_of-work
+shape_of-work c = long c.loop-r.invariant
+
+pub returns : goal.returns
+returns c = done c.loop-r.invariant (mul-le-mul c.loop-r-test.false (le_refl c.args.d))

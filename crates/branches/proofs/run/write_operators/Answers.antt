@@ -1,0 +1,55 @@
+-- `write_operators` meets its contract.
+use mathlib.Core.Path.{◌≡◌, sym, ◌∙◌}
+use native.Mathlib.Omega.{arith}
+use lib.Pow.{pow_mono}
+use lib.ListN.{length}
+use Rattle.gate.specs.Operators.{operators}
+use Rattle.gate.specs.Inner.Words.{gate_of}
+use Rattle.branches.proofs.Gates.{ready_second, splits-none, splits-some, one-operator, more-operators}
+use Rattle.branches.proofs.run.write_operators.Lts as lts
+use Rattle.branches.proofs.run.write_operators.Reads as reads
+use Rattle.branches.proofs.run.write_operators.Tie as tie
+use Rattle.branches.proofs.run.write_operators.Goals as goal
+
+abbrev Else-splits-eq0 : Type 0
+Else-splits-eq0 = lts.Else1 tie.the-claims reads.Pre reads.Post
+
+pub write_rows-requires : goal.write_rows-requires
+write_rows-requires c = let p = c.requires in (p.0, (omega (arith, p.1.wide, p.1.room), (p.1.few, (p.1.dim, p.1.ready))))
+
+pub returns-then-splits-eq0 : goal.returns-then-splits-eq0
+returns-then-splits-eq0 c =
+    let p = c.before in
+    let w = p.before.before in
+    let s = w.before.before in
+    let g = gate_of s.args.g in
+    let e = splits-none g (sym p.splits.ensures ∙ c.if-splits-eq0.true) in
+    (sym e, one-operator s.args.work.now s.args.slots s.args.n s.args.d g w.write_rows.ensures e)
+
+pub branch_size-requires : goal.branch_size-requires
+branch_size-requires c = let s = c.before.before.before.before.before in omega (arith, s.requires.1.dim, pow_mono {i = s.args.n} {j = 5} s.requires.1.few)
+
+pub overflow_add-second : goal.overflow_add-second
+overflow_add-second c =
+    let s = c.before.before.before.before.before.before in
+    omega (arith, s.requires.1.room, c.branch_size.ensures)
+
+-- the gate has a second operator
+second : (c : Else-splits-eq0) → length (operators (gate_of c.args.g)) ≡ 2
+second c = let g = gate_of c.args.g in splits-some g (λ e. c.if-splits-eq0.false (c.splits.ensures ∙ e))
+
+pub write_rows-requires-2 : goal.write_rows-requires-2
+write_rows-requires-2 c =
+    let e = c.before.before in
+    let w = e.before.before.before in
+    let p = w.requires in
+    (p.0, (omega (arith, p.1.wide, p.1.room, c.branch_size.ensures, w.write_rows.auto.0), (p.1.few, (p.1.dim, ready_second p.1.ready (second e)))))
+
+pub returns : goal.returns
+returns c =
+    let q = c.before in
+    let b = q.before.before in
+    let e = b.before in
+    let w = e.before.before.before in
+    let s = w.before.before in
+    (sym (second e), more-operators s.args.work.now s.args.slots s.args.n s.args.d (gate_of s.args.g) w.write_rows.ensures b.branch_size.ensures q.write_rows-2.ensures (second e))

@@ -1,0 +1,8 @@
+-- `classical_blocks` meets its contract.
+use mathlib.Core.Path.{ap, ◌∙◌}
+use Rattle.verdict.specs.Verdict.{verdict_number}
+use Rattle.c_channels.proofs.classical_blocks.Goals as goal
+
+pub returns : goal.returns
+returns c =
+    let b = c.classical_blocks-v in (c.number.ensures ∙ ap verdict_number b.ensures.0, b.ensures.1)

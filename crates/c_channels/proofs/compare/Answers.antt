@@ -1,0 +1,14 @@
+-- `compare` meets its contract.
+use mathlib.Core.Path.{ap, ◌∙◌}
+use Rattle.c_channels.specs.Channels.{finding_number, place_words, two_scalars}
+use Rattle.c_channels.proofs.compare.Goals as goal
+
+pub returns : goal.returns
+returns c =
+    let e = c.compare-d.ensures in (
+      c.finding_number.ensures ∙ ap (λ d. finding_number d.found) e,
+      (
+        c.place_words.ensures ∙ ap (λ d. place_words d.found) e,
+        c.two_scalars.ensures ∙ ap (λ d. two_scalars d.left d.right) e,
+      ),
+    )

@@ -1,0 +1,11 @@
+-- `layered_channel` meets its contract.
+use Rattle.judge.specs.Layered.{layered_verdict_of, layered_result, layered_work}
+use Rattle.c_circuits.proofs.Reported.{reported}
+use Rattle.c_circuits.proofs.layered_channel.Goals as goal
+
+pub returns : goal.returns
+returns c =
+    let a = c.args in
+    reported (λ l. layered_verdict_of a.qubits a.bits a.store.now l a.gates.now a.ends.now a.result.now a.work-1.now)
+    (λ l. layered_result a.qubits a.bits a.store.now l a.gates.now a.ends.now a.result.now a.work-1.now)
+    (λ l. layered_work a.qubits a.bits a.store.now l a.gates.now a.ends.now a.result.now a.work-1.now) c.layered_channel-v.ensures c.report.ensures c.read_limits-l.ensures

@@ -1,0 +1,10 @@
+-- `layered_verdict` meets its contract.
+use Rattle.circuit.specs.Layers.{layered_verdict}
+use Rattle.c_circuits.proofs.Reported.{judged}
+use Rattle.c_circuits.proofs.layered_verdict.Goals as goal
+
+pub returns : goal.returns
+returns c =
+    let a = c.args in
+    judged (λ l. layered_verdict a.qubits a.bits a.store.now l a.gates.now a.ends.now a.result_words a.work-words) c.judge_layered_channel-v.ensures c.report.ensures
+    c.read_limits-l.ensures

@@ -1,0 +1,9 @@
+-- `copy_gates` meets its contract.
+use mathlib.Core.Path.{ap, ◌∙◌}
+use Rattle.verdict.specs.Verdict.{verdict_number}
+use Rattle.c_kept.proofs.copy_gates.Goals as goal
+
+pub returns : goal.returns
+returns c =
+    let (e, words) = c.copy_gates-v.ensures in
+    (c.number.ensures ∙ ap verdict_number e, words)

@@ -1,0 +1,9 @@
+-- `start` meets its contract.
+use mathlib.Core.Path.{ap, ◌∙◌}
+use Rattle.verdict.specs.Verdict.{verdict_number}
+use Rattle.c_kept.proofs.start.Goals as goal
+
+pub returns : goal.returns
+returns c =
+    let (e, words) = c.start-v.ensures in
+    (c.number.ensures ∙ ap verdict_number e, words)

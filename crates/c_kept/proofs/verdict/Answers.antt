@@ -1,0 +1,12 @@
+-- `verdict` meets its contract.
+use mathlib.Core.Path.{ap, ◌∙◌}
+use Rattle.verdict.specs.Verdict.{verdict_number}
+use Rattle.circuit.specs.declared.limits.Limits.{Limits}
+use Rattle.kept_verdict.specs.Questions.{kept_verdict}
+use Rattle.c_kept.proofs.verdict.Goals as goal
+
+pub returns : goal.returns
+returns c =
+    let a = c.args in
+    c.number.ensures
+    ∙ ap verdict_number (c.judge_kept-v.ensures ∙ ap (λ (l : Limits). kept_verdict a.words.now a.store.now l a.result_words a.work-words) c.read_limits-l.ensures)

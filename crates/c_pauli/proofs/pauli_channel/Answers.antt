@@ -1,0 +1,11 @@
+-- `pauli_channel` meets its contract.
+use Rattle.pauli.specs.Call.{verdict_of, result_after, work_after}
+use Rattle.c_circuits.proofs.Reported.{reported}
+use Rattle.c_pauli.proofs.pauli_channel.Goals as goal
+
+pub returns : goal.returns
+returns c =
+    let a = c.args in
+    reported (λ l. verdict_of a.qubits a.bits a.store.now l a.nodes.now a.operations.now a.result.now a.work-1.now)
+    (λ l. result_after a.qubits a.bits a.store.now l a.nodes.now a.operations.now a.result.now a.work-1.now)
+    (λ l. work_after a.qubits a.bits a.store.now l a.nodes.now a.operations.now a.result.now a.work-1.now) c.pauli_channel-v.ensures c.report.ensures c.read_limits-l.ensures

@@ -1,0 +1,11 @@
+-- `write_binary` meets its contract.
+use mathlib.Core.Path.{ap₂, ◌∙◌}
+use Rattle.scalar.specs.Calls.{value}
+use Rattle.c_scalars.specs.Calls.{binary_answer}
+use Rattle.c_scalars.proofs.Answered.{answered}
+use Rattle.c_scalars.proofs.write_binary.Goals as goal
+
+pub returns : goal.returns
+returns c =
+    let f = c.args.f in
+    answered c.answer.ensures (c.binary_answer.ensures ∙ ap₂ (λ x y. binary_answer f (value x) (value y)) c.read_operand.ensures c.read_operand-2.ensures)

@@ -1,0 +1,11 @@
+-- `write_integer` meets its contract.
+use mathlib.Core.Path.{ap, ◌∙◌}
+use mir.Facts.{to_z-of_z}
+use Rattle.scalar.specs.Calls.{integer_answer}
+use Rattle.c_scalars.proofs.Answered.{answered}
+use Rattle.c_scalars.proofs.write_integer.Goals as goal
+
+pub returns : goal.returns
+returns c =
+    let n = to_z-of_z c.ranges.n in
+    answered c.answer.ensures (c.integer.ensures ∙ ap integer_answer n)

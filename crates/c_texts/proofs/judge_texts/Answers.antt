@@ -1,0 +1,16 @@
+-- `judge_texts` meets its contract.
+use mathlib.Core.Path.{ap, ◌∙◌}
+use Rattle.c_channels.specs.Channels.{two_scalars}
+use Rattle.c_texts.specs.Answers.{answer_number, answer_numbers}
+use Rattle.c_texts.proofs.Under.{under}
+use Rattle.c_texts.proofs.judge_texts.Goals as goal
+
+pub returns : goal.returns
+returns c =
+    let a = c.args in
+    let (answer, (left, (right, (text, buffers)))) =
+    under a.left.now a.right.now a.store.now a.gates-1.now a.first-1.now a.second-1.now a.work-1.now a.answer-1.now c.read_limits-l.ensures
+    c.judge_texts-j.result _ _ _ _ _ c.judge_texts-j.ensures in (
+      c.answer_number.ensures ∙ ap answer_number answer,
+      (c.answer_numbers.ensures ∙ ap answer_numbers answer, (c.two_scalars.ensures ∙ (λ i. two_scalars (left i) (right i)), (text, buffers))),
+    )

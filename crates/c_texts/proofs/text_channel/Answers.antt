@@ -1,0 +1,31 @@
+-- `text_channel` meets its contract.
+use mathlib.Core.Path.{ap, ◌∙◌}
+use Rattle.verdict.specs.Verdict.{verdict_number}
+use Rattle.circuit.specs.declared.limits.Limits.{Limits}
+use Rattle.text.specs.Page.{page, write}
+use Rattle.answer_lines.specs.declared.Refusal.{Refusal}
+use Rattle.text_channel.specs.Only.{only_refusal, only_text, only_gates, only_result, only_work}
+use Rattle.c_texts.specs.Answers.{refusal_numbers}
+use Rattle.c_texts.proofs.text_channel.Goals as goal
+
+pub returns : goal.returns
+returns c =
+    let a = c.args in
+    let l = c.read_limits-l.ensures in
+    let (refusal, (text, (gates, (result, work)))) = c.text_channel-d.ensures in
+    let is = refusal ∙ ap (λ (x : Limits). only_refusal a.text.now a.store.now x a.gates-1.now a.result.now a.work-1.now a.answer-1.now) l in (
+      c.number.ensures ∙ ap (λ (x : Refusal). verdict_number x.verdict) is,
+      (
+        c.refusal_numbers.ensures ∙ ap refusal_numbers is,
+        (
+          text ∙ ap (λ (x : Limits). write (page a.answer-1.now 0) (only_text a.text.now a.store.now x a.gates-1.now a.result.now a.work-1.now a.answer-1.now)) l,
+          (
+            gates ∙ ap (λ (x : Limits). only_gates a.text.now a.store.now x a.gates-1.now a.result.now a.work-1.now a.answer-1.now) l,
+            (
+              result ∙ ap (λ (x : Limits). only_result a.text.now a.store.now x a.gates-1.now a.result.now a.work-1.now a.answer-1.now) l,
+              work ∙ ap (λ (x : Limits). only_work a.text.now a.store.now x a.gates-1.now a.result.now a.work-1.now a.answer-1.now) l,
+            ),
+          ),
+        ),
+      ),
+    )

@@ -1,0 +1,163 @@
+-- `compare::compare_chains` meets its contract.
+use mathlib.Core.Path.{◌≡◌, sym, ap, ◌∙◌, subst}
+use mathlib.Core.Bool.{true}
+use Prim.Native.Nat.{ℕ, ◌+◌, ◌*◌, ◌≤◌}
+use lib.IntN.{ℤ, nat_abs}
+use borrow.Author.Tests.{not-true, not-false}
+use Rattle.channel.specs.declared.compare.Difference.{Difference}
+use Rattle.channel.specs.declared.compare.Turn.{Turn}
+use Rattle.channel.specs.Layout.{word, count_at}
+use Rattle.channel.specs.WellFormed.{well_formed}
+use Rattle.channel.specs.Inner.Shapes.{Onward}
+use Rattle.channel.specs.Compare.{is_same, scan}
+use Rattle.channel.specs.Inner.Walk.{both_at, turn_of, cursor_at, advance}
+use Rattle.channel.proofs.Judging.{formed}
+use Rattle.channel.proofs.Chain.{onward_begin, first-index, header_long}
+use Rattle.channel.proofs.Merging.{entries_held, Walking, walking_begin, left-some, right-some, walking_stop, walking_on, walking_less, walking_done}
+use mathlib.Core.List.{List}
+use Rattle.channel.proofs.compare.compare_chains.Lts as lts
+use Rattle.channel.proofs.compare.compare_chains.Reads as reads
+use Rattle.channel.proofs.compare.compare_chains.Tie as tie
+use Rattle.channel.proofs.compare.compare_chains.Goals as goal
+
+abbrev In-loop-a : Type 0
+In-loop-a = lts.Then1 tie.the-claims reads.Pre reads.Post goal.the-invariant-loop-a goal.the-decreases-loop-a
+
+abbrev At-loop-a : Type 0
+At-loop-a = lts.At-loop tie.the-claims reads.Pre reads.Post goal.the-invariant-loop-a goal.the-decreases-loop-a
+
+abbrev Start : Type 0
+Start = lts.Start tie.the-claims reads.Pre reads.Post goal.the-invariant-loop-a goal.the-decreases-loop-a
+
+abbrev After-compare_block-d : Type 0
+After-compare_block-d = lts.After-compare_block tie.the-claims reads.Pre reads.Post goal.the-invariant-loop-a goal.the-decreases-loop-a
+
+abbrev After-is_same : Type 0
+After-is_same = lts.After-is_same tie.the-claims reads.Pre reads.Post goal.the-invariant-loop-a goal.the-decreases-loop-a
+
+abbrev After-advanced-a : Type 0
+After-advanced-a = lts.After-advanced tie.the-claims reads.Pre reads.Post goal.the-invariant-loop-a goal.the-decreases-loop-a
+
+abbrev After-advanced-b : Type 0
+After-advanced-b = lts.After-advanced2 tie.the-claims reads.Pre reads.Post goal.the-invariant-loop-a goal.the-decreases-loop-a
+
+begins : (l : List ℤ) (n at : ℕ) → well_formed l ≡ true → n ≡ count_at l → at ≡ nat_abs (word l 3) → Onward l n at
+begins l n at e f g = subst (λ (m : ℕ). Onward l m at) (sym f) (subst (Onward l (count_at l)) (sym g) (onward_begin l e))
+
+abbrev now : In-loop-a → At-loop-a
+now c = c.before.before.before
+
+abbrev start : In-loop-a → Start
+start c = (now c).before.before.before.before.before
+
+walk : (c : In-loop-a) → Walking (start c).args.left.now (start c).args.right.now (start c).args.w (now c).loop-a.a (now c).loop-a.b
+walk c = (now c).loop-a.invariant
+
+-- the answer for the store, and whether it is "same"
+answer : (c : After-compare_block-d) →
+    (let t = c.before.before in
+    let s = (start t).args in
+    let a = (now t).loop-a.a in
+    let b = (now t).loop-a.b in
+    c.compare_block-d.result ≡ scan (both_at (turn_of a b) s.left.now a.at s.right.now b.at) s.w (s.w * s.w) 0)
+answer c =
+    let t = c.before.before in
+    let s = (start t).args in
+    c.compare_block-d.ensures ∙ ap (λ (u : Turn). scan (both_at u s.left.now (now t).loop-a.a.at s.right.now (now t).loop-a.b.at) s.w (s.w * s.w) 0) c.choose-t.ensures
+
+tested : (c : After-is_same) →
+    (let t = c.before.before.before in
+    let s = (start t).args in
+    let a = (now t).loop-a.a in
+    let b = (now t).loop-a.b in
+    c.is_same.result ≡ is_same (scan (both_at (turn_of a b) s.left.now a.at s.right.now b.at) s.w (s.w * s.w) 0).found)
+tested c = c.is_same.ensures ∙ ap (λ (d : Difference). is_same d.found) (answer c.before)
+
+-- both cursors move on
+moved-left : (c : After-advanced-a) →
+    (let t = c.before.before.before.before.before in
+    c.advanced-a.result ≡ advance (turn_of (now t).loop-a.a (now t).loop-a.b).left (start t).args.left.now (now t).loop-a.a)
+moved-left c =
+    let h = c.before.before.before.before in
+    c.advanced-a.ensures ∙ ap (λ (u : Turn). advance u.left (start h.before).args.left.now (now h.before).loop-a.a) h.choose-t.ensures
+
+moved-right : (c : After-advanced-b) →
+    (let t = c.before.before.before.before.before.before in
+    c.advanced-b.result ≡ advance (turn_of (now t).loop-a.a (now t).loop-a.b).right (start t).args.right.now (now t).loop-a.b)
+moved-right c =
+    let h = c.before.before.before.before.before in
+    c.advanced-b.ensures ∙ ap (λ (u : Turn). advance u.right (start h.before).args.right.now (now h.before).loop-a.b) h.choose-t.ensures
+
+pub follow-requires : goal.follow-requires
+follow-requires c = (header_long _ c.requires.left, first-index _ c.requires.left)
+
+pub enter-a-requires : goal.enter-a-requires
+enter-a-requires c = let s = c.before in begins s.args.left.now s.args.m _ s.requires.left s.requires.left_count c.follow.ensures
+
+pub follow-requires-2 : goal.follow-requires-2
+follow-requires-2 c = let s = c.before.before in (header_long _ s.requires.right, first-index _ s.requires.right)
+
+pub enter-b-requires : goal.enter-b-requires
+enter-b-requires c = let s = c.before.before.before in begins s.args.right.now s.args.n _ s.requires.right s.requires.right_count c.follow-2.ensures
+
+pub loop-a-init : goal.loop-a-init
+loop-a-init c =
+    let f = c.before in
+    let e = f.before in
+    let s = e.before.before in
+    walking_begin s.requires.left s.requires.right
+    (e.enter-a.ensures ∙ (λ i. cursor_at s.args.left.now (s.requires.left_count i) (e.follow.ensures i)))
+    (c.enter-b.ensures ∙ (λ i. cursor_at s.args.right.now (s.requires.right_count i) (f.follow-2.ensures i)))
+
+pub choose-t-requires : goal.choose-t-requires
+choose-t-requires c = tt
+
+pub compare_block-d-requires : goal.compare_block-d-requires
+compare_block-d-requires c =
+    let t = c.before in
+    let k = walk t in
+    let s = start t in (
+      subst (λ (v : ℕ). v ≤ 256) (sym s.requires.left_side) (formed _ s.requires.left).head.room.width,
+      record {
+        left = λ e. entries_held _ _ _ s.args.w k.left.walk (left-some k t.loop-a-test.true (sym (ap (λ (t : Turn). t.left) c.choose-t.ensures) ∙ e)) s.requires.left_side;
+        right = λ e. entries_held _ _ _ s.args.w k.right.walk (right-some k t.loop-a-test.true (sym (ap (λ (t : Turn). t.right) c.choose-t.ensures) ∙ e)) s.requires.right_side;
+      },
+    )
+
+pub is_same-requires : goal.is_same-requires
+is_same-requires c = tt
+
+pub returns-then-not-is_same : goal.returns-then-not-is_same
+returns-then-not-is_same c =
+    let i = c.before in
+    let t = i.before.before.before in
+    answer i.before ∙ walking_stop (walk t) t.loop-a-test.true (sym (tested i) ∙ c.if-not-is_same.true)
+
+pub advanced-a-requires : goal.advanced-a-requires
+advanced-a-requires c =
+    let h = c.before.before.before in
+    let t = h.before in
+    ((walk t).left, λ e. left-some (walk t) t.loop-a-test.true (sym (ap (λ (t : Turn). t.left) h.choose-t.ensures) ∙ e))
+
+pub advanced-b-requires : goal.advanced-b-requires
+advanced-b-requires c =
+    let h = c.before.before.before.before in
+    let t = h.before in
+    ((walk t).right, λ e. right-some (walk t) t.loop-a-test.true (sym (ap (λ (t : Turn). t.right) h.choose-t.ensures) ∙ e))
+
+pub loop-a-smaller : goal.loop-a-smaller
+loop-a-smaller c =
+    let t = c.before.before.before.before.before.before in
+    walking_less (walk t) t.loop-a-test.true (moved-left c.before) (moved-right c)
+
+pub loop-a-preserved : goal.loop-a-preserved
+loop-a-preserved c =
+    let e = c.before.before in
+    let t = e.before.before.before.before in
+    walking_on (walk t) t.loop-a-test.true (sym (tested e.before) ∙ e.if-not-is_same.false) (moved-left c.before) (moved-right c)
+
+pub without_entry-requires : goal.without_entry-requires
+without_entry-requires c = tt
+
+pub returns : goal.returns
+returns c = let e = c.before in c.without_entry.ensures ∙ walking_done e.loop-a.invariant e.loop-a-test.false

@@ -1,0 +1,32 @@
+-- `compare::search_block` meets its contract.
+use mathlib.Core.Path.{◌≡◌, sym, ap, ◌∙◌}
+use Prim.Native.Nat.{ℕ, ◌+◌, ◌*◌, ◌-◌, ◌≤◌, ◌<◌}
+use native.Mathlib.Nat.{zero-mul, sub-zero, mul-le-mul}
+use native.Mathlib.Omega.{arith}
+use lib.Arith.{digits_lt}
+use borrow.Author.Tests.{not-true, not-false}
+use Rattle.exact.specs.Exact.{equal}
+use Rattle.scalar.specs.declared.Scalar.{Scalar}
+use Rattle.channel.specs.declared.compare.Difference.{Difference}
+use Rattle.channel.specs.declared.compare.Found.TheVariants.{Same, Entry}
+use Rattle.channel.specs.Compare.{Both, plain, scan}
+use Rattle.channel.specs.Inner.Walk.{both_at}
+use Rattle.channel.proofs.Alike.{fewer, held_fewer}
+use Rattle.channel.proofs.Scanning.{agrees, differs, done, next_row}
+use Rattle.channel.proofs.compare.search_block.Given as goal
+
+abbrev pub invariant-loop-col : goal.invariant-loop-col
+invariant-loop-col l =
+    let b = both_at l.t l.left l.i l.right l.j in
+    ((l.col ≤ l.w) × ((l.row < l.w) × (l.k ≡ l.row * l.w + l.col))) × ((l.found ≡ plain Same) × (scan b l.w (l.w * l.w) 0 ≡ scan b l.w (l.w * l.w - l.k) l.k))
+
+abbrev pub decreases-loop-col : goal.decreases-loop-col
+decreases-loop-col l = l.w - l.col
+
+abbrev pub invariant-rows : goal.invariant-rows
+invariant-rows l =
+    let b = both_at l.t l.left l.i l.right l.j in
+    ((l.row ≤ l.w) × (l.k ≡ l.row * l.w)) × ((l.found ≡ plain Same) × (scan b l.w (l.w * l.w) 0 ≡ scan b l.w (l.w * l.w - l.k) l.k))
+
+abbrev pub decreases-rows : goal.decreases-rows
+decreases-rows l = l.w - l.row

@@ -1,0 +1,106 @@
+-- `layout::read_entry` meets its contract.
+use mathlib.Core.Path.{◌≡◌, sym, ap, ◌∙◌, subst}
+use Prim.Native.Nat.{ℕ, ◌+◌, ◌*◌, ◌≤◌}
+use native.Mathlib.Nat.{add_assoc}
+use native.Mathlib.Omega.{arith}
+use lib.Dec.{lit<}
+use lib.ListN.{length}
+use mir.Syntax.{w64}
+use mir.Val.{to_z, of_z}
+use lib.IntN.{ℤ, pos, nat_abs}
+use Rattle.algebra.proofs.Signed.{reads, cast_ok}
+use Rattle.exact.specs.Exact.{number, lowest, max_exponent}
+use Rattle.scalar.specs.Calls.{scalar_of}
+use Rattle.store.proofs.Words.{up-abs}
+use Rattle.channel.specs.Layout.{record_head, exponent_place, word}
+use Rattle.channel.proofs.layout.read_entry.Lts as lts
+use Rattle.channel.proofs.layout.read_entry.Reads as reads
+use Rattle.channel.proofs.layout.read_entry.Tie as tie
+use Rattle.channel.proofs.layout.read_entry.Goals as goal
+
+abbrev Start : Type 0
+Start = lts.Start tie.the-claims reads.Pre reads.Post
+
+abbrev After-x-1 : Type 0
+After-x-1 = lts.After-x tie.the-claims reads.Pre reads.Post
+
+room : (c : Start) → c.args.at + record_head + c.args.k * 4 + 4 ≤ length c.args.s.now
+room c = omega (arith, c.requires.inside)
+
+abbrev start : After-x-1 → Start
+start c = c.before.before.before.before.before
+
+exponent : (c : After-x-1) → to_z w64 (of_z w64 (word (start c).args.s.now ((start c).args.at + exponent_place))) ≡ word (start c).args.s.now ((start c).args.at + exponent_place)
+exponent c = reads (word (start c).args.s.now ((start c).args.at + exponent_place)) c.x-1.given
+
+pub overflow_add-p : goal.overflow_add-p
+overflow_add-p c = let q = room c in omega arith
+
+pub overflow_mul-p : goal.overflow_mul-p
+overflow_mul-p c = let q = room c in omega arith
+
+pub overflow_add-p-2 : goal.overflow_add-p-2
+overflow_add-p-2 c = let q = room c in omega arith
+
+pub offset_bounds-s-p : goal.offset_bounds-s-p
+offset_bounds-s-p c = let q = room c in omega arith
+
+pub bounds-s-p : goal.bounds-s-p
+bounds-s-p c = let q = room c in omega arith
+
+pub overflow_add-n1 : goal.overflow_add-n1
+overflow_add-n1 c = let q = room c.before in omega arith
+
+pub offset_bounds-s-p-2 : goal.offset_bounds-s-p-2
+offset_bounds-s-p-2 c = let q = room c.before in omega arith
+
+pub bounds-s-p-2 : goal.bounds-s-p-2
+bounds-s-p-2 c = let q = room c.before in omega arith
+
+pub overflow_add-n2 : goal.overflow_add-n2
+overflow_add-n2 c = let q = room c.before.before in omega arith
+
+pub offset_bounds-s-p-3 : goal.offset_bounds-s-p-3
+offset_bounds-s-p-3 c = let q = room c.before.before in omega arith
+
+pub bounds-s-p-3 : goal.bounds-s-p-3
+bounds-s-p-3 c = let q = room c.before.before in omega arith
+
+pub overflow_add-n3 : goal.overflow_add-n3
+overflow_add-n3 c = let q = room c.before.before.before in omega arith
+
+pub offset_bounds-s-p-4 : goal.offset_bounds-s-p-4
+offset_bounds-s-p-4 c = let q = room c.before.before.before in omega arith
+
+pub bounds-s-p-4 : goal.bounds-s-p-4
+bounds-s-p-4 c = let q = room c.before.before.before in omega arith
+
+pub overflow_add-x : goal.overflow_add-x
+overflow_add-x c = let q = room c.before.before.before.before in omega arith
+
+pub offset_bounds-s-at : goal.offset_bounds-s-at
+offset_bounds-s-at c = let q = room c.before.before.before.before in omega arith
+
+pub bounds-s-at : goal.bounds-s-at
+bounds-s-at c = let q = room c.before.before.before.before in omega arith
+
+pub overflow_cast-e : goal.overflow_cast-e
+overflow_cast-e c = rw (exponent c) (cast_ok max_exponent (word (start c).args.s.now ((start c).args.at + exponent_place)) (start c).requires.exponent (record { fits = lit< tt }))
+
+pub reduce-requires : goal.reduce-requires
+reduce-requires c =
+    let q = up-abs max_exponent (word (start c).args.s.now ((start c).args.at + exponent_place)) (start c).requires.exponent in
+    subst (λ (z : ℤ). nat_abs z ≤ 63) (sym (exponent c)) (omega arith)
+
+pub returns : goal.returns
+returns c =
+    let x = c.before in
+    let s = (start x).args in
+    let l = s.s.now in
+    let place = add_assoc (s.at + record_head) (s.k * 4) in
+    let zero : s.at + record_head + s.k * 4 ≡ s.at + record_head + (s.k * 4 + 0) = omega arith in
+    let p0 = reads (word l (s.at + record_head + s.k * 4)) x.n0-1.given ∙ ap (word l) zero in
+    let p1 = reads (word l (s.at + record_head + s.k * 4 + 1)) x.n1-1.given ∙ ap (word l) (place 1) in
+    let p2 = reads (word l (s.at + record_head + s.k * 4 + 2)) x.n2-1.given ∙ ap (word l) (place 2) in
+    let p3 = reads (word l (s.at + record_head + s.k * 4 + 3)) x.n3-1.given ∙ ap (word l) (place 3) in
+    c.reduce.ensures ∙ (λ i. scalar_of (lowest (number (p0 i) (p1 i) (p2 i) (p3 i)) (nat_abs (exponent x i))))

@@ -1,0 +1,130 @@
+-- `well_formed::judge_chain` meets its contract.
+use mathlib.Core.Path.{◌≡◌, refl, sym, ap, ◌∙◌}
+use mathlib.Core.Bool.{Bool, true, false, ◌||◌}
+use Prim.Native.Nat.{ℕ, ◌+◌, ◌*◌, ◌-◌, ◌<◌, ◌≤◌}
+use native.Mathlib.Omega.{arith}
+use mathlib.Core.List.{List}
+use lib.Dec.{T}
+use lib.ListN.{length}
+use lib.IntN.{ℤ, pos, nat_abs}
+use lib.Signed.{non_neg}
+use mir.Syntax.{w64}
+use mir.Val.{to_z}
+use borrow.Author.Tests.{not-true, not-false}
+use Rattle.verdict.specs.declared.Verdict.{Verdict}
+use Rattle.channel.specs.Layout.{full, record_size, word, entry_at, store_at, chain}
+use Rattle.channel.specs.WellFormed.{is_start, record_ok, chain_ok, all_zero, some_zero, verdict_by}
+use Rattle.algebra.specs.Words.{eqℤ}
+use Rattle.algebra.proofs.Signed.{reads}
+use Rattle.channel.proofs.Words.{bits-zero, Starts, starts, starts-inside}
+use Rattle.channel.proofs.Judging.{good, bad, no_start, no_record, goes_on, chain-end, zero-step, zero-end, or_assoc, or_end}
+use native.Mathlib.Nat.{le_trans}
+use Rattle.channel.proofs.well_formed.judge_chain.Lts as lts
+use Rattle.channel.proofs.well_formed.judge_chain.Reads as reads
+use Rattle.channel.proofs.well_formed.judge_chain.Tie as tie
+use Rattle.channel.proofs.well_formed.judge_chain.Goals as goal
+
+abbrev Else-not-is_start : Type 0
+Else-not-is_start = lts.Else1 tie.the-claims reads.Pre reads.Post goal.the-invariant-loop-left goal.the-decreases-loop-left
+
+abbrev Start : Type 0
+Start = lts.Start tie.the-claims reads.Pre reads.Post goal.the-invariant-loop-left goal.the-decreases-loop-left
+
+-- the verdict, `left` records from index z on, where `blank` tells of the blocks before them
+module _ (l : List ℤ) (w m count left : ℕ) where
+  abbrev verdict : ℤ → Bool → ℕ → Bool → Verdict
+  verdict z first prev blank = verdict_by (chain_ok (full w) l m count left z first prev) (blank || some_zero w (chain (full w) l left (nat_abs z)))
+
+  refused : (z : ℤ) (first : Bool) (prev : ℕ) (blank : Bool) → chain_ok (full w) l m count left z first prev ≡ false → verdict z first prev blank ≡ verdict_by false blank
+  refused z first prev blank e = ap (λ (b : Bool). verdict_by b (blank || some_zero w (chain (full w) l left (nat_abs z)))) e
+
+  further : (z : ℤ) (first : Bool) (prev : ℕ) (blank : Bool) → 0 < left → is_start (full w) count z ≡ true → record_ok (full w) l m (nat_abs z) first prev ≡ true → verdict z first prev blank ≡ verdict_by
+      (chain_ok (full w) l m count (left - 1) (word l (nat_abs z)) false (store_at l (nat_abs z))) ((blank || all_zero (w * w) (entry_at (full w) l (nat_abs z))) || some_zero w (chain (full w) l (left - 1) (nat_abs (word l (nat_abs z)))))
+  further z first prev blank h e f =
+      λ i. verdict_by (goes_on (full w) l m count left z first prev h e f i)
+      ((ap (λ (b : Bool). blank || b) (zero-step l w left (nat_abs z) h) ∙ or_assoc blank (all_zero (w * w) (entry_at (full w) l (nat_abs z))) (some_zero w (chain (full w) l (left - 1) (nat_abs (word l (nat_abs z)))))) i)
+
+  ended : (z : ℤ) (first : Bool) (prev : ℕ) (blank ends : Bool) → left ≤ 0 → eqℤ z (pos 0) ≡ ends → verdict z first prev blank ≡ verdict_by ends blank
+  ended z first prev blank ends h e =
+      λ i. verdict_by ((chain-end (full w) l m count left z first prev h ∙ e) i) ((ap (λ (b : Bool). blank || b) (zero-end l w left (nat_abs z) h) ∙ or_end blank) i)
+
+pub bounds-s-3 : goal.bounds-s-3
+bounds-s-3 c = omega (arith, c.requires.inside)
+
+pub loop-left-init : goal.loop-left-init
+loop-left-init c = (omega arith, ap (λ (z : ℤ). verdict c.args.s.now c.args.w c.args.m c.args.count c.args.count z true 0 false) (sym (reads (word c.args.s.now 3) c.z-1.given)))
+
+-- the record that comes next
+module _ (c : Else-not-is_start) where
+  abbrev index : ℤ
+  index = to_z w64 c.loop-left.z-bits
+
+  abbrev start : Start
+  start = c.before.before.before.before.before
+
+  tested : is_start (full start.args.w) start.args.count index ≡ true
+  tested = sym c.is_start.ensures ∙ c.if-not-is_start.false
+
+  found : T (non_neg index) × Starts (full start.args.w) start.args.count (nat_abs index)
+  found = starts (full start.args.w) start.args.count index tested
+
+  inside : nat_abs index + record_size (full start.args.w) ≤ length start.args.s.now
+  inside = le_trans (starts-inside found.1) start.requires.inside
+
+pub is_start-requires : goal.is_start-requires
+is_start-requires c = c.requires.width
+
+pub returns-then-not-is_start : goal.returns-then-not-is_start
+returns-then-not-is_start c =
+    let a = c.before in
+    let l = a.before.before in
+    sym (l.loop-left.invariant.1 ∙ refused _ _ _ _ _ _ _ _ l.loop-left.zero (no_start _ _ _ _ _ _ _ _ a.loop-left-test.true (sym a.is_start.ensures ∙ c.if-not-is_start.true)))
+
+pub overflow_cast-at : goal.overflow_cast-at
+overflow_cast-at c = ((found c).0, record { fits = omega (arith, inside c) })
+
+pub judge_record-j-requires : goal.judge_record-j-requires
+judge_record-j-requires c = let s = c.before.before.before.before.before in (s.requires.width, (s.requires.few, inside c))
+
+pub returns-then-not-j : goal.returns-then-not-j
+returns-then-not-j c =
+    let j = c.before.before in
+    let e = j.before in
+    let l = e.before.before.before in
+    sym (l.loop-left.invariant.1 ∙ refused _ _ _ _ _ _ _ _ l.loop-left.zero (no_record _ _ _ _ _ _ _ _ e.loop-left-test.true (tested e) (bad _ _ _ _ j.judge_record-j.ensures (c.if-not-j.true))))
+
+pub offset_bounds-s-at : goal.offset_bounds-s-at
+offset_bounds-s-at c = omega (arith, inside c.before.before.before)
+
+pub bounds-s-at : goal.bounds-s-at
+bounds-s-at c = omega (arith, inside c.before.before.before)
+
+pub overflow_sub-left : goal.overflow_sub-left
+overflow_sub-left c = omega arith
+
+pub loop-left-smaller : goal.loop-left-smaller
+loop-left-smaller c = omega arith
+
+pub loop-left-preserved : goal.loop-left-preserved
+loop-left-preserved c =
+    let j = c.before.before.before.before in
+    let e = j.before in
+    let l = e.before.before.before in
+    let s = l.args in
+    let g = good _ _ _ _ j.judge_record-j.ensures (c.if-not-j.false) in
+    let h = e.loop-left-test.true in
+    let at = nat_abs (to_z w64 l.loop-left.z-bits) in (
+      omega arith,
+      l.loop-left.invariant.1 ∙ further _ _ _ _ l.loop-left.false (to_z w64 l.loop-left.z-bits) l.loop-left.first l.loop-left.prev l.loop-left.zero h (tested e) g.0
+          ∙ (λ i. verdict s.s.now s.w s.m s.count (l.loop-left.false - 1) (sym (reads (word s.s.now at) c.z-in-loop-left-1.given) i) false (sym g.1.0 i) (l.loop-left.zero || sym g.1.1 i)),
+    )
+
+pub verdict_by-requires : goal.verdict_by-requires
+verdict_by-requires c = tt
+
+pub returns : goal.returns
+returns c =
+    let e = c.before in
+    let l = e.loop-left in
+    c.verdict_by.ensures ∙ ap (λ (b : Bool). verdict_by b l.zero) (bits-zero l.z-1)
+    ∙ sym (l.invariant.1 ∙ ended _ _ _ _ l.left (to_z w64 l.z-1) l.first l.prev l.zero _ e.loop-left-test.false refl)

@@ -1,0 +1,23 @@
+-- The invariant: no gate passed so far writes the bit, so the answer is that of the rest.
+use mathlib.Core.Path.{◌≡◌, refl, sym, ap, ◌∙◌}
+use mathlib.Core.Bool.{Bool, ◌||◌}
+use mathlib.Core.List.{List}
+use Prim.Native.Nat.{ℕ, ◌+◌, ◌-◌, ◌/◌}
+use native.Mathlib.Omega.{arith}
+use lib.ListN.{length}
+use Rattle.algebra.specs.Lists.{some}
+use Rattle.gate.specs.Gate.{Gate, gate_size, gates_from}
+use Rattle.gate.specs.Inner.Words.{gate_of}
+use Rattle.gate.proofs.Listed.{gates-none}
+use Rattle.circuit.specs.Footprint.{writes}
+use Rattle.circuit.proofs.Counts.{written-more}
+use Rattle.circuit.proofs.footprint.is_written.Given as goal
+
+abbrev pub had : List ℕ → ℕ → ℕ → Bool
+had ws bit i = some (λ (g : Gate). writes g bit) (gates_from ws i (length ws / gate_size - i))
+
+abbrev pub invariant-loop-i : goal.invariant-loop-i
+invariant-loop-i l = had l.words l.bit l.from ≡ had l.words l.bit l.i
+
+abbrev pub decreases-loop-i : goal.decreases-loop-i
+decreases-loop-i l = length l.words / gate_size - l.i

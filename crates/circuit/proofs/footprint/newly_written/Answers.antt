@@ -1,0 +1,23 @@
+-- Each way out fixes one test of the definition.
+use mathlib.Core.Path.{◌∙◌, sym}
+use borrow.Author.Tests.{ne_eqb, lt-ltb, le-ltb}
+use Rattle.gate.specs.Gate.{measure}
+use Rattle.circuit.proofs.footprint.newly_written.Goals as goal
+
+pub returns-then-is_written : goal.returns-then-is_written
+returns-then-is_written c =
+    let a = c.args in
+    simp (c.if-g-eq-MEASURE.true, lt-ltb a.g.b a.bits c.if-bit-bits.true, sym c.is_written.ensures ∙ c.if-is_written.true)
+
+pub returns-then-bit-bits : goal.returns-then-bit-bits
+returns-then-bit-bits c =
+    let a = c.args in
+    simp (c.if-g-eq-MEASURE.true, lt-ltb a.g.b a.bits c.if-bit-bits.true, sym c.is_written.ensures ∙ c.if-is_written.false)
+
+pub returns-else-bit-bits : goal.returns-else-bit-bits
+returns-else-bit-bits c =
+    let a = c.args in
+    simp (c.if-g-eq-MEASURE.true, le-ltb a.g.b a.bits c.if-bit-bits.false)
+
+pub returns-else-g-eq-MEASURE : goal.returns-else-g-eq-MEASURE
+returns-else-g-eq-MEASURE c = simp (ne_eqb c.args.g.kind measure c.if-g-eq-MEASURE.false)

@@ -1,0 +1,79 @@
+-- The layers are asked where the words are accepted, and the numbers where the layers are.
+use mathlib.Core.Path.{◌≡◌, sym, ap, ◌∙◌}
+use mathlib.Core.Bool.{true, false, true≢false}
+use mathlib.Core.List.{List, ◌++◌}
+use Rattle.verdict.specs.Verdict.{accepted}
+use Rattle.verdict.specs.Questions.{Question}
+use Rattle.verdict.proofs.Questions.{after-yes, after_no}
+use Rattle.gate.specs.Gate.{gates_of}
+use Rattle.circuit.specs.Footprint.{footprint_of}
+use Rattle.circuit.specs.Layers.{layer_questions}
+use Rattle.circuit.specs.Questions.{word_questions, number_questions}
+use Rattle.circuit.proofs.Answers.{words_refuse}
+use Rattle.circuit.proofs.Clashes.{layers_refuse}
+use Rattle.circuit.proofs.questions.judge_layered.Lts as lts
+use Rattle.circuit.proofs.questions.judge_layered.Reads as reads
+use Rattle.circuit.proofs.questions.judge_layered.Tie as tie
+use Rattle.circuit.proofs.questions.judge_layered.Goals as goal
+
+abbrev Then-is_accepted : Type 0
+Then-is_accepted = lts.Then1 tie.the-claims reads.Pre reads.Post
+
+abbrev After-judge_words-v : Type 0
+After-judge_words-v = lts.After-judge_words tie.the-claims reads.Pre reads.Post
+
+abbrev Start : Type 0
+Start = lts.Start tie.the-claims reads.Pre reads.Post
+
+-- the words are accepted
+yes : (c : Then-is_accepted) → accepted c.judge_words-v.result ≡ true
+yes c = sym c.is_accepted.ensures ∙ c.if-is_accepted.true
+
+module _ (c : After-judge_words-v) where
+  abbrev s : Start
+  s = c.before.before.before.before
+
+  abbrev words : List Question
+  words = word_questions s.args.n s.args.bits s.args.l s.args.words.now
+
+  abbrev layers : List Question
+  layers = layer_questions s.args.ends.now (gates_of s.args.words.now)
+
+  abbrev numbers : List Question
+  numbers = number_questions (footprint_of s.args.bits (gates_of s.args.words.now)) s.args.n s.args.bits s.args.store.now s.args.l s.args.res s.args.work
+
+pub judge_counted-requires : goal.judge_counted-requires
+judge_counted-requires c = let t = c.before.before.before.before in sym (ap accepted t.judge_words-v.ensures) ∙ yes t
+
+pub returns-then-is_accepted-2 : goal.returns-then-is_accepted-2
+returns-then-is_accepted-2 c =
+    let i = c.before.before.before in
+    let t = i.before.before in
+    let w = t.before.before in
+    let a = (s w).args in
+    let on : accepted i.judge_layers-u.result ≡ true = sym i.is_accepted-then-is_accepted.ensures ∙ c.if-is_accepted-2.true in (
+      after-yes (words w) (layers w ++ numbers w) (words_refuse a.n a.bits a.l a.words.now) w.judge_words-v.ensures (yes t)
+          (after-yes (layers w) (numbers w) (layers_refuse a.ends.now (gates_of a.words.now)) i.judge_layers-u.ensures on c.judge_counted.ensures.0),
+      (λ e. c.judge_counted.ensures.1),
+    )
+
+pub returns-then-is_accepted : goal.returns-then-is_accepted
+returns-then-is_accepted c =
+    let i = c.before.before in
+    let t = i.before.before in
+    let w = t.before.before in
+    let a = (s w).args in
+    let no : accepted i.judge_layers-u.result ≡ false = sym i.is_accepted-then-is_accepted.ensures ∙ c.if-is_accepted-2.false in (
+      after-yes (words w) (layers w ++ numbers w) (words_refuse a.n a.bits a.l a.words.now) w.judge_words-v.ensures (yes t)
+          (after_no (layers w) (numbers w) (layers_refuse a.ends.now (gates_of a.words.now)) i.judge_layers-u.ensures no),
+      (λ e. absurd (true≢false (sym e ∙ no))),
+    )
+
+pub returns : goal.returns
+returns c =
+    let w = c.before.before.before in
+    let a = (s w).args in
+    let no : accepted w.judge_words-v.result ≡ false = sym c.is_accepted.ensures ∙ c.if-is_accepted.false in (
+      after_no (words w) (layers w ++ numbers w) (words_refuse a.n a.bits a.l a.words.now) w.judge_words-v.ensures no,
+      (λ e. absurd (true≢false (sym e ∙ no))),
+    )

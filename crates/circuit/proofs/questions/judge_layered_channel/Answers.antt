@@ -1,0 +1,5 @@
+-- The verdict that the inner judge hands on.
+use Rattle.circuit.proofs.questions.judge_layered_channel.Goals as goal
+
+pub returns : goal.returns
+returns c = c.judge_layered-j.ensures.0

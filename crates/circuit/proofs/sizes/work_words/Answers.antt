@@ -1,0 +1,12 @@
+-- Each product is of small factors.
+use Prim.Native.Nat.{◌+◌, ◌*◌, ◌≤◌}
+use native.Mathlib.Nat.{mul-le-mul}
+use native.Mathlib.Omega.{arith}
+use Rattle.cells.specs.Cells.{cell_size}
+use Rattle.circuit.proofs.sizes.work_words.Goals as goal
+
+pub overflow_mul-result-3 : goal.overflow_mul-result-3
+overflow_mul-result-3 c = let g : 2 * c.args.b + 2 ≤ 130 = omega arith in let h : cell_size * c.square.result + 2 ≤ 5122 = omega arith in omega (arith, mul-le-mul g h)
+
+pub returns : goal.returns
+returns c = simp c.square.ensures.0

@@ -1,0 +1,32 @@
+-- `collect::blocks::sum_block` meets its contract.
+use mathlib.Core.Path.{◌≡◌, subst}
+use mathlib.Core.Bool.{true}
+use mathlib.Core.List.{List}
+use Prim.Native.Nat.{ℕ, ◌+◌, ◌*◌, ◌-◌, ◌<◌, ◌≤◌}
+use native.Mathlib.Nat.{mul-le-mul}
+use native.Mathlib.Omega.{arith}
+use lib.ListN.{length}
+use lib.IntN.{ℤ, pos}
+use Rattle.algebra.specs.Words.{fill_words}
+use Rattle.channel.proofs.Words.{square_small}
+use Rattle.branches.specs.Inner.Bank.{branch_size}
+use Rattle.share.specs.Share.{with_numerators}
+use Rattle.collect.specs.Inner.Bank.{place, store_of, has, upper, Found}
+use Rattle.collect.proofs.Summing.{bank-branch, Summed, none_summed, summed_more, summed_past, summed_long, addable}
+use Rattle.collect.proofs.blocks.sum_block.Given as goal
+
+abbrev pub start : After-clear → Start
+start k = k.before.before.before
+
+-- after j branches
+pub summed : (a : At-loop-j) → let n = (start a.before.before.before).args in Summed n.result.now n.out n.work.now n.at n.d (store_of n.work.now n.at n.d n.b) a.loop-j.result a.loop-j.j
+summed a = let k = a.before.before.before in let s = start k in a.loop-j.invariant.1.1 s.args.res.now s.requires.1.0 k.clear.ensures
+
+-- the block is summed over the words m that were cleared
+abbrev pub invariant-loop-j : goal.invariant-loop-j
+invariant-loop-j l =
+    (l.j ≤ l.count) × ((l.j < l.count → has l.work l.at l.d (store_of l.work l.at l.d l.b) l.j ≡ true)
+    × ((m : List ℤ) → l.out + l.d * l.d * (l.d * l.d) * 4 ≤ length m → l.initial.res ≡ fill_words m l.out (l.d * l.d * (l.d * l.d) * 4) (λ (i : ℕ). pos 0) → Summed m l.out l.work l.at l.d (store_of l.work l.at l.d l.b) l.res l.j))
+
+abbrev pub decreases-loop-j : goal.decreases-loop-j
+decreases-loop-j l = l.count - l.j

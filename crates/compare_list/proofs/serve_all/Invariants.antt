@@ -1,0 +1,18 @@
+-- `serve_all` meets its contract.
+use mathlib.Core.Path.{◌≡◌, refl, sym, ap, ◌∙◌, subst}
+use Prim.Native.Nat.{◌-◌}
+use native.Mathlib.Omega.{arith}
+use lib.ListN.{length}
+use Rattle.pair_list.specs.Pairs.{pair_at}
+use Rattle.pair_list.specs.Inner.Spots.{Framed}
+use Rattle.work_list.specs.Serving.{Lent, lent, answer_to}
+use Rattle.work_list.specs.Inner.Weighing.{Blank}
+use Rattle.compare_list.proofs.Along.{Along, along-none, due, within-next, along-more, all_spent, all_answers, all_scalars}
+use Rattle.compare_list.proofs.serve_all.Given as goal
+
+abbrev pub invariant-loop-i : goal.invariant-loop-i
+invariant-loop-i l =
+    Along l.words l.stores (lent l.limits l.initial.left l.initial.right l.initial.work l.allowance) l.count l.initial.answers l.initial.scalars l.i l.at l.from l.spent l.answers l.scalars × ((l.left ≡ l.initial.left) × ((l.right ≡ l.initial.right) × (l.work ≡ l.initial.work)))
+
+abbrev pub decreases-loop-i : goal.decreases-loop-i
+decreases-loop-i l = l.count - l.i

@@ -1,0 +1,11 @@
+-- `serve_at` meets its contract.
+use mathlib.Core.Path.{ap, ◌∙◌}
+use Rattle.pair_list.specs.Pairs.{Pair}
+use Rattle.work_list.specs.Serving.{lent, answer_to}
+use Rattle.compare_list.proofs.serve_at.Goals as goal
+
+pub returns : goal.returns
+returns c =
+    let a = c.args in
+    let e = c.serve.ensures in
+    (e.0 ∙ (λ i. answer_to (lent a.limits a.left-1.now a.right-1.now a.work-1.now a.allowance) a.spent (record { left = c.left_spot-l.ensures.is i; right = c.right_spot-r.ensures.is i })), e.1)

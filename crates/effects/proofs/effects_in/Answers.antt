@@ -1,0 +1,108 @@
+-- `effects_in` meets its contract.
+use mathlib.Core.Path.{◌≡◌, sym, ap, ◌∙◌, subst}
+use mathlib.Core.Bool.{Bool, true, cond, not}
+use mathlib.Core.List.{List}
+use Prim.Native.Nat.{ℕ}
+use lib.IntN.{ℤ}
+use borrow.Author.Tests.{not-true, not-false}
+use Rattle.verdict.specs.Verdict.{accepted}
+use Rattle.channel.specs.declared.Shape.{Shape}
+use Rattle.channel.specs.Layout.{dim_at, count_at}
+use Rattle.channel.specs.Inner.Shapes.{shape_at}
+use Rattle.effects.specs.Effects.{effects_words, effects_verdict}
+use Rattle.effects.specs.Inner.Readable.{Dim, Ready}
+use Rattle.effects.specs.Inner.Strides.{strided_at, Strides, form_at}
+use Rattle.effects.proofs.Strides.{form_strides, form-records}
+use Rattle.effects.proofs.Records.{dim_of}
+use Rattle.effects.proofs.Answers.{answer_verdict, answer-shape, ready}
+use Rattle.effects.proofs.effects_in.Lts as lts
+use Rattle.effects.proofs.effects_in.Reads as reads
+use Rattle.effects.proofs.effects_in.Tie as tie
+use Rattle.effects.proofs.effects_in.Goals as goal
+
+abbrev After-is_accepted : Type 0
+After-is_accepted = lts.After-is_accepted tie.the-claims reads.Pre reads.Post
+
+abbrev Start : Type 0
+Start = lts.Start tie.the-claims reads.Pre reads.Post
+
+abbrev Else-not-is_accepted : Type 0
+Else-not-is_accepted = lts.Else1 tie.the-claims reads.Pre reads.Post
+
+abbrev After-stride-cols : Type 0
+After-stride-cols = lts.After-stride2 tie.the-claims reads.Pre reads.Post
+
+-- the channel, the result, and the answer on them
+module _ (k : After-is_accepted) where
+  abbrev start : Start
+  start = k.before.before.before
+
+  abbrev words : List ℤ
+  words = start.args.channel.now
+
+  abbrev room : List ℤ
+  room = start.args.res.now
+
+  abbrev shape : Shape
+  shape = k.judge_effects-h.result
+
+  verdict_is : shape.verdict ≡ effects_verdict words room
+  verdict_is = answer_verdict words room shape k.judge_effects-h.ensures
+
+  tested : k.is_accepted.result ≡ accepted (effects_verdict words room)
+  tested = k.is_accepted.ensures ∙ ap accepted verdict_is
+
+  -- the words that go with the verdict
+  abbrev words_by : Bool → List ℤ
+  words_by b = cond b (effects_words (form_at start.args.textbook) words room) room
+
+module _ (c : Else-not-is_accepted) where
+  abbrev known : After-is_accepted
+  known = c.before
+
+  right : accepted (shape known).verdict ≡ true
+  right = sym known.is_accepted.ensures ∙ c.if-not-is_accepted.false
+
+  is : shape known ≡ shape_at (words known)
+  is = answer-shape (words known) (room known) (shape known) known.judge_effects-h.ensures right
+
+  able : Ready (words known) (room known) (shape known).dim (shape known).count
+  able = ready (words known) (room known) (shape known) known.judge_effects-h.ensures right
+
+  dim : Dim (shape known).dim
+  dim = subst (λ (h : Shape). Dim h.dim) (sym is) (dim_of (words known) able.form)
+
+-- the strides of the form that is asked for
+module _ (c : After-stride-cols) where
+  abbrev left : Else-not-is_accepted
+  left = c.before.before
+
+  abbrev textbook : Bool
+  textbook = (start (known left)).args.textbook
+
+  strides : Strides (shape (known left)).dim c.stride-rows.result c.stride-cols.result
+  strides = subst (λ (r : ℕ). Strides (shape (known left)).dim r c.stride-cols.result) (sym c.stride-rows.ensures)
+      (subst (Strides (shape (known left)).dim (cond (not textbook) (shape (known left)).dim 1)) (sym c.stride-cols.ensures) (form_strides textbook (dim left)))
+
+pub returns-then-not-is_accepted : goal.returns-then-not-is_accepted
+returns-then-not-is_accepted c =
+    let k = c.before in
+    (verdict_is k, ap (words_by k) (sym (sym (tested k) ∙ c.if-not-is_accepted.true)))
+
+pub write_effects-requires : goal.write_effects-requires
+write_effects-requires c = let t = c.before in (able (left t), strides t)
+
+pub returns : goal.returns
+returns c =
+    let w = c.before in
+    let t = w.before.before in
+    let e = left t in
+    let k = known e in
+    let l = words k in
+    let d = (shape k).dim in (
+      verdict_is k,
+      w.write_effects.ensures ∙ (λ i. effects_words (strided_at (t.stride-rows.ensures i) (t.stride-cols.ensures i)) l (room k))
+          ∙ ap (λ (h : Shape). effects_words (strided_at (cond (not (textbook t)) h.dim 1) (cond (textbook t) h.dim 1)) l (room k)) (is e)
+          ∙ form-records (textbook t) l (dim_at l) (count_at l) _ (dim_of l (able e).form)
+          ∙ ap (words_by k) (sym (sym (tested k) ∙ e.if-not-is_accepted.false)),
+    )

@@ -1,0 +1,17 @@
+-- `put_three` meets its contract.
+use native.Mathlib.Numerals.{add-one, add-two}
+use native.Mathlib.Omega.{arith}
+use lib.ListN.{set, length-set}
+use mir.Facts.{to_z-of_z}
+use Rattle.effects.proofs.put_three.Goals as goal
+
+pub bounds-res-at-2 : goal.bounds-res-at-2
+bounds-res-at-2 c = simp length-set (omega arith)
+
+pub bounds-res-at-3 : goal.bounds-res-at-3
+bounds-res-at-3 c = simp length-set (omega arith)
+
+pub returns : goal.returns
+returns c =
+    let s = c.args in
+    λ i. set (set (set s.result.now s.at (to_z-of_z c.ranges.a i)) (add-one s.at i) (to_z-of_z c.ranges.b i)) (add-two s.at i) (to_z-of_z c.ranges.c i)

@@ -1,0 +1,73 @@
+-- `relinked` meets its contract.
+use mathlib.Core.Path.{sym, ap, ◌∙◌, subst}
+use Prim.Native.Nat.{ℕ, ◌+◌, ◌*◌, ◌-◌, ◌/◌, ◌^◌, ◌≤◌, ◌<◌}
+use native.Mathlib.Nat.{lt_of_le_of_lt}
+use native.Mathlib.Omega.{arith}
+use lib.Dec.{T}
+use lib.IntN.{ℤ, pos, negsuc, nat_abs}
+use lib.Signed.{non_neg}
+use mir.Syntax.{w64}
+use mir.Val.{SFits, to_z, of_z}
+use mir.Facts.{to_z-of_z, to_z_pos}
+use Rattle.channel.specs.Layout.{channels, effects, header_size, record_size}
+use Rattle.channel.specs.Recast.{relink}
+use Rattle.store.proofs.Words.{Casts, read, fits-abs}
+use Rattle.effects.proofs.Summing.{dim_square}
+use Rattle.effects.proofs.Linking.{zero_word, link_start, relink-at, record_less, link_less}
+use Rattle.effects.proofs.relinked.Lts as lts
+use Rattle.effects.proofs.relinked.Reads as reads
+use Rattle.effects.proofs.relinked.Tie as tie
+use Rattle.effects.proofs.relinked.Goals as goal
+
+abbrev Else-z-eq0 : Type 0
+Else-z-eq0 = lts.Else1 tie.the-claims reads.Pre reads.Post
+
+abbrev After-record_size : Type 0
+After-record_size = lts.After-record_size2 tie.the-claims reads.Pre reads.Post
+
+starts : (c : Else-z-eq0) → T (non_neg c.args.z) × (header_size ≤ nat_abs c.args.z)
+starts c = let s = c.before in link_start s.args.d s.args.z s.ranges.z s.requires c.if-z-eq0.false
+
+-- the matching index is no greater
+less : (c : After-record_size) → header_size + (nat_abs (to_z w64 (of_z w64 c.args.z)) - header_size) / c.record_size-size.result * c.record_size.result < 2 ^ 63
+less c =
+    let s = c.before.before.before in
+    let d = s.args.d in
+    let bound : nat_abs s.args.z < 2 ^ 63 = small s.args.z s.ranges.z (starts c.before.before).0 in
+    subst (λ (n : ℕ). n < 2 ^ 63) (sym (λ i. header_size + (nat_abs (to_z-of_z s.ranges.z i) - header_size) / c.record_size-size.ensures i * c.record_size.ensures i))
+    (lt_of_le_of_lt (link_less (nat_abs s.args.z) (record_size (channels d)) (record_size (effects d)) (record_less s.requires.dim) (starts c.before.before).1) bound)
+  where
+    small : (z : ℤ) → SFits w64 z → T (non_neg z) → nat_abs z < 2 ^ 63
+    small (pos a) f t = f.sfits
+    small (negsuc a) f t = absurd t
+
+pub returns-then-z-eq0 : goal.returns-then-z-eq0
+returns-then-z-eq0 c = let s = c.before in sym (ap (relink (channels s.args.d) (effects s.args.d)) (zero_word s.args.z s.ranges.z c.if-z-eq0.true))
+
+pub overflow_mul-d : goal.overflow_mul-d
+overflow_mul-d c = let q = dim_square c.requires.dim in omega arith
+
+pub record_size-size-requires : goal.record_size-size-requires
+record_size-size-requires c = dim_square c.requires.dim
+
+pub overflow_cast-place : goal.overflow_cast-place
+overflow_cast-place c = let s = c.before.before in let k = starts c.before in read s.ranges.z (Casts w64) (k.0, fits-abs s.args.z s.ranges.z k.0)
+
+pub overflow_sub-place : goal.overflow_sub-place
+overflow_sub-place c = let s = c.before.before in read s.ranges.z (λ (z : ℤ). header_size ≤ nat_abs z) (starts c.before).1
+
+pub overflow_mul-to : goal.overflow_mul-to
+overflow_mul-to c = let q = less c in omega arith
+
+pub overflow_add-to : goal.overflow_add-to
+overflow_add-to c = let q = less c in omega arith
+
+pub overflow_cast-result : goal.overflow_cast-result
+overflow_cast-result c = record { sfits = less c }
+
+pub returns : goal.returns
+returns c =
+    let s = c.before.before.before in
+    to_z_pos w64 (less c)
+    ∙ (λ i. pos (header_size + (nat_abs (to_z-of_z s.ranges.z i) - header_size) / c.record_size-size.ensures i * c.record_size.ensures i))
+    ∙ sym (relink-at s.args.d s.args.z (starts c.before.before).1)

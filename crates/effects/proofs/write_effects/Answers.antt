@@ -1,0 +1,41 @@
+-- `write_effects` meets its contract.
+use mathlib.Core.Path.{◌≡◌, sym, ap, ◌∙◌, subst}
+use Prim.Native.Nat.{ℕ, ◌+◌, ◌*◌, ◌≤◌}
+use native.Mathlib.Omega.{arith}
+use lib.ListN.{length, length-set}
+use lib.Seq.{sets}
+use Rattle.channel.specs.Layout.{effects, header_size, record_size}
+use Rattle.channel.proofs.Chain.{header_long}
+use Rattle.effects.specs.Effects.{effect_header, with_records}
+use Rattle.effects.specs.Inner.Strides.{strided_at}
+use Rattle.effects.proofs.Answers.{ready_linked, ready_records, ready_fit, ready_room}
+use Rattle.effects.proofs.write_effects.Goals as goal
+
+pub write_header-requires : goal.write_header-requires
+write_header-requires c =
+    let l = c.args.s.now in
+    let r = c.requires.0 in
+    let q = r.room in
+    (ready_linked l _ _ _ r, (header_long l r.form, omega arith))
+
+pub write_records-requires : goal.write_records-requires
+write_records-requires c =
+    let r = c.requires.0 in
+    let e : length c.write_header.new.1.1.0 ≡ length c.args.res.now = ap length c.write_header.ensures ∙ simp length-set in (
+      ready_records _ _ _ _ r,
+      (
+        c.requires.1,
+        (
+          ready_fit _ _ _ _ r,
+          subst (λ (m : ℕ). header_size + c.args.n * record_size (effects c.args.d) ≤ m) (sym e) (ready_room _ _ _ _ r),
+        ),
+      ),
+    )
+
+pub returns : goal.returns
+returns c =
+    let a = c.args in
+    let r = c.requires.0 in
+    let records = with_records (strided_at a.rows a.cols) a.s.now in
+    c.write_records.ensures ∙ ap (records a.d a.n) c.write_header.ensures
+    ∙ (λ i. records (r.dim i) (r.count i) (sets a.result.now 0 (effect_header a.s.now (r.dim i))))

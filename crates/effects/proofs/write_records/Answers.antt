@@ -1,0 +1,113 @@
+-- `write_records` meets its contract.
+use mathlib.Core.Path.{◌≡◌, sym, ap, ◌∙◌, subst}
+use Prim.Native.Nat.{ℕ, ◌+◌, ◌*◌, ◌-◌, ◌≤◌}
+use native.Mathlib.Nat.{le_of_eq}
+use native.Mathlib.Omega.{arith}
+use lib.ListN.{length}
+use lib.Seq.{sets}
+use Rattle.algebra.proofs.Tests.{all-at}
+use Rattle.algebra.proofs.Blocks.{Writing, begin, again, done, long, block_in_lem}
+use Rattle.channel.specs.Layout.{channels, effects, header_size, record_size, record_at}
+use Rattle.effects.specs.Effects.{record_fits, effect_record}
+use Rattle.effects.specs.Inner.Readable.{Readable}
+use Rattle.effects.specs.Inner.Strides.{strided_at}
+use Rattle.effects.proofs.Summing.{dim_square}
+use Rattle.effects.proofs.Records.{record_length}
+use Rattle.effects.proofs.write_records.Lts as lts
+use Rattle.effects.proofs.write_records.Reads as reads
+use Rattle.effects.proofs.write_records.Tie as tie
+use Rattle.effects.proofs.write_records.Goals as goal
+
+abbrev In-loop-j : Type 0
+In-loop-j = lts.In-loop tie.the-claims reads.Pre reads.Post goal.the-invariant-loop-j goal.the-decreases-loop-j
+
+abbrev Start : Type 0
+Start = lts.Start tie.the-claims reads.Pre reads.Post goal.the-invariant-loop-j goal.the-decreases-loop-j
+
+module _ (c : In-loop-j) where
+  abbrev start : Start
+  start = c.before.before.before.before
+
+  abbrev j : ℕ
+  j = c.loop-j.j
+
+  -- where the block lies, and where its effect goes
+  at : header_size + j * c.record_size-from.result ≡ record_at (channels start.args.d) j
+  at = ap (λ (r : ℕ). header_size + j * r) c.record_size-from.ensures
+
+  to : header_size + j * c.record_size-to.result ≡ record_at (effects start.args.d) j
+  to = ap (λ (r : ℕ). header_size + j * r) c.record_size-to.ensures
+
+  inside : header_size + j * c.record_size-from.result ≤ length start.args.s.now
+  inside = subst (λ (a : ℕ). a ≤ length start.args.s.now) (sym at) (let q = (start.requires.0.each j c.loop-j-test.true).inside in omega arith)
+
+  fits : record_at (effects start.args.d) j + record_size (effects start.args.d) ≤ length c.loop-j.result
+  fits = by (record_size (effects start.args.d)) start.requires.1.1.1 (long c.loop-j.invariant)
+    where
+      by : (r : ℕ) → header_size + start.args.n * r ≤ length start.args.res.now → length c.loop-j.result ≡ length start.args.res.now → header_size + j * r + r ≤ length c.loop-j.result
+      by r p e = let q = block_in_lem c.loop-j-test.true r in omega arith
+
+  room_for : header_size + j * c.record_size-to.result + record_size (effects start.args.d) ≤ length c.loop-j.result
+  room_for = subst (λ (a : ℕ). a + record_size (effects start.args.d) ≤ length c.loop-j.result) (sym to) fits
+
+  room : header_size + j * c.record_size-to.result ≤ length start.args.res.now
+  room = let e = long c.loop-j.invariant in omega arith
+
+pub overflow_mul-d : goal.overflow_mul-d
+overflow_mul-d c = let q = dim_square c.requires.0.dim in omega arith
+
+pub record_size-from-requires : goal.record_size-from-requires
+record_size-from-requires c = dim_square c.requires.0.dim
+
+pub record_size-to-requires : goal.record_size-to-requires
+record_size-to-requires c = let q = c.requires.0.dim.small in omega arith
+
+pub loop-j-init : goal.loop-j-init
+loop-j-init c = let s = c.args in begin (λ k. le_of_eq (record_length (strided_at s.rows s.cols) s.s.now s.d (record_at (channels s.d) k)))
+
+pub overflow_mul-j : goal.overflow_mul-j
+overflow_mul-j c = let q = inside c in omega arith
+
+pub overflow_add-j : goal.overflow_add-j
+overflow_add-j c = let q = inside c in omega arith
+
+pub overflow_mul-j-in-loop-j : goal.overflow_mul-j-in-loop-j
+overflow_mul-j-in-loop-j c = let q = room c.before in omega arith
+
+pub overflow_add-j-in-loop-j : goal.overflow_add-j-in-loop-j
+overflow_add-j-in-loop-j c = let q = room c.before in omega arith
+
+pub write_record-requires : goal.write_record-requires
+write_record-requires c =
+    let n = c.before in
+    let s = start n in
+    let j = n.loop-j.j in (
+      record {
+        block = subst (λ (a : ℕ). Readable s.args.s.now a s.args.d) (sym (at n)) (s.requires.0.each j n.loop-j-test.true);
+        strides = s.requires.1.0;
+        fit = ap (λ (a : ℕ). record_fits s.args.s.now a s.args.d) (at n)
+            ∙ all-at s.args.n (λ (k : ℕ). record_fits s.args.s.now (record_at (channels s.args.d) k) s.args.d) s.requires.1.1.0 j n.loop-j-test.true;
+      },
+      room_for n,
+    )
+
+pub overflow_add-j-in-loop-j-2 : goal.overflow_add-j-in-loop-j-2
+overflow_add-j-in-loop-j-2 c = omega arith
+
+pub loop-j-smaller : goal.loop-j-smaller
+loop-j-smaller c = omega arith
+
+pub loop-j-preserved : goal.loop-j-preserved
+loop-j-preserved c =
+    let w = c.before in
+    let n = w.before.before in
+    let s = (start n).args in
+    let recorded = effect_record (strided_at s.rows s.cols) s.s.now s.d in
+    let from = header_size + j n * n.record_size-from.result in
+    again n.loop-j.invariant n.loop-j-test.true (w.write_record.ensures ∙ ap (λ (a : ℕ). sets n.loop-j.result a (recorded from)) (to n)) (ap recorded (at n))
+
+pub shape_of-res : goal.shape_of-res
+shape_of-res c = long c.loop-j.invariant
+
+pub returns : goal.returns
+returns c = done c.loop-j.invariant c.loop-j-test.false

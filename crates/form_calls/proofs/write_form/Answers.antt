@@ -1,0 +1,84 @@
+-- `write_form` meets its contract.
+use mathlib.Core.Path.{◌≡◌, sym, ap, ◌∙◌, subst}
+use mathlib.Core.Bool.{Bool, true, cond}
+use mathlib.Core.List.{List}
+use Prim.Native.Nat.{◌*◌}
+use native.Mathlib.Omega.{arith}
+use lib.IntN.{ℤ}
+use borrow.Author.Tests.{not-true, not-false}
+use Rattle.verdict.specs.Verdict.{accepted}
+use Rattle.channel.specs.declared.Shape.{Shape}
+use Rattle.channel.specs.Inner.Shapes.{shape_at}
+use Rattle.recast.specs.declared.Parts.{Parts}
+use Rattle.recast.specs.Words.{form_of, form_in, recast_into}
+use Rattle.recast.specs.Inner.Records.{Ready}
+use Rattle.form_calls.specs.Calls.{own, write_verdict}
+use Rattle.form_calls.proofs.Answers.{full, shape_verdict, shape-accepted, write_same, write_ready}
+use Rattle.form_calls.proofs.write_form.Lts as lts
+use Rattle.form_calls.proofs.write_form.Reads as reads
+use Rattle.form_calls.proofs.write_form.Tie as tie
+use Rattle.form_calls.proofs.write_form.Goals as goal
+
+abbrev After-is_accepted : Type 0
+After-is_accepted = lts.After-is_accepted tie.the-claims reads.Pre reads.Post
+
+abbrev Start : Type 0
+Start = lts.Start tie.the-claims reads.Pre reads.Post
+
+abbrev Else-not-is_accepted : Type 0
+Else-not-is_accepted = lts.Else1 tie.the-claims reads.Pre reads.Post
+
+module _ (k : After-is_accepted) where
+  abbrev start : Start
+  start = k.before.before.before
+
+  abbrev l : List ℤ
+  l = start.args.channel.now
+
+  abbrev f : Parts
+  f = start.args.f
+
+  abbrev res : List ℤ
+  res = start.args.res.now
+
+  abbrev shape : Shape
+  shape = k.judge_write-h.result
+
+  verdict_is : shape.verdict ≡ write_verdict f l res
+  verdict_is = shape_verdict l shape (write_verdict f l res) k.judge_write-h.ensures (write_same f l res)
+
+  tested : k.is_accepted.result ≡ accepted (write_verdict f l res)
+  tested = k.is_accepted.ensures ∙ ap accepted verdict_is
+
+  -- the words that go with the verdict
+  abbrev words_by : Bool → List ℤ
+  words_by b = cond b (recast_into (own l) (form_in f l) l res) res
+
+module _ (c : Else-not-is_accepted) where
+  abbrev k : After-is_accepted
+  k = c.before
+
+  both : (accepted (write_verdict (f k) (l k) (res k)) ≡ true) × (shape k ≡ shape_at (l k))
+  both = shape-accepted (l k) (shape k) (write_verdict (f k) (l k) (res k)) k.judge_write-h.ensures (write_same (f k) (l k) (res k)) (sym k.is_accepted.ensures ∙ c.if-not-is_accepted.false)
+
+  able : Ready (form_of ((shape k).dim * (shape k).dim) full) (form_of ((shape k).dim * (shape k).dim) (f k)) (l k) (shape k).count (res k)
+  able = subst (λ (h : Shape). Ready (form_of (h.dim * h.dim) full) (form_of (h.dim * h.dim) (f k)) (l k) h.count (res k)) (sym both.1) (write_ready (f k) (l k) (res k) both.0)
+
+pub returns-then-not-is_accepted : goal.returns-then-not-is_accepted
+returns-then-not-is_accepted c = let h = c.before in (verdict_is h, ap (words_by h) (sym (sym (tested h) ∙ c.if-not-is_accepted.true)))
+
+pub overflow_mul-d : goal.overflow_mul-d
+overflow_mul-d c = let r = (able c).width in omega arith
+
+pub recast-requires : goal.recast-requires
+recast-requires c = able c.before
+
+pub returns : goal.returns
+returns c =
+    let w = c.before in
+    let e = w.before.before in
+    let h = k e in (
+      verdict_is h,
+      w.recast.ensures ∙ ap (λ (s : Shape). recast_into (form_of (s.dim * s.dim) full) (form_of (s.dim * s.dim) (f h)) (l h) (res h)) (both e).1
+          ∙ ap (words_by h) (sym (both e).0),
+    )

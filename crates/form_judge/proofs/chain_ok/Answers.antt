@@ -1,0 +1,146 @@
+-- `chain_ok` meets its contract.
+use mathlib.Core.Path.{◌≡◌, sym, ap, ◌∙◌}
+use mathlib.Core.Bool.{true, false, ◌&&◌}
+use Prim.Native.Nat.{ℕ, ◌+◌, ◌*◌, ◌-◌, ◌<◌, ◌≤◌}
+use native.Mathlib.Nat.{le_trans}
+use native.Mathlib.Omega.{arith}
+use mathlib.Core.List.{List}
+use lib.Dec.{T}
+use lib.ListN.{length}
+use lib.IntN.{ℤ, nat_abs}
+use lib.Signed.{non_neg}
+use mir.Syntax.{w64}
+use mir.Val.{to_z}
+use borrow.Author.Tests.{not-true, not-false}
+use Rattle.algebra.specs.Words.{up_to}
+use Rattle.algebra.proofs.Signed.{reads}
+use Rattle.algebra.proofs.Tests.{and_split}
+use Rattle.store.specs.Store.{max_word}
+use Rattle.channel.specs.Layout.{Form, record_head, block_size, record_size, word}
+use Rattle.channel.specs.WellFormed.{is_start, store_ok, record_ok, chain_ok}
+use Rattle.channel.proofs.Words.{bits-zero, Starts, starts, starts-inside}
+use Rattle.channel.proofs.Judging.{no_start, no_record, goes_on, chain-end}
+use Rattle.recast.specs.Words.{form_of}
+use Rattle.form_judge.proofs.chain_ok.Lts as lts
+use Rattle.form_judge.proofs.chain_ok.Reads as reads
+use Rattle.form_judge.proofs.chain_ok.Tie as tie
+use Rattle.form_judge.proofs.chain_ok.Goals as goal
+
+abbrev Else-not-is_start : Type 0
+Else-not-is_start = lts.Else1 tie.the-claims reads.Pre reads.Post goal.the-invariant-loop-left goal.the-decreases-loop-left
+
+abbrev At-loop-left : Type 0
+At-loop-left = lts.At-loop tie.the-claims reads.Pre reads.Post goal.the-invariant-loop-left goal.the-decreases-loop-left
+
+abbrev Start : Type 0
+Start = lts.Start tie.the-claims reads.Pre reads.Post goal.the-invariant-loop-left goal.the-decreases-loop-left
+
+abbrev Else-not-record_ok : Type 0
+Else-not-record_ok = lts.Else2 tie.the-claims reads.Pre reads.Post goal.the-invariant-loop-left goal.the-decreases-loop-left
+
+-- the record that comes next
+module _ (c : Else-not-is_start) where
+  abbrev turn : At-loop-left
+  turn = c.before.before.before
+
+  abbrev start : Start
+  start = turn.before.before
+
+  abbrev index : ℤ
+  index = to_z w64 turn.loop-left.z-bits
+
+  abbrev F : Form
+  F = form_of start.args.w start.args.f
+
+  tested : is_start F start.args.count index ≡ true
+  tested = sym c.is_start.ensures ∙ c.if-not-is_start.false
+
+  found : T (non_neg index) × Starts F start.args.count (nat_abs index)
+  found = starts F start.args.count index tested
+
+  inside : nat_abs index + record_size F ≤ length start.args.s.now
+  inside = le_trans (starts-inside found.1) start.requires.inside
+
+  head : nat_abs index + record_head ≤ length start.args.s.now
+  head = by (block_size F) inside
+    where
+      by : (b : ℕ) → nat_abs index + (record_head + b) ≤ length start.args.s.now → nat_abs index + record_head ≤ length start.args.s.now
+      by b h = omega arith
+
+-- it is right
+module _ (c : Else-not-record_ok) where
+  abbrev next : Else-not-is_start
+  next = c.before.before
+
+  right : record_ok (F next) (start next).args.s.now (start next).args.m (nat_abs (index next)) (turn next).loop-left.first (turn next).loop-left.prev ≡ true
+  right = sym c.record_ok.ensures ∙ c.if-not-record_ok.false
+
+  words : (let l = (start next).args.s.now in let a = nat_abs (index next) in (up_to max_word (word l (a + 1)) ≡ true) × (up_to max_word (word l (a + 2)) ≡ true))
+  words =
+      let l = (start next).args.s.now in
+      let a = nat_abs (index next) in
+      and_split (up_to max_word (word l (a + 1))) _ (and_split (up_to max_word (word l (a + 1)) && up_to max_word (word l (a + 2))) _ (and_split (store_ok l a (start next).args.m) _ right).0).0
+
+pub bounds-s-3 : goal.bounds-s-3
+bounds-s-3 c = by (record_size (form_of c.args.w c.args.f)) c.requires.inside
+  where
+    by : (r : ℕ) → 4 + c.args.count * r ≤ length c.args.s.now → 3 < length c.args.s.now
+    by r h = omega arith
+
+pub loop-left-init : goal.loop-left-init
+loop-left-init c =
+    let s = c.args in
+    (omega arith, ap (λ (z : ℤ). chain_ok (form_of s.w s.f) s.s.now s.m s.count s.count z true 0) (sym (reads (word s.s.now 3) c.z-1.given)))
+
+pub is_start-requires : goal.is_start-requires
+is_start-requires c = c.requires.width
+
+pub returns-then-not-is_start : goal.returns-then-not-is_start
+returns-then-not-is_start c =
+    let a = c.before in
+    let l = a.before.before in
+    sym (l.loop-left.invariant.1 ∙ no_start _ _ _ _ _ _ _ _ a.loop-left-test.true (sym a.is_start.ensures ∙ c.if-not-is_start.true))
+
+pub overflow_cast-at : goal.overflow_cast-at
+overflow_cast-at c = ((found c).0, record { fits = omega (arith, head c) })
+
+pub record_ok-requires : goal.record_ok-requires
+record_ok-requires c = ((start c).requires.width, ((start c).requires.few, inside c))
+
+pub returns-then-not-record_ok : goal.returns-then-not-record_ok
+returns-then-not-record_ok c =
+    let j = c.before in
+    let e = j.before in
+    sym ((turn e).loop-left.invariant.1 ∙ no_record _ _ _ _ _ _ _ _ e.loop-left-test.true (tested e) (sym j.record_ok.ensures ∙ c.if-not-record_ok.true))
+
+pub offset_bounds-s-at : goal.offset_bounds-s-at
+offset_bounds-s-at c = omega (arith, head (next c))
+
+pub bounds-s-at : goal.bounds-s-at
+bounds-s-at c = omega (arith, head (next c))
+
+pub read_store-prev-requires : goal.read_store-prev-requires
+read_store-prev-requires c = let e = c.before in (head (next e), words e)
+
+pub overflow_sub-left : goal.overflow_sub-left
+overflow_sub-left c = omega arith
+
+pub loop-left-smaller : goal.loop-left-smaller
+loop-left-smaller c = omega arith
+
+pub loop-left-preserved : goal.loop-left-preserved
+loop-left-preserved c =
+    let g = c.before.before in
+    let e = next g in
+    let l = (turn e).loop-left in
+    let s = (start e).args in
+    let at = nat_abs (to_z w64 l.z-1) in (
+      omega arith,
+      l.inv.1 ∙ goes_on _ _ _ _ l.left (to_z w64 l.z-1) l.first l.prev e.loop-left-test.true (tested e) (right g)
+          ∙ (λ i. chain_ok (F e) s.s.now s.m s.count (l.left - 1) (sym (reads (word s.s.now at) c.z-in-loop-left-1.given) i) false (sym c.read_store-prev.ensures i)),
+    )
+
+pub returns : goal.returns
+returns c =
+    let l = c.loop-left in
+    bits-zero l.z-1 ∙ sym (l.invariant.1 ∙ chain-end _ _ _ _ l.left (to_z w64 l.z-1) l.first l.prev c.loop-left-test.false)

@@ -1,0 +1,116 @@
+-- `diagonal_ok` meets its contract.
+use mathlib.Core.Path.{◌≡◌, refl, sym, ap, ◌∙◌}
+use mathlib.Core.Bool.{Bool, true, false, not, ◌||◌}
+use Prim.Native.Nat.{ℕ, ◌+◌, ◌*◌, ◌-◌, ◌≤◌}
+use native.Mathlib.Omega.{arith}
+use lib.ListN.{length}
+use borrow.Author.Tests.{not-true, not-false}
+use Rattle.algebra.specs.Lists.{all_below}
+use Rattle.algebra.proofs.Tests.{all-step, all_no}
+use Rattle.exact.specs.Exact.{number_of}
+use Rattle.channel.specs.Layout.{Form, record_head, entry_size, numbers_at}
+use Rattle.channel.specs.WellFormed.{is_real}
+use Rattle.recast.specs.Words.{form_of}
+use Rattle.recast.specs.Inner.Records.{Kept}
+use Rattle.recast.proofs.Places.{kept-inside, number-kept, read_is}
+use Rattle.form_judge.proofs.Blocks.{from-own}
+use Rattle.form_judge.proofs.diagonal_ok.Lts as lts
+use Rattle.form_judge.proofs.diagonal_ok.Reads as reads
+use Rattle.form_judge.proofs.diagonal_ok.Tie as tie
+use Rattle.form_judge.proofs.diagonal_ok.Goals as goal
+
+abbrev Start : Type 0
+Start = lts.Start tie.the-claims reads.Pre reads.Post goal.the-invariant-loop-r goal.the-decreases-loop-r
+
+abbrev In-loop-r : Type 0
+In-loop-r = lts.In-loop tie.the-claims reads.Pre reads.Post goal.the-invariant-loop-r goal.the-decreases-loop-r
+
+abbrev After-place : Type 0
+After-place = lts.After-place tie.the-claims reads.Pre reads.Post goal.the-invariant-loop-r goal.the-decreases-loop-r
+
+abbrev After-is_real : Type 0
+After-is_real = lts.After-is_real tie.the-claims reads.Pre reads.Post goal.the-invariant-loop-r goal.the-decreases-loop-r
+
+abbrev Else-not-f : Type 0
+Else-not-f = lts.Else1 tie.the-claims reads.Pre reads.Post goal.the-invariant-loop-r goal.the-decreases-loop-r
+
+module _ (s : Start) where
+  abbrev F : Form
+  F = form_of s.args.w s.args.f
+
+  abbrev real : ℕ → Bool
+  real k = is_real (numbers_at F s.args.s.now s.args.at (k * s.args.w + k))
+
+  abbrev test : Bool → Bool
+  test b = b || all_below s.args.w real
+
+abbrev start : In-loop-r → Start
+start c = c.before.before.before.before
+
+kept : (c : In-loop-r) → Kept (F (start c)) c.loop-r.r c.loop-r.r
+kept c = record { width = (start c).requires.0; row = c.loop-r-test.true; col = c.loop-r-test.true; after = from-own (F (start c)) c.loop-r.r }
+
+room : (c : After-place) → (let s = (start c.before).args in s.at + record_head + c.place.result + entry_size s.f.plain ≤ length s.s.now)
+room c = let s = start c.before in by _ _ _ _ _ (kept-inside (F s) (kept c.before) _ c.place.ensures) s.requires.1
+  where
+    by : (a q e b n : ℕ) → q + e ≤ b → a + (record_head + b) ≤ n → a + record_head + q + e ≤ n
+    by a q e b n h k = omega arith
+
+-- the entry that was read
+found : (c : After-is_real) → (let n = c.before.before.before in c.is_real.result ≡ real (start n) n.loop-r.r)
+found c =
+    let k = c.before in
+    let n = k.before.before in
+    let s = start n in
+    let r = n.loop-r.r in
+    c.is_real.ensures
+    ∙ ap is_real (ap number_of k.read_kept-x.ensures ∙ read_is (F s) s.args.s.now s.args.at r r _ k.place.ensures ∙ sym (number-kept (F s) s.args.s.now s.args.at r r (kept n).col (kept n).after))
+
+-- half is kept
+halved : (c : Else-not-f) → not c.args.f.half ≡ false
+halved c = c.if-not-f.false
+
+pub returns-then-not-f : goal.returns-then-not-f
+returns-then-not-f c = sym (ap (test c.before.before) c.if-not-f.true)
+
+pub loop-r-init : goal.loop-r-init
+loop-r-init c = (omega arith, refl)
+
+pub overflow_add-at : goal.overflow_add-at
+overflow_add-at c = let s = start c in omega (arith, s.requires.1)
+
+pub place-requires : goal.place-requires
+place-requires c = kept c
+
+pub overflow_add-at-in-loop-r : goal.overflow_add-at-in-loop-r
+overflow_add-at-in-loop-r c = let q = room c in omega arith
+
+pub read_kept-x-requires : goal.read_kept-x-requires
+read_kept-x-requires c = room c
+
+pub returns-then-not-is_real : goal.returns-then-not-is_real
+returns-then-not-is_real c =
+    let k = c.before in
+    let n = k.before.before.before in
+    let s = start n in
+    sym (ap (test s) (halved n.before.before) ∙ all_no s.args.w n.loop-r.r (real s) n.loop-r-test.true (sym (found k) ∙ c.if-not-is_real.true))
+
+pub overflow_add-r : goal.overflow_add-r
+overflow_add-r c = omega arith
+
+pub loop-r-smaller : goal.loop-r-smaller
+loop-r-smaller c = omega arith
+
+pub loop-r-preserved : goal.loop-r-preserved
+loop-r-preserved c =
+    let k = c.before in
+    let n = k.before.before.before in
+    let s = start n in
+    (omega arith, all-step n.loop-r.r (real s) n.loop-r.invariant.1 (sym (found k) ∙ c.if-not-is_real.false))
+
+pub returns : goal.returns
+returns c =
+    let a = c.before in
+    let s = a.before.before.before in
+    let e : s.args.w ≡ a.loop-r.r = omega (arith, a.loop-r.invariant.0, c.loop-r-test.false) in
+    sym (ap (test s) (halved a.before) ∙ ap (λ (k : ℕ). all_below k (real s)) e ∙ a.loop-r.invariant.1)

@@ -1,0 +1,140 @@
+-- `header` meets its contract.
+use mathlib.Core.Path.{◌≡◌, sym, ap, ◌∙◌}
+use mathlib.Core.Bool.{Bool, true, false, ◌&&◌}
+use mathlib.Core.List.{List}
+use Prim.Native.Nat.{◌*◌, ◌-◌, ◌/◌, ◌≤◌}
+use native.Mathlib.Omega.{arith}
+use lib.Dec.{leb, lit<}
+use lib.ListN.{length}
+use lib.IntN.{ℤ, nat_abs}
+use mir.Syntax.{w64, w32}
+use mir.Val.{SFits, to_z, of_z}
+use mir.Facts.{to_z-of_z}
+use borrow.Author.Tests.{not-true, not-false, le-leb, lt-leb}
+use Rattle.algebra.specs.Words.{up_to}
+use Rattle.verdict.specs.declared.Verdict.TheVariants.{Accepted, Malformed}
+use Rattle.algebra.proofs.Tests.{and_split}
+use Rattle.algebra.proofs.Signed.{cast_ok}
+use Rattle.channel.specs.declared.Shape.{Shape}
+use Rattle.channel.specs.Layout.{header_size, word, record_size}
+use Rattle.channel.specs.WellFormed.{is_dim, counted, header_ok, verdict_by}
+use Rattle.channel.specs.Inner.Shapes.{shape_by, no_shape}
+use Rattle.store.proofs.Words.{Casts, read, casts_up, up-abs}
+use Rattle.channel.proofs.Words.{dim_range, square_small}
+use Rattle.recast.specs.declared.Parts.{Parts}
+use Rattle.recast.specs.Words.{form_of, form_in}
+use Rattle.form_judge.proofs.header.Lts as lts
+use Rattle.form_judge.proofs.header.Reads as reads
+use Rattle.form_judge.proofs.header.Tie as tie
+use Rattle.form_judge.proofs.header.Goals as goal
+
+abbrev After-count-1 : Type 0
+After-count-1 = lts.After-count tie.the-claims reads.Pre reads.Post
+
+abbrev After-up_to : Type 0
+After-up_to = lts.After-up_to tie.the-claims reads.Pre reads.Post
+
+abbrev Else-not-is_dim-up_to : Type 0
+Else-not-is_dim-up_to = lts.Else2 tie.the-claims reads.Pre reads.Post
+
+abbrev After-up_to-2 : Type 0
+After-up_to-2 = lts.After-up_to2 tie.the-claims reads.Pre reads.Post
+
+abbrev words : After-count-1 → List ℤ
+words c = c.args.s.now
+
+abbrev parts : After-count-1 → Parts
+parts c = c.args.f
+
+module _ (c : After-count-1) where
+  dim : SFits w64 (word (words c) 0)
+  dim = record { sfits = c.dim-1.given }
+
+  bits : SFits w64 (word (words c) 1)
+  bits = record { sfits = c.bits-1.given }
+
+  count : SFits w64 (word (words c) 2)
+  count = record { sfits = c.count-1.given }
+
+  long : leb header_size (length (words c)) ≡ true
+  long = le-leb header_size _ c.if-s-lt-HEADER.false
+
+-- dimension and bit count
+both : (c : After-up_to) → (c.is_dim.result && c.up_to.result) ≡ (is_dim (word (words c.before.before) 0) && up_to 64 (word (words c.before.before) 1))
+both c = let a = c.before.before in λ i. (c.is_dim.ensures ∙ ap is_dim (to_z-of_z (dim a))) i && (c.up_to.ensures ∙ ap (up_to 64) (to_z-of_z (bits a))) i
+
+module _ (c : Else-not-is_dim-up_to) where
+  abbrev a : After-count-1
+  a = c.before.before.before
+
+  right : (is_dim (word (words a) 0) && up_to 64 (word (words a) 1)) ≡ true
+  right = sym (both c.before) ∙ c.if-not-is_dim-up_to.false
+
+  range : (up_to 16 (word (words a) 0) ≡ true) × (1 ≤ nat_abs (word (words a) 0))
+  range = dim_range (word (words a) 0) (and_split _ _ right).0
+
+  small : nat_abs (to_z w64 (of_z w64 (word (words a) 0))) ≤ 16
+  small = read (dim a) (λ (z : ℤ). nat_abs z ≤ 16) (up-abs 16 (word (words a) 0) range.0)
+
+-- room for the records
+counts : (c : After-up_to-2) → c.up_to-2.result ≡ counted (form_in (parts (a c.before.before)) (words (a c.before.before))) (words (a c.before.before))
+counts c =
+    let l = words (a c.before.before) in
+    c.up_to-2.ensures
+    ∙ (λ i. up_to ((length l - header_size) / c.record_size-size.ensures i) (to_z-of_z (count (a c.before.before)) i))
+    ∙ ap (λ (z : ℤ). up_to ((length l - header_size) / record_size (form_of (nat_abs z * nat_abs z) (parts (a c.before.before)))) (word l 2)) (to_z-of_z (dim (a c.before.before)))
+
+-- the header by its three tests
+refused : (f : Parts) (l : List ℤ) (s : Shape) → s ≡ no_shape Malformed → header_ok (form_in f l) l ≡ false → s ≡ shape_by (verdict_by (header_ok (form_in f l) l) false) l
+refused p l s e f = e ∙ ap (λ (b : Bool). shape_by (verdict_by b false) l) (sym f)
+
+pub returns-then-s-lt-HEADER : goal.returns-then-s-lt-HEADER
+returns-then-s-lt-HEADER c =
+    let l = c.args.s.now in
+    let p = c.args.f in
+    refused p l _ c.no_shape.ensures (ap (λ (b : Bool). b && ((is_dim (word l 0) && up_to 64 (word l 1)) && counted (form_in p l) l)) (lt-leb header_size (length l) c.if-s-lt-HEADER.true))
+
+pub returns-then-not-is_dim-up_to : goal.returns-then-not-is_dim-up_to
+returns-then-not-is_dim-up_to c =
+    let u = c.before.before in
+    let l = words u.before.before in
+    refused (parts u.before.before) l _ c.no_shape-then-not-is_dim-up_to.ensures (λ i. long u.before.before i && ((sym (both u) ∙ c.if-not-is_dim-up_to.true) i && counted (form_in (parts u.before.before) l) l))
+
+pub overflow_cast-d : goal.overflow_cast-d
+overflow_cast-d c = read (dim (a c)) (Casts w64) (cast_ok 16 (word (words (a c)) 0) (range c).0 (record { fits = lit< tt }))
+
+pub overflow_mul-d : goal.overflow_mul-d
+overflow_mul-d c = omega (arith, square_small _ (small c))
+
+pub record_size-size-requires : goal.record_size-size-requires
+record_size-size-requires c = square_small _ (small c)
+
+pub returns-then-not-up_to : goal.returns-then-not-up_to
+returns-then-not-up_to c =
+    let u = c.before.before in
+    let e = u.before.before in
+    let l = words (a e) in
+    refused (parts (a e)) l _ c.no_shape-then-not-up_to.ensures (λ i. long (a e) i && (right e i && (sym (counts u) ∙ c.if-not-up_to.true) i))
+
+pub overflow_cast-m : goal.overflow_cast-m
+overflow_cast-m c =
+    let e = c.before.before.before in
+    let l = words (a e) in
+    read (bits (a e)) (Casts w32) (cast_ok 64 (word l 1) (and_split (is_dim (word l 0)) (up_to 64 (word l 1)) (right e)).1 (record { fits = lit< tt }))
+
+pub overflow_cast-n : goal.overflow_cast-n
+overflow_cast-n c =
+    let e = c.before.before.before in
+    let l = words (a e) in
+    read (count (a e)) (Casts w64) (casts_up ((length l - header_size) / record_size (form_in (parts (a e)) l)) (word l 2) (count (a e)) (sym (counts c.before) ∙ c.if-not-up_to.false))
+
+pub returns : goal.returns
+returns c =
+    let u = c.before in
+    let e = u.before.before in
+    let l = words (a e) in
+    let d = to_z-of_z (dim (a e)) in
+    let b = to_z-of_z (bits (a e)) in
+    let n = to_z-of_z (count (a e)) in
+    let ok : header_ok (form_in (parts (a e)) l) l ≡ true = λ i. long (a e) i && (right e i && (sym (counts u) ∙ c.if-not-up_to.false) i) in
+    (λ i. record { verdict = Accepted; dim = nat_abs (d i); bits = nat_abs (b i); count = nat_abs (n i) }) ∙ ap (λ (b : Bool). shape_by (verdict_by b false) l) (sym ok)

@@ -1,0 +1,18 @@
+-- `row_fits` meets its contract.
+use mathlib.Core.Path.{◌≡◌, refl, sym, ap, ◌∙◌}
+use mathlib.Core.Bool.{Bool, true}
+use Prim.Native.Nat.{ℕ, ◌-◌, ◌≤◌}
+use native.Mathlib.Omega.{arith}
+use borrow.Author.Tests.{not-true, not-false}
+use Rattle.algebra.specs.Lists.{all_below}
+use Rattle.algebra.proofs.Tests.{all-step, all_no}
+use Rattle.channel.specs.Layout.{numbers_at}
+use Rattle.recast.specs.Words.{form_of}
+use Rattle.form_judge.specs.Inner.Judging.{cell_fits}
+use Rattle.form_judge.proofs.row_fits.Given as goal
+
+abbrev pub invariant-loop-c : goal.invariant-loop-c
+invariant-loop-c l = (l.c ≤ l.w) × (all_below l.c (cell_fits l.to.half l.to.plain l.w (numbers_at (form_of l.w l.f) l.s l.at) l.r) ≡ true)
+
+abbrev pub decreases-loop-c : goal.decreases-loop-c
+decreases-loop-c l = l.w - l.c

@@ -1,0 +1,131 @@
+-- The invariant: the entries of the first r rows are written.
+use mathlib.Core.Path.{◌≡◌, sym, ap, subst, ◌∙◌}
+use Prim.Native.Nat.{ℕ, ◌+◌, ◌*◌, ◌-◌, ◌/◌, ◌<◌, ◌≤◌}
+use native.Mathlib.Nat.{le_refl}
+use native.Mathlib.Omega.{arith}
+use lib.ListN.{length}
+use Rattle.algebra.proofs.Blocks.{Writing, begin, again, done, long, blocks-same}
+use Rattle.exact.specs.Exact.{Exact}
+use Rattle.scalar.specs.declared.Scalar.{Scalar}
+use Rattle.scalar.specs.Calls.{value}
+use Rattle.gate.specs.declared.rows.Pair.{Pair}
+use Rattle.cells.specs.Cells.{cell_size, cell_words}
+use Rattle.gate.specs.Inner.Entries.{Table, pair_of, side, row_pair}
+use Rattle.gate.proofs.Masks.{row-entry, side-own, side-other}
+use Rattle.gate.proofs.rows.write_rows.Lts as lts
+use Rattle.gate.proofs.rows.write_rows.Reads as reads
+use Rattle.gate.proofs.rows.write_rows.Tie as tie
+use Rattle.gate.proofs.rows.write_rows.Goals as goal
+
+abbrev After-controls-held : Type 0
+After-controls-held = lts.After-controls tie.the-claims reads.Pre reads.Post goal.the-invariant-loop-r goal.the-decreases-loop-r
+
+abbrev After-row_pair-p : Type 0
+After-row_pair-p = lts.After-row_pair tie.the-claims reads.Pre reads.Post goal.the-invariant-loop-r goal.the-decreases-loop-r
+
+-- the pairs of the rows, by what is known before the loop
+abbrev pairs : After-controls-held → ℕ → Pair
+pairs h = row_pair h.pair_of-low.result h.pair_of-high.result h.controls-held.result h.args.m
+
+-- the words of the pair of row r
+module _ (v : After-row_pair-p) where
+  abbrev h : After-controls-held
+  h = v.before.before.before
+
+  abbrev r : ℕ
+  r = v.loop-r.r
+
+  own-words : cell_words (value v.row_pair-p.result.own) ≡ cell_words (value (side (pairs h (r * 2 / 2)) (r * 2)))
+  own-words = ap (λ (x : Scalar). cell_words (value x)) (ap (λ (p : Pair). p.own) v.row_pair-p.ensures ∙ side-own (pairs h) r)
+
+  other-words : cell_words (value v.row_pair-p.result.other) ≡ cell_words (value (side (pairs h ((r * 2 + 1) / 2)) (r * 2 + 1)))
+  other-words = ap (λ (x : Scalar). cell_words (value x)) (ap (λ (p : Pair). p.other) v.row_pair-p.ensures ∙ side-other (pairs h) r)
+
+  in_row : r * 2 + 1 < h.args.d * 2
+  in_row = omega (arith, v.loop-r-test.true)
+
+pub core_table-u-requires : goal.core_table-u-requires
+core_table-u-requires c = c.requires.1.1.1.1
+
+pub pair_of-low-requires : goal.pair_of-low-requires
+pair_of-low-requires c = omega arith
+
+pub pair_of-high-requires : goal.pair_of-high-requires
+pair_of-high-requires c = omega arith
+
+pub controls-held-requires : goal.controls-held-requires
+controls-held-requires c = let p = c.requires in (p.1.1.0, p.1.1.1.1)
+
+pub loop-r-init : goal.loop-r-init
+loop-r-init c = begin (λ k. le_refl cell_size)
+
+pub overflow_mul-to : goal.overflow_mul-to
+overflow_mul-to c = omega arith
+
+pub overflow_mul-to-in-loop-r : goal.overflow_mul-to-in-loop-r
+overflow_mul-to-in-loop-r c = omega arith
+
+pub overflow_add-to : goal.overflow_add-to
+overflow_add-to c = omega arith
+
+pub overflow_mul-next : goal.overflow_mul-next
+overflow_mul-next c = omega arith
+
+pub overflow_add-next : goal.overflow_add-next
+overflow_add-next c = omega arith
+
+pub overflow_mul-next-in-loop-r : goal.overflow_mul-next-in-loop-r
+overflow_mul-next-in-loop-r c = omega arith
+
+pub overflow_add-next-in-loop-r : goal.overflow_add-next-in-loop-r
+overflow_add-next-in-loop-r c = omega arith
+
+pub write_cell-requires : goal.write_cell-requires
+write_cell-requires c = omega (arith, long c.loop-r.invariant)
+
+pub write_cell-requires-in-loop-r : goal.write_cell-requires-in-loop-r
+write_cell-requires-in-loop-r c =
+    let w = c.before.before in
+    let v = w.before.before in
+    let s = (h v).before.before.before.before in
+    let a = s.args in
+    let i : r v * 2 < a.d * 2 = omega (arith, in_row v) in
+    let room : a.at + (r v * 2 + 1) * cell_size + cell_size ≤ length a.buf-1.now = omega (arith, in_row v, s.requires.1.0) in
+    subst (λ (k : ℕ). a.at + (r v * 2 + 1) * cell_size + cell_size ≤ k) (sym (long (again v.loop-r.invariant i w.write_cell.ensures (own-words v)))) room
+
+pub overflow_add-r : goal.overflow_add-r
+overflow_add-r c = omega arith
+
+pub loop-r-smaller : goal.loop-r-smaller
+loop-r-smaller c = omega arith
+
+pub loop-r-preserved : goal.loop-r-preserved
+loop-r-preserved c =
+    let o = c.before in
+    let w = o.before.before.before in
+    let v = w.before.before in
+    let t = v.before in
+    let a = (h v).args in
+    let i : r v * 2 < a.d * 2 = omega (arith, in_row v) in
+    let own = again t.loop-r.invariant i w.write_cell.ensures (own-words v) in
+    let next : r v * 2 + 1 + 1 ≡ (r v + 1) * 2 = omega arith in
+    subst (Writing cell_size a.buf-1.now a.at (a.d * 2) (λ (i : ℕ). cell_words (value (side (pairs (h v) (i / 2)) i))) _) next
+    (again own (in_row v) o.write_cell-in-loop-r.ensures (other-words v))
+
+pub shape_of-buf : goal.shape_of-buf
+shape_of-buf c = long c.loop-r.invariant
+
+pub returns : goal.returns
+returns c =
+    let h = c.before.before in
+    let l = h.before.before in
+    let u = l.before in
+    let s = u.before in
+    let p = s.requires in
+    let a = s.args in
+    let low = l.pair_of-low.ensures ∙ ap (λ (t : Table). pair_of t 0) u.core_table-u.ensures in
+    let high = h.pair_of-high.ensures ∙ ap (λ (t : Table). pair_of t 1) u.core_table-u.ensures in
+    let all : a.d * 2 ≤ c.loop-r.r * 2 = omega (arith, c.loop-r-test.false) in
+    done c.loop-r.invariant all
+    ∙ blocks-same cell_size a.buf-1.now a.at (a.d * 2) _ _ (λ i k.
+    ap cell_words (row-entry i p.1.1.1.1 p.1.1.0 p.0 h.controls-held.ensures low high (subst (λ (d : ℕ). i < d * 2) p.1.1.1.0 k)))

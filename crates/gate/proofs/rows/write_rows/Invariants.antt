@@ -1,0 +1,25 @@
+-- The invariant: the entries of the first r rows are written.
+use mathlib.Core.Path.{◌≡◌, sym, ap, subst, ◌∙◌}
+use Prim.Native.Nat.{ℕ, ◌+◌, ◌*◌, ◌-◌, ◌/◌, ◌<◌, ◌≤◌}
+use native.Mathlib.Nat.{le_refl}
+use native.Mathlib.Omega.{arith}
+use lib.ListN.{length}
+use Rattle.algebra.proofs.Blocks.{Writing, begin, again, done, long, blocks-same}
+use Rattle.exact.specs.Exact.{Exact}
+use Rattle.scalar.specs.declared.Scalar.{Scalar}
+use Rattle.scalar.specs.Calls.{value}
+use Rattle.gate.specs.declared.rows.Pair.{Pair}
+use Rattle.cells.specs.Cells.{cell_size, cell_words}
+use Rattle.gate.specs.Inner.Entries.{Table, pair_of, side, row_pair}
+use Rattle.gate.proofs.Masks.{row-entry, side-own, side-other}
+use Rattle.gate.proofs.rows.write_rows.Given as goal
+
+-- entry i as the masks choose it
+abbrev pub chosen : Pair → Pair → ℕ → ℕ → ℕ → Exact
+chosen low high held m i = value (side (row_pair low high held m (i / 2)) i)
+
+abbrev pub invariant-loop-r : goal.invariant-loop-r
+invariant-loop-r l = Writing cell_size l.initial.buf l.at (l.d * 2) (λ (i : ℕ). cell_words (chosen l.low l.high l.held l.m i)) l.buf (l.r * 2)
+
+abbrev pub decreases-loop-r : goal.decreases-loop-r
+decreases-loop-r l = l.d - l.r

@@ -1,0 +1,70 @@
+-- `each_in_range` meets its contract: word by word.
+use mathlib.Core.Path.{◌≡◌, refl, sym, ap, ◌∙◌}
+use mathlib.Core.Bool.{true}
+use Prim.Native.Nat.{ℕ, ◌+◌, ◌-◌, ◌≤◌, ◌<◌}
+use native.Mathlib.Omega.{arith}
+use lib.Dec.{leb}
+use lib.ListN.{get_or}
+use lib.IntN.{ℤ, pos, nat_abs}
+use borrow.Author.Tests.{not-true, not-false}
+use Rattle.algebra.proofs.Tests.{all-step, all_no}
+use Rattle.algebra.proofs.Signed.{reads}
+use Rattle.exact.specs.Exact.{max_numerator}
+use Rattle.gather.specs.Words.{all_in_range}
+use Rattle.gather.proofs.each_in_range.Lts as lts
+use Rattle.gather.proofs.each_in_range.Reads as reads
+use Rattle.gather.proofs.each_in_range.Tie as tie
+use Rattle.gather.proofs.each_in_range.Goals as goal
+
+abbrev After-at_most : Type 0
+After-at_most = lts.After-at_most tie.the-claims reads.Pre reads.Post goal.the-invariant-loop-i goal.the-decreases-loop-i
+
+-- the word's test
+tested : (c : After-at_most) → (let l = c.before.before.before in let s = l.args in c.at_most.result ≡ leb (nat_abs (get_or s.s.now (s.at + l.loop-i.i) (pos 0))) max_numerator)
+tested c =
+    let l = c.before.before.before in
+    let s = l.args in
+    c.at_most.ensures ∙ ap (λ (x : ℤ). leb (nat_abs x) max_numerator) (reads (get_or s.s.now (s.at + l.loop-i.i) (pos 0)) c.at_most-arg-1.given)
+
+pub loop-i-init : goal.loop-i-init
+loop-i-init c = (omega arith, refl)
+
+pub overflow_add-at : goal.overflow_add-at
+overflow_add-at c = omega arith
+
+pub offset_bounds-s-at : goal.offset_bounds-s-at
+offset_bounds-s-at c = omega arith
+
+pub bounds-s-at : goal.bounds-s-at
+bounds-s-at c = omega arith
+
+pub at_most-requires : goal.at_most-requires
+at_most-requires c = refl
+
+pub returns-then-not-at_most : goal.returns-then-not-at_most
+returns-then-not-at_most c =
+    let a = c.before in
+    let t = a.before.before in
+    let l = t.before in
+    let s = l.args in
+    sym (all_no s.n l.loop-i.i _ t.loop-i-test.true (sym (tested a) ∙ c.if-not-at_most.true))
+
+pub overflow_add-i : goal.overflow_add-i
+overflow_add-i c = omega arith
+
+pub loop-i-smaller : goal.loop-i-smaller
+loop-i-smaller c = omega arith
+
+pub loop-i-preserved : goal.loop-i-preserved
+loop-i-preserved c =
+    let a = c.before in
+    let l = a.before.before.before in
+    let s = l.args in
+    (omega arith, all-step l.loop-i.i (λ (i : ℕ). leb (nat_abs (get_or s.s.now (s.at + i) (pos 0))) max_numerator) l.loop-i.invariant.1 (sym (tested a) ∙ c.if-not-at_most.false))
+
+pub returns : goal.returns
+returns c =
+    let l = c.before in
+    let s = l.args in
+    let e : l.loop-i.i ≡ s.n = omega arith in
+    sym (ap (all_in_range s.s.now s.at) (sym e) ∙ l.loop-i.invariant.1)

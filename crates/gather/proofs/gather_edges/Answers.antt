@@ -1,0 +1,46 @@
+-- `gather_edges` meets its contract: what is gathered so far is what is gathered from i words.
+use mathlib.Core.Path.{◌≡◌, sym, ap, ◌∙◌, subst}
+use Prim.Native.Nat.{ℕ, ◌+◌, ◌-◌, ◌^◌, ◌≤◌, ◌<◌}
+use native.Mathlib.Omega.{arith}
+use lib.Bits.{or_lt}
+use mir.Syntax.{w64}
+use mir.Facts.{of_z-to_z}
+use lib.ListN.{get_or}
+use lib.IntN.{pos}
+use Rattle.gather.specs.Inner.Gathered.{edge, edges}
+use Rattle.gather.proofs.Edges.{edge-word, edge-fits}
+use Rattle.gather.proofs.Laws.{more}
+use Rattle.gather.proofs.gather_edges.Goals as goal
+
+pub loop-i-init : goal.loop-i-init
+loop-i-init c = omega arith
+
+pub overflow_add-x : goal.overflow_add-x
+overflow_add-x c = omega arith
+
+pub offset_bounds-s-at : goal.offset_bounds-s-at
+offset_bounds-s-at c = omega arith
+
+pub bounds-s-at : goal.bounds-s-at
+bounds-s-at c = omega arith
+
+pub overflow_add-i : goal.overflow_add-i
+overflow_add-i c = omega arith
+
+pub loop-i-smaller : goal.loop-i-smaller
+loop-i-smaller c = omega arith
+
+pub loop-i-preserved : goal.loop-i-preserved
+loop-i-preserved c =
+    let s = c.args in
+    let x = get_or s.s.now (s.at + c.loop-i.i) (pos 0) in
+    let e = edge-word x c.x-1.given in
+    let v = c.loop-i.invariant.1 in
+    let g = or_lt 64 c.loop-i.g-bits _ v.0 (subst (λ (m : ℕ). m < 2 ^ 64) (sym e) (edge-fits x c.x-1.given)) in
+    (omega arith, (g, more (λ (i : ℕ). edge (get_or s.s.now (s.at + i) (pos 0))) v.1 e))
+
+pub returns : goal.returns
+returns c =
+    let s = c.args in
+    let e : c.loop-i.i ≡ s.n = omega arith in
+    of_z-to_z {w = w64} (record { fits = c.loop-i.invariant.1.0 }) ∙ c.loop-i.invariant.1.1 ∙ ap (edges s.s.now s.at) e

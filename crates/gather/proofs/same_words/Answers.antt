@@ -1,0 +1,59 @@
+-- `same_words` meets its contract: what is gathered so far is 0 exactly if the first i words are the same.
+use mathlib.Core.Path.{◌≡◌, refl, ap, ◌∙◌}
+use Prim.Native.Nat.{ℕ, ◌+◌, ◌-◌, ◌≤◌}
+use native.Mathlib.Omega.{arith}
+use lib.Dec.{eqb}
+use lib.Bits.{bit_xor}
+use mir.Syntax.{w64}
+use mir.Val.{of_z}
+use lib.ListN.{get_or}
+use lib.IntN.{pos}
+use Rattle.algebra.specs.Lists.{all_below}
+use Rattle.algebra.proofs.Signed.{or_zero}
+use Rattle.gather.specs.Words.{same_at}
+use Rattle.gather.proofs.Laws.{all_more, xor_words}
+use Rattle.gather.proofs.same_words.Goals as goal
+
+pub loop-i-init : goal.loop-i-init
+loop-i-init c = (omega arith, refl)
+
+pub overflow_add-d : goal.overflow_add-d
+overflow_add-d c = omega arith
+
+pub offset_bounds-s-a : goal.offset_bounds-s-a
+offset_bounds-s-a c = omega arith
+
+pub bounds-s-a : goal.bounds-s-a
+bounds-s-a c = omega arith
+
+pub overflow_add-d-in-loop-i : goal.overflow_add-d-in-loop-i
+overflow_add-d-in-loop-i c = omega arith
+
+pub offset_bounds-t-b : goal.offset_bounds-t-b
+offset_bounds-t-b c = omega arith
+
+pub bounds-t-b : goal.bounds-t-b
+bounds-t-b c = omega arith
+
+pub overflow_add-i : goal.overflow_add-i
+overflow_add-i c = omega arith
+
+pub loop-i-smaller : goal.loop-i-smaller
+loop-i-smaller c = omega arith
+
+pub loop-i-preserved : goal.loop-i-preserved
+loop-i-preserved c =
+    let s = c.args in
+    let x = get_or s.s.now (s.a + c.loop-i.i) (pos 0) in
+    let y = get_or s.t.now (s.b + c.loop-i.i) (pos 0) in (
+      omega arith,
+      or_zero c.loop-i.d-bits (bit_xor (of_z w64 x) (of_z w64 y))
+          ∙ all_more c.loop-i.i (same_at s.s.now s.a s.t.now s.b) c.loop-i.invariant.1
+          (xor_words x y (record { sfits = c.d-1.given }) (record { sfits = c.d-in-loop-i-1.given })),
+    )
+
+pub returns : goal.returns
+returns c =
+    let s = c.args in
+    let e : c.loop-i.i ≡ s.n = omega arith in
+    c.loop-i.invariant.1 ∙ ap (λ (k : ℕ). all_below k (same_at s.s.now s.a s.t.now s.b)) e

@@ -1,0 +1,15 @@
+-- `mirror` meets its contract.
+use Prim.Native.Nat.{◌-◌, ◌≤◌}
+use native.Mathlib.Nat.{le_refl, mul-le-mul}
+use native.Mathlib.Omega.{arith}
+use Rattle.algebra.proofs.Blocks.{done, long}
+use Rattle.hermitian.specs.Inner.Sparse.{mirrored_at}
+use Rattle.overlaps.proofs.Rows.{Rows, no_rows}
+use Rattle.hermitian.proofs.Mirrored.{mirror_asks, mirror_more}
+use Rattle.hermitian.proofs.mirror.Given as goal
+
+abbrev pub invariant-loop-r : goal.invariant-loop-r
+invariant-loop-r l = (l.r ≤ l.w) × Rows l.initial.s l.out l.w (mirrored_at l.initial.s l.out l.w) l.s l.r
+
+abbrev pub decreases-loop-r : goal.decreases-loop-r
+decreases-loop-r l = l.w - l.r

@@ -1,0 +1,80 @@
+-- `share_block` meets its contract: all numerators are shifted as far as all of them allow.
+use mathlib.Core.Path.{◌≡◌, sym, ap, ◌∙◌, subst}
+use Prim.Native.Nat.{ℕ, ◌+◌, ◌*◌, ◌-◌, ◌%◌, ◌^◌, min, ◌≤◌, ◌<◌}
+use native.Mathlib.Omega.{arith}
+use lib.Bits.{bit_or}
+use lib.Count.{count_trailing_zeros}
+use lib.ListN.{get_or}
+use lib.IntN.{pos}
+use lib.Signed.{shr_z}
+use mir.Syntax.{w64}
+use mir.Val.{to_z, of_z}
+use mir.Facts.{of_z-to_z}
+use Rattle.algebra.specs.Dyadic.{frac}
+use Rattle.algebra.specs.Words.{fill_words}
+use Rattle.exact.proofs.Zeros.{shifted}
+use Rattle.channel.specs.Forms.{Alike}
+use Rattle.share.specs.Share.{number_at, or_words, shared_from}
+use Rattle.share.proofs.Laws.{or_small, shifts_are, share_is, numerators_are, alone}
+use Rattle.hermitian.proofs.share_block.Lts as lts
+use Rattle.hermitian.proofs.share_block.Reads as reads
+use Rattle.hermitian.proofs.share_block.Tie as tie
+use Rattle.hermitian.proofs.share_block.Goals as goal
+
+abbrev After-least-t : Type 0
+After-least-t = lts.After-least tie.the-claims reads.Pre reads.Post
+
+abbrev After-common_zeros : Type 0
+After-common_zeros = lts.After-common_zeros tie.the-claims reads.Pre reads.Post
+
+abbrev Start : Type 0
+Start = lts.Start tie.the-claims reads.Pre reads.Post
+
+module _ (c : After-least-t) where
+  abbrev z : After-common_zeros
+  z = c.before
+
+  abbrev start : Start
+  start = z.before.before.before
+
+  abbrev n : ℕ
+  n = start.args.w * start.args.w
+
+  abbrev least : ℕ
+  least = min z.common_zeros.result start.args.e
+
+  bits : of_z w64 z.or_rows-g.result ≡ or_words start.args.s.now start.args.at (n * 4)
+  bits = z.or_rows-g.ensures.0
+
+  -- the argument is read back from its bits
+  back : of_z w64 (to_z w64 (of_z w64 z.or_rows-g.result)) ≡ of_z w64 z.or_rows-g.result
+  back = of_z-to_z {w = w64} (record { fits = subst (λ (m : ℕ). m < 2 ^ 64) (sym bits) (or_small start.args.s.now start.args.at (n * 4) z.or_rows-g.ensures.1) })
+
+  count : z.common_zeros.result ≡ count_trailing_zeros 64 (or_words start.args.s.now start.args.at (n * 4) % 2 ^ 63)
+  count = z.common_zeros.ensures ∙ ap (λ (m : ℕ). count_trailing_zeros 64 (m % 2 ^ 63)) (ap (λ (k : ℕ). bit_or (bit_or k 0) (bit_or 0 0)) back ∙ alone (of_z w64 z.or_rows-g.result) ∙ bits)
+
+  alike : Alike n (frac (λ (k : ℕ). shifted (number_at start.args.s.now start.args.at k) least) (start.args.e - least)) (shared_from start.args.s.now start.args.at n start.args.e)
+  alike = share_is start.args.s.now start.args.at n start.args.e z.common_zeros.result z.or_rows-g.ensures.1 start.requires.1 count
+
+  shift_small : c.least-t.result ≤ 63
+  shift_small = let q = start.requires.1 in omega (arith, c.least-t.ensures)
+
+pub or_rows-g-requires : goal.or_rows-g-requires
+or_rows-g-requires c = c.requires.0
+
+pub shift_rows-requires : goal.shift_rows-requires
+shift_rows-requires c = ((start c.before).requires.0, shift_small c.before)
+
+pub overflow_sub-result : goal.overflow_sub-result
+overflow_sub-result c = omega (arith, c.least-t.ensures)
+
+pub returns : goal.returns
+returns c =
+    let l = c.before.before.before in
+    let s = (start l).args in (
+      ap (λ (j : ℕ). s.e - j) l.least-t.ensures ∙ (alike l).exp,
+      c.shift_rows.ensures
+          ∙ ap (λ (j : ℕ). fill_words s.s-1.now s.at (n l * 4) (λ (i : ℕ). shr_z (get_or s.s-1.now (s.at + i) (pos 0)) (2 ^ j))) l.least-t.ensures
+          ∙ shifts_are s.s-1.now s.at (n l) (least l)
+          ∙ numerators_are s.s-1.now s.at (n l) s.e (least l) (alike l),
+    )

@@ -1,0 +1,14 @@
+-- `shift_rows` meets its contract.
+use mathlib.Core.Path.{ap}
+use Prim.Native.Nat.{ℕ, ◌*◌, ◌-◌, ◌≤◌}
+use native.Mathlib.Nat.{le_refl, mul-le-mul}
+use native.Mathlib.Omega.{arith}
+use Rattle.algebra.proofs.Blocks.{done, long}
+use Rattle.hermitian.proofs.Shared.{Shifted, none-shifted, shift_asks, shift_more}
+use Rattle.hermitian.proofs.shift_rows.Given as goal
+
+abbrev pub invariant-loop-r : goal.invariant-loop-r
+invariant-loop-r l = (l.r ≤ l.w) × Shifted l.initial.s l.at l.w l.t l.s l.r
+
+abbrev pub decreases-loop-r : goal.decreases-loop-r
+decreases-loop-r l = l.w - l.r

@@ -1,0 +1,109 @@
+-- `copy_gates` meets its contract.
+use mathlib.Core.Path.{◌≡◌, refl, sym, ap, ◌∙◌}
+use mathlib.Core.Bool.{true, cond}
+use mathlib.Core.List.{List}
+use Prim.Native.Nat.{ℕ, ◌+◌, ◌*◌, ◌≤◌}
+use native.Mathlib.Omega.{arith}
+use lib.ListN.{length}
+use lib.Seq.{sets}
+use lib.IntN.{ℤ}
+use borrow.Author.Tests.{le-leb, lt-leb}
+use Rattle.store.specs.Store.{max_word}
+use Rattle.verdict.specs.declared.Verdict.{Verdict}
+use Rattle.verdict.specs.Verdict.{accepted}
+use Rattle.kept_circuit.specs.Kept.{gates_place, head_size, all_up_to, sound}
+use Rattle.kept_circuit.proofs.Sound.{Sound, sound_is, gates-few, count_is}
+use Rattle.kept_verdict.specs.Questions.{copy_size, copied}
+use Rattle.kept_verdict.proofs.Answered.{copy_answers}
+use Rattle.kept_verdict.proofs.copy_gates.Lts as lts
+use Rattle.kept_verdict.proofs.copy_gates.Reads as reads
+use Rattle.kept_verdict.proofs.copy_gates.Tie as tie
+use Rattle.kept_verdict.proofs.copy_gates.Goals as goal
+
+abbrev Then-is_sound : Type 0
+Then-is_sound = lts.Then1 tie.the-claims reads.Pre reads.Post
+
+abbrev Start : Type 0
+Start = lts.Start tie.the-claims reads.Pre reads.Post
+
+abbrev After-follow-count : Type 0
+After-follow-count = lts.After-follow tie.the-claims reads.Pre reads.Post
+
+abbrev After-are_up_to : Type 0
+After-are_up_to = lts.After-are_up_to tie.the-claims reads.Pre reads.Post
+
+-- the counts are sound
+module _ (c : Then-is_sound) where
+  abbrev s : Start
+  s = c.before.before.before
+
+  abbrev l : List ℤ
+  l = s.args.words.now
+
+  abbrev o : List ℕ
+  o = s.args.out.now
+
+  sound-true : sound l ≡ true
+  sound-true = sym c.is_sound.ensures ∙ c.if-is_sound.true
+
+  sound-words : Sound l
+  sound-words = sound_is l sound-true
+
+  fits : head_size + copy_size l ≤ length l
+  fits = omega (arith, (gates-few sound-words).1, sound-words.long)
+
+pub follow-count-requires : goal.follow-count-requires
+follow-count-requires c = (omega (arith, (sound-words c.before).long), count_is (sound-words c.before) gates_place (omega arith))
+
+-- how many words there are
+size : (c : After-follow-count) → c.follow-count.result * 5 ≡ copy_size (l c.before)
+size c = ap (λ (k : ℕ). k * 5) c.follow-count.ensures
+
+up : (c : After-are_up_to) → all_up_to (l c.before.before) head_size (copy_size (l c.before.before)) max_word ≡ c.are_up_to.result
+up c = sym (c.are_up_to.ensures ∙ ap (λ (n : ℕ). all_up_to (l c.before.before) head_size n max_word) (size c.before))
+
+pub copy_words-requires : goal.copy_words-requires
+copy_words-requires c =
+    let r = c.before in
+    let u = r.before in
+    let a = u.before in
+    let f = a.before in
+    let t = f.before in
+    (size f, (omega (arith, size f, fits t), (sym a.are_up_to.ensures ∙ u.if-are_up_to.true, r.if-n-out.true)))
+
+pub returns-then-n-out : goal.returns-then-n-out
+returns-then-n-out c =
+    let p = c.before.before.before in
+    let r = p.before.before in
+    let u = r.before in
+    let a = u.before in
+    let t = a.before.before in
+    let e = copy_answers (l t) (o t) (sound-true t) (up a ∙ u.if-are_up_to.true) (le-leb (copy_size (l t)) (length (o t)) (omega (arith, size a.before, r.if-n-out.true))) in
+    (e, p.copy_words.ensures ∙ ap (λ (v : Verdict). cond (accepted v) (sets (o t) 0 (copied (l t))) (o t)) e)
+
+pub returns-then-are_up_to : goal.returns-then-are_up_to
+returns-then-are_up_to c =
+    let u = c.before.before in
+    let a = u.before in
+    let t = a.before.before in
+    let e = copy_answers (l t) (o t) (sound-true t) (up a ∙ u.if-are_up_to.true) (lt-leb (copy_size (l t)) (length (o t)) (omega (arith, size a.before, c.if-n-out.false))) in
+    (e, ap (λ (v : Verdict). cond (accepted v) (sets (o t) 0 (copied (l t))) (o t)) e)
+
+pub returns-else-are_up_to : goal.returns-else-are_up_to
+returns-else-are_up_to c =
+    let a = c.before.before in
+    let t = a.before.before in
+    let e = copy_answers (l t) (o t) (sound-true t) (up a ∙ c.if-are_up_to.false) refl in
+    (e, ap (λ (v : Verdict). cond (accepted v) (sets (o t) 0 (copied (l t))) (o t)) e)
+
+pub returns-else-is_sound : goal.returns-else-is_sound
+returns-else-is_sound c =
+    let s = c.args in
+    let e = copy_answers s.words.now s.out-1.now (sym c.is_sound.ensures ∙ c.if-is_sound.false) refl refl in
+    (e, ap (λ (v : Verdict). cond (accepted v) (sets s.out-1.now 0 (copied s.words.now)) s.out-1.now) e)
+
+pub overflow_mul-n : goal.overflow_mul-n
+overflow_mul-n c = omega (arith, size c.before, fits c.before.before)
+
+pub are_up_to-requires : goal.are_up_to-requires
+are_up_to-requires c = omega (arith, size c.before, fits c.before.before)

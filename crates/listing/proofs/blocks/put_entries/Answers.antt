@@ -1,0 +1,50 @@
+-- `blocks::put_entries` meets its contract.
+use mathlib.Core.Path.{◌≡◌, ap}
+use Prim.Native.Nat.{ℕ, ◌+◌, ◌*◌, ◌-◌, ◌/◌, ◌%◌, ◌≤◌}
+use native.Mathlib.Nat.{mul-le-mul}
+use native.Mathlib.Omega.{arith}
+use lib.ListN.{length}
+use Rattle.scalar.specs.Calls.{value}
+use Rattle.scalar.specs.declared.Scalar.{Scalar}
+use Rattle.channel.specs.Layout.{channels, entry_at, dim_at}
+use Rattle.text.specs.Page.{page}
+use Rattle.text.specs.Inner.Written.{Written}
+use Rattle.listing.specs.Listing.{entry_line, entry_lines}
+use Rattle.text.proofs.Put.{then, text, none, long}
+use Rattle.listing.proofs.Listing.{entries_none, entries-more, side-some}
+use Rattle.listing.proofs.blocks.put_entries.Goals as goal
+
+pub overflow_mul-n : goal.overflow_mul-n
+overflow_mul-n c = let q = c.requires.0 in let r = mul-le-mul q q in omega arith
+
+pub loop-k-init : goal.loop-k-init
+loop-k-init c = (omega arith, text (entries_none c.args.w (entry_at (channels (dim_at c.args.s.now)) c.args.s.now c.args.place)) (none _))
+
+pub read_entry-x-requires : goal.read_entry-x-requires
+read_entry-x-requires c =
+    record { inside = omega (arith, c.requires.1.inside, c.loop-k-test.true); exponent = c.requires.1.exponent }
+
+pub nonzero_div-k : goal.nonzero_div-k
+nonzero_div-k c = let q = side-some c.args.w c.loop-k.k c.loop-k-test.true in omega arith
+
+pub nonzero_rem-k : goal.nonzero_rem-k
+nonzero_rem-k c = let q = side-some c.args.w c.loop-k.k c.loop-k-test.true in omega arith
+
+pub overflow_add-k : goal.overflow_add-k
+overflow_add-k c = omega arith
+
+pub loop-k-smaller : goal.loop-k-smaller
+loop-k-smaller c = omega arith
+
+pub loop-k-preserved : goal.loop-k-preserved
+loop-k-preserved c =
+    let line = ap (λ (x : Scalar). entry_line (c.loop-k.k / c.args.w) (c.loop-k.k % c.args.w) (value x)) c.read_entry-x.ensures in
+    (omega arith, text (entries-more c.args.w c.loop-k.k (entry_at (channels (dim_at c.args.s.now)) c.args.s.now c.args.place)) (then c.loop-k.invariant.1 (text line c.put_entry-p.ensures)))
+
+pub shape_of-out : goal.shape_of-out
+shape_of-out c = long c.loop-k.invariant.1
+
+pub returns : goal.returns
+returns c =
+    let e : c.loop-k.k ≡ c.args.w * c.args.w = omega arith in
+    text (ap (λ (n : ℕ). entry_lines c.args.w n (entry_at (channels (dim_at c.args.s.now)) c.args.s.now c.args.place)) e) c.loop-k.invariant.1

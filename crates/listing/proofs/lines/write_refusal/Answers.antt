@@ -1,0 +1,11 @@
+-- `lines::write_refusal` meets its contract.
+use Rattle.text.proofs.Put.{then}
+use borrow.Author.Rules.{rules}
+use Rattle.listing.proofs.lines.write_refusal.Goals as goal
+
+slice-aggregate-put-all : tie.Need-slice-aggregate-put-all
+slice-aggregate-put-all c = search rules
+
+pub returns : goal.returns
+returns c =
+    (then (then (then c.put_all-a.ensures c.put_natural-b.ensures) c.put_natural-c.ensures) c.put.ensures).is

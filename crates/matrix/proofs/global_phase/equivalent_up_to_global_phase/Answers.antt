@@ -1,0 +1,118 @@
+-- `matrix::global_phase::equivalent_up_to_global_phase` meets its contract.
+use mathlib.Core.Path.{◌≡◌, refl, sym, ap, ◌∙◌}
+use mathlib.Core.Bool.{Bool, true, ◌&&◌}
+use Prim.Native.Nat.{ℕ}
+use native.Mathlib.Omega.{arith}
+use borrow.Author.Tests.{not-true, not-false, eq-eqb, ne_eqb}
+use Rattle.algebra.proofs.Tests.{and_split}
+use Rattle.matrix.specs.Phase.{well_formed_matrix, narrow_matrix, answered, phase_answer}
+use Rattle.matrix.proofs.Questions.{square_small, Formed, formed, formed_operands, replied}
+use Rattle.matrix.proofs.global_phase.equivalent_up_to_global_phase.Lts as lts
+use Rattle.matrix.proofs.global_phase.equivalent_up_to_global_phase.Reads as reads
+use Rattle.matrix.proofs.global_phase.equivalent_up_to_global_phase.Tie as tie
+use Rattle.matrix.proofs.global_phase.equivalent_up_to_global_phase.Goals as goal
+
+abbrev Start : Type 0
+Start = lts.Start tie.the-claims reads.Pre reads.Post
+
+abbrev After-is_matrix-2 : Type 0
+After-is_matrix-2 = lts.After-is_matrix2 tie.the-claims reads.Pre reads.Post
+
+abbrev Else-not-formed : Type 0
+Else-not-formed = lts.Else1 tie.the-claims reads.Pre reads.Post
+
+abbrev Else-left_dim-right_dim : Type 0
+Else-left_dim-right_dim = lts.Else2 tie.the-claims reads.Pre reads.Post
+
+abbrev After-all_narrow-2 : Type 0
+After-all_narrow-2 = lts.After-all_narrow2 tie.the-claims reads.Pre reads.Post
+
+abbrev Else-not-narrow : Type 0
+Else-not-narrow = lts.Else3 tie.the-claims reads.Pre reads.Post
+
+-- the questions of the left matrix, and of the right one at a dim
+module _ (s : Start) where
+  abbrev left_formed : Bool
+  left_formed = well_formed_matrix s.args.left-dim s.args.left.now
+
+  abbrev right_formed : ℕ → Bool
+  right_formed k = well_formed_matrix k s.args.right.now
+
+  abbrev left_narrow : Bool
+  left_narrow = narrow_matrix s.args.left-dim s.args.left.now
+
+  abbrev right_narrow : Bool
+  right_narrow = narrow_matrix s.args.left-dim s.args.right.now
+
+-- what the tests before each place say
+both_is : (t : After-is_matrix-2) → (t.is_matrix.result && t.is_matrix-2.result) ≡ (left_formed t.before.before && right_formed t.before.before t.args.right-dim)
+both_is t = λ i. t.is_matrix.ensures i && t.is_matrix-2.ensures i
+
+passed : (t : Else-not-formed) → (left_formed t.before.before.before && right_formed t.before.before.before t.args.right-dim) ≡ true
+passed t = sym (both_is t.before) ∙ t.if-not-formed.false
+
+module _ (e : Else-left_dim-right_dim) where
+  abbrev start : Start
+  start = e.before.before.before.before
+
+  parts : (left_formed start ≡ true) × (right_formed start start.args.right-dim ≡ true)
+  parts = and_split (left_formed start) (right_formed start start.args.right-dim) (passed e.before)
+
+  right_is : right_formed start start.args.left-dim ≡ true
+  right_is = ap (right_formed start) e.if-left_dim-right_dim.false ∙ parts.1
+
+  left-formed : Formed start.args.left-dim start.args.left.now
+  left-formed = formed parts.0
+
+  right-formed : Formed start.args.left-dim start.args.right.now
+  right-formed = formed right_is
+
+  passed_same : (left_formed start && right_formed start start.args.left-dim) ≡ true
+  passed_same = λ i. parts.0 i && right_is i
+
+narrow-is : (w : After-all_narrow-2) → (w.all_narrow.result && w.all_narrow-2.result) ≡ (left_narrow (start w.before.before) && right_narrow (start w.before.before))
+narrow-is w = λ i. w.all_narrow.ensures i && w.all_narrow-2.ensures i
+
+narrow_both : (t : Else-not-narrow) → (left_narrow (start t.before.before.before) ≡ true) × (right_narrow (start t.before.before.before) ≡ true)
+narrow_both t = let s = start t.before.before.before in and_split (left_narrow s) (right_narrow s) (sym (narrow-is t.before) ∙ t.if-not-narrow.false)
+
+pub returns-then-not-formed : goal.returns-then-not-formed
+returns-then-not-formed c =
+    let t = c.before.before in
+    let s = t.args in
+    c.refused_phase.ensures ∙ sym (replied s.left-dim s.left.now s.right-dim s.right.now (sym (both_is t) ∙ c.if-not-formed.true) refl refl)
+
+pub returns-then-left_dim-right_dim : goal.returns-then-left_dim-right_dim
+returns-then-left_dim-right_dim c =
+    let t = c.before in
+    let s = t.args in
+    c.answered.ensures ∙ sym (replied s.left-dim s.left.now s.right-dim s.right.now (passed t.before) (ne_eqb s.left-dim s.right-dim t.if-left_dim-right_dim.true) refl)
+
+pub overflow_mul-n : goal.overflow_mul-n
+overflow_mul-n c = let s = c.args in omega (arith, square_small s.left-dim (left-formed c).dim)
+
+pub all_narrow-requires : goal.all_narrow-requires
+all_narrow-requires c = (omega (arith, (left-formed c).long), (left-formed c).entries)
+
+pub all_narrow-requires-2 : goal.all_narrow-requires-2
+all_narrow-requires-2 c = (omega (arith, (right-formed c.before).long), (right-formed c.before).entries)
+
+pub returns-then-not-narrow : goal.returns-then-not-narrow
+returns-then-not-narrow c =
+    let w = c.before.before in
+    let e = w.before.before in
+    let s = e.args in
+    c.refused_phase-then-not-narrow.ensures ∙ sym (ap (λ (k : ℕ). phase_answer s.left-dim s.left.now k s.right.now) (sym e.if-left_dim-right_dim.false)
+    ∙ replied s.left-dim s.left.now s.left-dim s.right.now (passed_same e) (eq-eqb s.left-dim s.left-dim refl) (sym (narrow-is w) ∙ c.if-not-narrow.true))
+
+pub in_phase-requires : goal.in_phase-requires
+in_phase-requires c = let w = c.before in let p = narrow_both c in (formed_operands (left-formed w.before.before) p.0, formed_operands (right-formed w.before.before) p.1)
+
+pub returns : goal.returns
+returns c =
+    let i = c.before in
+    let t = i.before in
+    let e = t.before.before.before in
+    let s = e.args in
+    c.answered-2.ensures ∙ ap answered i.in_phase.ensures ∙ sym (ap (λ (k : ℕ). phase_answer s.left-dim s.left.now k s.right.now) (sym e.if-left_dim-right_dim.false)
+    ∙ replied s.left-dim s.left.now s.left-dim s.right.now (passed_same e) (eq-eqb s.left-dim s.left-dim refl) (sym (narrow-is t.before) ∙ t.if-not-narrow.false))

@@ -1,0 +1,89 @@
+-- `matrix::global_phase::in_phase_at` meets its contract.
+use mathlib.Core.Path.{◌≡◌, sym, ap, ◌∙◌, subst}
+use mathlib.Core.Bool.{Bool, ◌&&◌}
+use Prim.Native.Nat.{ℕ}
+use native.Mathlib.Omega.{arith}
+use borrow.Author.Tests.{not-true, not-false}
+use Rattle.exact.specs.Exact.{Exact, equal}
+use Rattle.scalar.specs.declared.Scalar.{Scalar}
+use Rattle.scalar.specs.Calls.{value}
+use Rattle.matrix.specs.Phase.{equal_modulus, equal_ratios, entry_of}
+use Rattle.matrix.specs.Inner.Operands.{Operand}
+use Rattle.matrix.proofs.global_phase.in_phase_at.Lts as lts
+use Rattle.matrix.proofs.global_phase.in_phase_at.Reads as reads
+use Rattle.matrix.proofs.global_phase.in_phase_at.Tie as tie
+use Rattle.matrix.proofs.global_phase.in_phase_at.Goals as goal
+
+abbrev After-read_cell-b : Type 0
+After-read_cell-b = lts.After-read_cell2 tie.the-claims reads.Pre reads.Post
+
+abbrev After-equals : Type 0
+After-equals = lts.After-equals tie.the-claims reads.Pre reads.Post
+
+abbrev After-ratios_same : Type 0
+After-ratios_same = lts.After-ratios_same tie.the-claims reads.Pre reads.Post
+
+-- the pivot's two numbers
+module _ (r : After-read_cell-b) where
+  a-operand : Operand (value r.read_cell-a.result)
+  a-operand = let s = r.before.before in subst (λ (v : Scalar). Operand (value v)) (sym r.read_cell-a.ensures) (s.requires.1.0.operand s.args.i s.requires.0)
+
+  b-operand : Operand (value r.read_cell-b.result)
+  b-operand = let s = r.before.before in subst (λ (v : Scalar). Operand (value v)) (sym r.read_cell-b.ensures) (s.requires.1.1.operand s.args.i s.requires.0)
+
+  abbrev left : ℕ → Exact
+  left = entry_of r.args.left.now
+
+  abbrev right : ℕ → Exact
+  right = entry_of r.args.right.now
+
+  abbrev pivot : ℕ
+  pivot = r.args.i
+
+  abbrev ratios : Bool
+  ratios = equal_ratios r.args.n left right (left pivot) (right pivot)
+
+moduli-is : (c : After-equals) → c.equals.result ≡ equal_modulus (left c.before.before.before (pivot c.before.before.before)) (right c.before.before.before (pivot c.before.before.before))
+moduli-is c =
+    let q = c.before in
+    let p = q.before in
+    let r = p.before in
+    c.equals.ensures
+    ∙ (λ i. equal (value (p.squared_modulus-p.ensures i)) (value (q.squared_modulus-q.ensures i)))
+    ∙ (λ i. equal_modulus (value (r.read_cell-a.ensures i)) (value (r.read_cell-b.ensures i)))
+
+ratios-are : (c : After-ratios_same) → c.ratios_same.result ≡ ratios c.before.before.before.before.before
+ratios-are c =
+    let r = c.before.before.before.before.before in
+    c.ratios_same.ensures ∙ (λ i. equal_ratios r.args.n (left r) (right r) (value (r.read_cell-a.ensures i)) (value (r.read_cell-b.ensures i)))
+
+pub overflow_mul-i : goal.overflow_mul-i
+overflow_mul-i c = omega (arith, c.requires.1.0.room)
+
+pub read_cell-a-requires : goal.read_cell-a-requires
+read_cell-a-requires c = (omega (arith, c.requires.1.0.room), c.requires.1.0.exponent c.args.i c.requires.0)
+
+pub overflow_mul-i-2 : goal.overflow_mul-i-2
+overflow_mul-i-2 c = omega (arith, c.requires.1.1.room)
+
+pub read_cell-b-requires : goal.read_cell-b-requires
+read_cell-b-requires c = let s = c.before in (omega (arith, s.requires.1.1.room), s.requires.1.1.exponent s.args.i s.requires.0)
+
+pub squared_modulus-p-requires : goal.squared_modulus-p-requires
+squared_modulus-p-requires c = a-operand c
+
+pub squared_modulus-q-requires : goal.squared_modulus-q-requires
+squared_modulus-q-requires c = b-operand c.before
+
+pub returns-then-not-equals : goal.returns-then-not-equals
+returns-then-not-equals c = sym (ap (λ (b : Bool). b && ratios c.before.before.before.before) (sym (moduli-is c.before) ∙ c.if-not-equals.true))
+
+pub ratios_same-requires : goal.ratios_same-requires
+ratios_same-requires c =
+    let r = c.before.before.before.before in
+    (r.requires.1, (a-operand r, b-operand r))
+
+pub returns : goal.returns
+returns c =
+    let w = c.before.before in
+    ratios-are c ∙ sym (ap (λ (b : Bool). b && ratios w.before.before.before) (sym (moduli-is w) ∙ c.if-not-equals.false))

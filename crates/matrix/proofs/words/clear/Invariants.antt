@@ -1,0 +1,15 @@
+-- `matrix::words::clear` meets its contract.
+use mathlib.Core.Path.{refl}
+use mathlib.Core.List.{[], ◌∷◌}
+use Prim.Native.Nat.{ℕ, ◌-◌}
+use native.Mathlib.Nat.{le_refl}
+use native.Mathlib.Omega.{arith}
+use lib.IntN.{pos}
+use Rattle.algebra.proofs.Blocks.{Writing, begin, again_word, done, long}
+use Rattle.matrix.proofs.words.clear.Given as goal
+
+abbrev pub invariant-loop-i : goal.invariant-loop-i
+invariant-loop-i l = Writing 1 l.initial.s l.at l.n (λ (k : ℕ). pos 0 ∷ []) l.s l.i
+
+abbrev pub decreases-loop-i : goal.decreases-loop-i
+decreases-loop-i l = l.n - l.i

@@ -1,0 +1,18 @@
+-- `matrix::words::copy` meets its contract.
+use mathlib.Core.Path.{◌∙◌}
+use mathlib.Core.List.{[], ◌∷◌}
+use Prim.Native.Nat.{ℕ, ◌+◌, ◌*◌, ◌-◌}
+use native.Mathlib.Nat.{le_refl}
+use native.Mathlib.Omega.{arith}
+use lib.ListN.{get_or}
+use lib.IntN.{pos}
+use Rattle.algebra.specs.Inner.Apart.{Apart}
+use Rattle.algebra.proofs.Blocks.{Writing, begin, again_word, done, long, kept, narrow}
+use Rattle.algebra.proofs.Signed.{reads}
+use Rattle.matrix.proofs.words.copy.Given as goal
+
+abbrev pub invariant-loop-i : goal.invariant-loop-i
+invariant-loop-i l = Writing 1 l.initial.s l.to l.n (λ (k : ℕ). get_or l.initial.s (l.from + k) (pos 0) ∷ []) l.s l.i
+
+abbrev pub decreases-loop-i : goal.decreases-loop-i
+decreases-loop-i l = l.n - l.i

@@ -1,0 +1,73 @@
+-- `add_number` meets its contract.
+use mathlib.Core.Path.{sym, ap, ◌∙◌, subst}
+use mathlib.Core.List.{List}
+use lib.Seq.{sets}
+use lib.IntN.{ℤ}
+use Rattle.algebra.specs.Quadratic.{conjugate}
+use Rattle.exact.specs.Exact.{Number, numbers, number_of, list_of, root2, max_numerator, narrow_numerator}
+use Rattle.exact.specs.Inner.Sizes.{Within, room_numerator}
+use Rattle.exact.proofs.Align.{roomy}
+use Rattle.overlaps.specs.Inner.Overlap.{number_in, raised_at}
+use Rattle.overlaps.proofs.Sizes.{raised-within, narrow_within, term-within}
+use Rattle.overlaps.proofs.Numbers.{number-there, right-none}
+use Rattle.overlaps.proofs.add_number.Lts as lts
+use Rattle.overlaps.proofs.add_number.Reads as reads
+use Rattle.overlaps.proofs.add_number.Tie as tie
+use Rattle.overlaps.proofs.add_number.Goals as goal
+
+abbrev Start : Type 0
+Start = lts.Start tie.the-claims reads.Pre reads.Post
+
+module _ (s : Start) where
+  abbrev y : Number
+  y = raised_at s.args.e s.args.work.now s.args.q
+
+  y-size : Within narrow_numerator y
+  y-size = narrow_within s.args.e y s.requires.factor.small (raised-within s.args.work.now s.args.q s.args.e s.requires.factor)
+
+  x-size : Within narrow_numerator (number_of s.args.x)
+  x-size = narrow_within s.args.e (number_of s.args.x) s.requires.factor.small s.requires.scale
+
+  term-size : Within max_numerator (numbers.◌⊗◌ (number_of s.args.x) (conjugate root2 y))
+  term-size = term-within s.args.e (number_of s.args.x) y s.requires.factor.small s.requires.scale (raised-within s.args.work.now s.args.q s.args.e s.requires.factor)
+
+pub zero_at-requires : goal.zero_at-requires
+zero_at-requires c = c.requires.factor.factor.room
+
+pub returns-then-zero_at : goal.returns-then-zero_at
+returns-then-zero_at c =
+    let z = c.before in
+    let s = z.before in
+    let n = s.args in
+    sym (ap (λ (v : Number). sets n.result.now n.at (list_of v)) (right-none n.result.now n.at n.work.now n.e n.q (number_of n.x) (sym z.zero_at.ensures ∙ c.if-zero_at.true)) ∙ number-there n.result.now n.at)
+
+pub read_scaled-y-requires : goal.read_scaled-y-requires
+read_scaled-y-requires c = c.requires.factor
+
+pub conj_product-p-requires : goal.conj_product-p-requires
+conj_product-p-requires c =
+    let s = c.before.before.before in
+    (x-size s, subst (λ (l : List ℤ). Within narrow_numerator (number_of l)) (sym c.read_scaled-y.ensures) (y-size s))
+
+pub sum4-v-requires : goal.sum4-v-requires
+sum4-v-requires c =
+    let p = c.before.before in
+    let r = p.before in
+    let s = r.before.before.before in (
+      subst (λ (l : List ℤ). Within room_numerator (number_of l)) (sym c.read_number-acc.ensures) (roomy (number_in s.args.res.now s.args.at) s.requires.sum),
+      subst (λ (l : List ℤ). Within max_numerator (number_of l)) (sym p.conj_product-p.ensures)
+          (subst (λ (l : List ℤ). Within max_numerator (numbers.◌⊗◌ (number_of s.args.x) (conjugate root2 (number_of l)))) (sym r.read_scaled-y.ensures) (term-size s)),
+    )
+
+pub returns : goal.returns
+returns c =
+    let w = c.before in
+    let f = w.before.before in
+    let a = f.before in
+    let p = a.before.before in
+    let r = p.before in
+    let s = r.before.before.before in
+    w.write_number.ensures
+    ∙ ap (λ (l : List ℤ). sets s.args.res.now s.args.at (list_of (number_of l))) f.sum4-v.ensures
+    ∙ (λ i. sets s.args.res.now s.args.at (list_of (numbers.◌⊕◌ (number_of (a.read_number-acc.ensures i)) (number_of (p.conj_product-p.ensures i)))))
+    ∙ (λ i. sets s.args.res.now s.args.at (list_of (numbers.◌⊕◌ (number_in s.args.res.now s.args.at) (numbers.◌⊗◌ (number_of s.args.x) (conjugate root2 (number_of (r.read_scaled-y.ensures i)))))))

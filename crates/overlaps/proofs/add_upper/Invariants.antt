@@ -1,0 +1,16 @@
+-- `add_upper` meets its contract.
+use Prim.Native.Nat.{◌+◌, ◌*◌, ◌-◌, ◌≤◌}
+use native.Mathlib.Nat.{le_refl, mul-le-mul}
+use native.Mathlib.Omega.{arith}
+use lib.ListN.{length}
+use Rattle.algebra.proofs.Blocks.{done, long}
+use Rattle.cells.specs.Cells.{cell_size}
+use Rattle.overlaps.specs.Inner.Overlap.{upper_added}
+use Rattle.overlaps.proofs.Rows.{Rows, no_rows, diagonal-room, row_asks, row_more}
+use Rattle.overlaps.proofs.add_upper.Given as goal
+
+abbrev pub invariant-loop-r : goal.invariant-loop-r
+invariant-loop-r l = (l.r ≤ l.w) × Rows l.initial.res l.out l.w (upper_added l.initial.res l.out l.work l.k l.w l.e) l.res l.r
+
+abbrev pub decreases-loop-r : goal.decreases-loop-r
+decreases-loop-r l = l.w - l.r

@@ -1,0 +1,14 @@
+-- The invariant: what is counted so far and the count of the rest make the whole.
+use Prim.Native.Nat.{◌+◌, ◌-◌, ◌/◌}
+use native.Mathlib.Omega.{arith}
+use lib.ListN.{length}
+use Rattle.gate.specs.Gate.{gate_size, gates_from}
+use Rattle.gate.specs.Inner.Words.{gate_of}
+use Rattle.pauli_judge.proofs.Counted.{Counted, newly-one, counted_none, counted-more, counted-all}
+use Rattle.pauli_judge.proofs.footprint.ProgramFootprint.of.Given as goal
+
+abbrev pub invariant-loop-i : goal.invariant-loop-i
+invariant-loop-i l = Counted l.words l.n l.bits l.i l.nodes l.splits l.written l.weight
+
+abbrev pub decreases-loop-i : goal.decreases-loop-i
+decreases-loop-i l = length l.words / gate_size - l.i

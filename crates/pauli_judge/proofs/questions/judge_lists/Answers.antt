@@ -1,0 +1,46 @@
+-- The nodes decide, or the operations by the mask forms that the nodes left.
+use mathlib.Core.Path.{◌≡◌, sym, ap, ◌∙◌}
+use mathlib.Core.Bool.{Bool}
+use native.Mathlib.Omega.{arith}
+use Rattle.verdict.specs.Questions.{Question, first_no}
+use Rattle.verdict.proofs.Questions.{after-yes, after_no}
+use Rattle.gate.specs.Gate.{gates_of}
+use Rattle.pauli_nodes.specs.Nodes.{Reference}
+use Rattle.pauli_words.specs.Words.{nodes_of}
+use Rattle.pauli_words.specs.Questions.{axis_fits, nodes_questions, operations_questions}
+use mathlib.Core.List.{List}
+use Rattle.pauli_judge.proofs.Accepted.{nodes_refuse}
+use Rattle.pauli_judge.proofs.Axes.{fits-same}
+use Rattle.pauli_judge.proofs.questions.judge_lists.Lts as lts
+use Rattle.pauli_judge.proofs.questions.judge_lists.Reads as reads
+use Rattle.pauli_judge.proofs.questions.judge_lists.Tie as tie
+use Rattle.pauli_judge.proofs.questions.judge_lists.Goals as goal
+
+abbrev Start : Type 0
+Start = lts.Start tie.the-claims reads.Pre reads.Post
+
+-- the questions of the operations
+abbrev asked : Start → List Question
+asked s = operations_questions (axis_fits s.args.n (nodes_of s.args.nodes.now)) s.args.bits 0 0 (gates_of s.args.operations.now)
+
+pub returns-then-is_accepted : goal.returns-then-is_accepted
+returns-then-is_accepted c =
+    let t = c.before.before.before in
+    let i = t.before in
+    let j = i.before.before in
+    let s = j.before.before.before.before in
+    let a = s.args in
+    let good = sym i.is_accepted.ensures ∙ t.if-is_accepted.true in
+    after-yes (nodes_questions a.n 0 (gates_of a.nodes.now)) (asked s) (nodes_refuse a.n 0 (gates_of a.nodes.now)) j.judge_nodes-v.ensures.0 good
+    (c.judge_operations.ensures
+    ∙ ap (λ (fits : Reference → Bool). first_no (operations_questions fits a.bits 0 0 (gates_of a.operations.now)))
+    (fits-same a.n s.requires.0 a.nodes.now j.judge_nodes-v.new.1.1.0 j.judge_nodes-v.ensures.0 good (j.judge_nodes-v.ensures.1 good)))
+
+pub returns : goal.returns
+returns c =
+    let i = c.before.before in
+    let j = i.before.before in
+    let s = j.before.before.before.before in
+    let a = s.args in
+    after_no (nodes_questions a.n 0 (gates_of a.nodes.now)) (asked s) (nodes_refuse a.n 0 (gates_of a.nodes.now)) j.judge_nodes-v.ensures.0
+    (sym i.is_accepted.ensures ∙ c.if-is_accepted.false)

@@ -1,0 +1,171 @@
+-- `step` meets its contract.
+use mathlib.Core.Path.{◌≡◌, sym, ◌∙◌, subst, subst₂}
+use mathlib.Core.List.{List}
+use Prim.Native.Nat.{ℕ, ◌+◌, ◌*◌, ◌-◌, ◌/◌, ◌%◌, ◌^◌, ◌≤◌, ◌<◌}
+use native.Mathlib.Nat.{le_of_eq, mod-lt}
+use native.Mathlib.Omega.{arith}
+use lib.Bits.{bit_and, and_mask}
+use lib.ListN.{length}
+use lib.Seq.{sets}
+use lib.IntN.{ℤ}
+use Rattle.algebra.proofs.Blocks.{Writing, begin, done, long}
+use Rattle.matrix.specs.Inner.Written.{written}
+use Rattle.store.specs.Inner.Held.{StoreAt}
+use Rattle.branches.specs.Inner.Store.{outcome_words}
+use Rattle.branches.specs.Inner.Bank.{matrix_size, branch_size, row_size}
+use Rattle.branches.specs.Inner.Step.{row_sum, Applying}
+use Rattle.pauli_steps.specs.Inner.Step.{chosen, step_words}
+use Rattle.branches.proofs.Steps.{length-product}
+use Rattle.pauli_steps.proofs.Turns.{step_square, total_le, branch_is, op-at, old_in, new_in, turn_applying, turn-store, turn-room, turn_more}
+use Rattle.pauli_steps.proofs.step.step.Lts as lts
+use Rattle.pauli_steps.proofs.step.step.Reads as reads
+use Rattle.pauli_steps.proofs.step.step.Tie as tie
+use Rattle.pauli_steps.proofs.step.step.Goals as goal
+
+abbrev In-loop-j : Type 0
+In-loop-j = lts.In-loop tie.the-claims reads.Pre reads.Post goal.the-invariant-loop-j goal.the-decreases-loop-j
+
+abbrev Start : Type 0
+Start = lts.Start tie.the-claims reads.Pre reads.Post goal.the-invariant-loop-j goal.the-decreases-loop-j
+
+pub loop-j-init : goal.loop-j-init
+loop-j-init c = let a = c.args in begin (λ j. le_of_eq (length-product a.work-1.now a.m _ _ a.d a.bit (chosen a.shift j)))
+
+-- one turn: j, and the branch and the operator by its shift and its mask
+module _ (t : In-loop-j) where
+  abbrev s : Start
+  s = t.before.before
+
+  abbrev j : ℕ
+  j = t.loop-j.j
+
+  old-at : s.args.from + j / 2 ^ (s.args.ops - 1) * branch_size s.args.d + branch_size s.args.d ≤ length s.args.work.now
+  old-at = subst (λ (k : ℕ). s.args.from + k * branch_size s.args.d + branch_size s.args.d ≤ length s.args.work.now) (sym (branch_is s.requires j)) (omega (arith, old_in s.requires t.loop-j-test.true, s.requires.from_room))
+
+  number_is : bit_and (j / 2 ^ s.args.shift) 1 ≡ chosen s.args.shift j
+  number_is = and_mask (j / 2 ^ s.args.shift) 1
+
+  bit_lt : chosen s.args.shift j < 2
+  bit_lt = mod-lt (j / 2 ^ s.args.shift) (omega arith)
+
+  slot_at : s.args.slots + bit_and (j / 2 ^ s.args.shift) 1 * (s.args.d * row_size) + s.args.d * row_size ≤ length s.args.work.now
+  slot_at = subst (λ (k : ℕ). s.args.slots + k * (s.args.d * row_size) + s.args.d * row_size ≤ length s.args.work.now) (sym number_is) (op-at s.requires t.loop-j-test.true)
+
+  new-at : s.args.to + j * branch_size s.args.d + branch_size s.args.d ≤ length s.args.work.now
+  new-at = omega (arith, new_in s.requires t.loop-j-test.true, s.requires.to_room)
+
+pub apply_operator-requires : goal.apply_operator-requires
+apply_operator-requires c =
+    let t = c.before in
+    let a = (s t).args in
+    subst₂ (λ (v k : ℕ). Applying t.loop-j.work a.m (a.slots + v * (a.d * row_size)) (a.from + k * branch_size a.d) (a.to + j t * branch_size a.d) a.d) (sym (number_is t)) (sym (branch_is (s t).requires (j t)))
+    (turn_applying (s t).requires t.loop-j-test.true a.bit t.loop-j.invariant)
+
+-- after the product: m are the words
+module _ (t : In-loop-j) where
+  abbrev given : Start
+  given = s t
+
+  abbrev size : ℕ
+  size = branch_size given.args.d
+
+  abbrev wrote : ℕ → ℕ → List ℤ
+  wrote v k = written t.loop-j.work (given.args.to + j t * size) given.args.d (row_sum t.loop-j.work given.args.m (given.args.slots + v * (given.args.d * row_size)) (given.args.from + k * size) given.args.d)
+
+  abbrev v : ℕ
+  v = bit_and (j t / 2 ^ given.args.shift) 1
+
+  abbrev k : ℕ
+  k = j t / 2 ^ (given.args.ops - 1)
+
+  module _ {m : List ℤ} (e : m ≡ wrote v k) where
+    applied : m ≡ wrote (chosen given.args.shift (j t)) (j t / given.args.ops)
+    applied = e ∙ (λ i. wrote (number_is t i) (branch_is given.requires (j t) i))
+
+    store_at : StoreAt m (given.args.from + j t / given.args.ops * size + matrix_size given.args.d) → StoreAt m (given.args.from + k * size + matrix_size given.args.d)
+    store_at = subst (λ (k : ℕ). StoreAt m (given.args.from + k * size + matrix_size given.args.d)) (sym (branch_is given.requires (j t)))
+
+    outcome-is : {q : List ℤ} → q ≡ sets m (given.args.to + j t * size + matrix_size given.args.d) (outcome_words m (given.args.from + k * size + matrix_size given.args.d) given.args.bit v)
+        → q ≡ sets m (given.args.to + j t * size + matrix_size given.args.d) (outcome_words m (given.args.from + j t / given.args.ops * size + matrix_size given.args.d) given.args.bit (chosen given.args.shift (j t)))
+    outcome-is f =
+        f ∙ (λ i. sets m (given.args.to + j t * size + matrix_size given.args.d) (outcome_words m (given.args.from + branch_is given.requires (j t) i * size + matrix_size given.args.d) given.args.bit (number_is t i)))
+
+pub write_store-requires : goal.write_store-requires
+write_store-requires c =
+    let q = c.before.before in
+    let t = q.before.before in
+    let a = (s t).args in (
+      omega (arith, number_is t, bit_lt t),
+      (
+        turn-room (s t).requires t.loop-j-test.true a.bit t.loop-j.invariant (applied t q.apply_operator.ensures),
+        store_at t q.apply_operator.ensures (turn-store (s t).requires t.loop-j-test.true a.bit t.loop-j.invariant (applied t q.apply_operator.ensures)),
+      ),
+    )
+
+pub overflow_add-j : goal.overflow_add-j
+overflow_add-j c = let t = c.before.before.before.before.before.before in omega (arith, t.loop-j-test.true, total_le (s t).requires)
+
+pub loop-j-preserved : goal.loop-j-preserved
+loop-j-preserved c =
+    let q = c.before.before.before.before in
+    let t = q.before.before in
+    let a = (s t).args in
+    turn_more (s t).requires t.loop-j-test.true a.bit t.loop-j.invariant (applied t q.apply_operator.ensures) (outcome-is t q.apply_operator.ensures c.write_Store.ensures)
+
+pub returns : goal.returns
+returns c = done c.loop-j.invariant c.loop-j-test.false
+
+pub shape_of-work : goal.shape_of-work
+shape_of-work c = long c.loop-j.invariant
+
+-- ---- sizes
+pub overflow_mul-rows : goal.overflow_mul-rows
+overflow_mul-rows c = omega (arith, c.requires.dim)
+
+pub overflow_mul-matrix : goal.overflow_mul-matrix
+overflow_mul-matrix c = omega (arith, step_square c.requires)
+
+pub overflow_mul-matrix-2 : goal.overflow_mul-matrix-2
+overflow_mul-matrix-2 c = omega (arith, step_square c.requires)
+
+pub overflow_add-size : goal.overflow_add-size
+overflow_add-size c = omega (arith, step_square c.requires)
+
+pub overflow_mul-total : goal.overflow_mul-total
+overflow_mul-total c = omega (arith, total_le c.requires)
+
+pub overflow_sub-last : goal.overflow_sub-last
+overflow_sub-last c = omega (arith, c.requires.some_op)
+
+pub overflow_shr-v : goal.overflow_shr-v
+overflow_shr-v c = omega (arith, (s c).requires.shifted)
+
+pub overflow_mul-op : goal.overflow_mul-op
+overflow_mul-op c = omega (arith, slot_at c)
+
+pub overflow_add-op : goal.overflow_add-op
+overflow_add-op c = omega (arith, slot_at c)
+
+pub overflow_shr-old : goal.overflow_shr-old
+overflow_shr-old c = omega (arith, (s c).requires.few_ops)
+
+pub overflow_mul-old : goal.overflow_mul-old
+overflow_mul-old c = omega (arith, old-at c)
+
+pub overflow_add-old : goal.overflow_add-old
+overflow_add-old c = omega (arith, old-at c)
+
+pub overflow_mul-new : goal.overflow_mul-new
+overflow_mul-new c = omega (arith, new-at c)
+
+pub overflow_add-new : goal.overflow_add-new
+overflow_add-new c = omega (arith, new-at c)
+
+pub overflow_add-old-in-loop-j : goal.overflow_add-old-in-loop-j
+overflow_add-old-in-loop-j c = let t = c.before.before.before.before in omega (arith, old-at t)
+
+pub overflow_add-new-in-loop-j : goal.overflow_add-new-in-loop-j
+overflow_add-new-in-loop-j c = let t = c.before.before.before.before in omega (arith, new-at t)
+
+pub loop-j-smaller : goal.loop-j-smaller
+loop-j-smaller c = omega arith

@@ -1,0 +1,59 @@
+-- A product reads two earlier words; a Pauli of a qubit has masks of its weight.
+use mathlib.Core.Path.{◌≡◌, sym, ap, ap₂, ◌∙◌}
+use Prim.Native.Nat.{ℕ, ◌<◌}
+use native.Mathlib.Omega.{arith}
+use Rattle.gate.specs.Inner.Words.{gate_of}
+use Rattle.pauli_nodes.specs.Inner.Masks.{pauli_mask, times_mask, mask_after}
+use Rattle.pauli_words.specs.Inner.Masks.{masks_in}
+use Rattle.pauli_words.proofs.Held.{turned-read}
+use Rattle.pauli_words.proofs.Forms.{product-of, single_of, earlier, on_qubit, known}
+use Rattle.pauli_words.proofs.nodes.mask_of.Lts as lts
+use Rattle.pauli_words.proofs.nodes.mask_of.Reads as reads
+use Rattle.pauli_words.proofs.nodes.mask_of.Tie as tie
+use Rattle.pauli_words.proofs.nodes.mask_of.Goals as goal
+
+abbrev Then-w-eq-TIMES : Type 0
+Then-w-eq-TIMES = lts.Then1 tie.the-claims reads.Pre reads.Post
+
+-- both nodes of a product are there
+both : (c : Then-w-eq-TIMES) → let a = c.args in (a.w.a < a.number) × (a.w.c < a.number)
+both c =
+    let s = c.before.before.before in
+    earlier (gate_of s.args.w) s.args.n s.args.number c.if-w-eq-TIMES.true s.requires.3
+
+pub bounds-masks-w : goal.bounds-masks-w
+bounds-masks-w c = omega (arith, both c.before.before.before)
+
+pub bounds-masks-w-then-w-eq-TIMES : goal.bounds-masks-w-then-w-eq-TIMES
+bounds-masks-w-then-w-eq-TIMES c = omega (arith, both c.before.before.before.before.before.before)
+
+pub returns-then-w-eq-TIMES : goal.returns-then-w-eq-TIMES
+returns-then-w-eq-TIMES c =
+    let y = c.before.before in
+    let x = y.before.before.before in
+    let t = x.before.before.before in
+    let a = t.args in
+    let h = both t in
+    c.times.ensures
+    ∙ ap₂ times_mask
+    (turned-read a.masks.now a.number a.w.a a.w.b x.turn-a.result h.0 x.turn-a.ensures)
+    (turned-read a.masks.now a.number a.w.c a.w.k y.turn-c.result h.1 y.turn-c.ensures)
+    ∙ sym (ap (mask_after a.n (masks_in a.masks.now a.number)) (product-of (gate_of a.w) t.if-w-eq-TIMES.true))
+
+pub weight_of-requires : goal.weight_of-requires
+weight_of-requires c =
+    let s = c.before.before.before.before in
+    (on_qubit (gate_of s.args.w) s.args.n s.args.number c.if-w-eq-TIMES.false s.requires.3, s.requires.0)
+
+pub single-requires : goal.single-requires
+single-requires c =
+    let e = c.before.before in
+    let s = e.before.before.before in
+    (c.weight_of.ensures.1, known (gate_of s.args.w) e.if-w-eq-TIMES.false s.requires.2)
+
+pub returns : goal.returns
+returns c =
+    let e = c.before.before.before in
+    let a = e.args in
+    c.single.ensures ∙ ap (λ (v : ℕ). pauli_mask v a.w.kind) c.weight_of.ensures.0
+    ∙ sym (ap (mask_after a.n (masks_in a.masks.now a.number)) (single_of (gate_of a.w) e.if-w-eq-TIMES.false))

@@ -1,0 +1,30 @@
+-- `names::find` meets its contract.
+use mathlib.Core.Path.{refl, sym, ◌∙◌}
+use mathlib.Core.Bool.{Bool}
+use mathlib.Core.List.{List}
+use Prim.Native.Nat.{ℕ, ◌-◌}
+use native.Mathlib.Omega.{arith}
+use Rattle.qasm.specs.Forms.{Entry, table}
+use Rattle.qasm.specs.Tokens.{same}
+use Rattle.qasm.specs.Inner.Places.{entry_count, no_entry}
+use Rattle.qasm.proofs.Table.{Seeking, seeking_none, seeking_more, seeking_all, found}
+use Rattle.qasm.proofs.names.find.Invariants.{has}
+use Rattle.qasm.proofs.names.find.Goals as goal
+
+pub loop-e-init : goal.loop-e-init
+loop-e-init c = seeking_none (has c.args.word.now) table no_entry
+
+pub is_name-requires : goal.is_name-requires
+is_name-requires c = ((refl, refl), c.loop-e-test.true)
+
+pub returns-then-is_name : goal.returns-then-is_name
+returns-then-is_name c =
+    found (has c.args.word.now) table no_entry c.loop-e.invariant c.loop-e-test.true (sym c.is_name.ensures ∙ c.if-is_name.true)
+
+pub loop-e-preserved : goal.loop-e-preserved
+loop-e-preserved c =
+    seeking_more (has c.args.word.now) table no_entry c.loop-e.invariant c.loop-e-test.true (sym c.is_name.ensures ∙ c.if-is_name.false)
+
+pub returns : goal.returns
+returns c =
+    seeking_all (has c.args.word.now) table no_entry c.loop-e.invariant c.loop-e-test.false

@@ -1,0 +1,21 @@
+-- `names::find` meets its contract.
+use mathlib.Core.Path.{refl, sym, ◌∙◌}
+use mathlib.Core.Bool.{Bool}
+use mathlib.Core.List.{List}
+use Prim.Native.Nat.{ℕ, ◌-◌}
+use native.Mathlib.Omega.{arith}
+use Rattle.qasm.specs.Forms.{Entry, table}
+use Rattle.qasm.specs.Tokens.{same}
+use Rattle.qasm.specs.Inner.Places.{entry_count, no_entry}
+use Rattle.qasm.proofs.Table.{Seeking, seeking_none, seeking_more, seeking_all, found}
+use Rattle.qasm.proofs.names.find.Given as goal
+
+-- the entry has this name
+abbrev pub has : List ℕ → Entry → Bool
+has word e = same e.name word
+
+abbrev pub invariant-loop-e : goal.invariant-loop-e
+invariant-loop-e l = Seeking (has l.word) table l.e
+
+abbrev pub decreases-loop-e : goal.decreases-loop-e
+decreases-loop-e l = entry_count - l.e

@@ -1,0 +1,16 @@
+-- `scan::run_end` meets its contract.
+use Prim.Native.Nat.{◌-◌}
+use mathlib.Core.Path.{◌≡◌, sym, ◌∙◌}
+use mathlib.Core.Bool.{Bool, ◌&&◌, ◌||◌}
+use native.Mathlib.Omega.{arith}
+use lib.ListN.{length, get_or}
+use borrow.Author.Tests.{not-true, not-false}
+use Rattle.qasm.specs.Inner.Scanning.{in_run}
+use Rattle.qasm.proofs.Scanning.{Running, run-begins, run_again, run-stopped, run-ended}
+use Rattle.qasm.proofs.scan.run_end.Given as goal
+
+abbrev pub invariant-loop-i : goal.invariant-loop-i
+invariant-loop-i l = Running (in_run l.word) l.text l.at l.i
+
+abbrev pub decreases-loop-i : goal.decreases-loop-i
+decreases-loop-i l = length l.text - l.i

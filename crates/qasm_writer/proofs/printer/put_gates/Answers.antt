@@ -1,0 +1,45 @@
+-- `printer::put_gates` meets its contract.
+use mathlib.Core.Path.{ap}
+use Prim.Native.Nat.{◌-◌, ◌/◌}
+use native.Mathlib.Omega.{arith}
+use lib.ListN.{length}
+use Rattle.algebra.specs.Lists.{concat_map}
+use Rattle.gate.specs.Gate.{gate_size, gates_of}
+use Rattle.gate.proofs.Listed.{gates-more, gates-none}
+use Rattle.text.specs.Page.{page}
+use Rattle.text.proofs.Put.{text, Left, left-all, left_less, left-none, left_is}
+use Rattle.qasm.specs.Writing.{gate_text}
+use Rattle.qasm_writer.proofs.Asked.{from, from_all}
+use Rattle.qasm_writer.proofs.printer.put_gates.Goals as goal
+
+pub loop-i-init : goal.loop-i-init
+loop-i-init c = left_is (ap (concat_map gate_text) (from_all c.args.words.now)) (left-all _ _)
+
+pub loop-i-preserved : goal.loop-i-preserved
+loop-i-preserved c =
+    let ws = c.args.words.now in
+    left_less (left_is (ap (concat_map gate_text) (gates-more ws (length ws / gate_size) c.loop-i.i c.loop-i-test.true)) c.loop-i.invariant)
+    (text (ap gate_text c.read_gate-g.ensures) c.put_gate-p.ensures)
+
+pub shape_of-out : goal.shape_of-out
+shape_of-out c = c.loop-i.invariant.same
+
+pub returns : goal.returns
+returns c =
+    let ws = c.args.words.now in
+    left-none (left_is (ap (concat_map gate_text) (gates-none ws (length ws / gate_size) c.loop-i.i c.loop-i-test.false)) c.loop-i.invariant)
+
+pub overflow_mul-i : goal.overflow_mul-i
+overflow_mul-i c = omega arith
+
+pub read_gate-g-requires : goal.read_gate-g-requires
+read_gate-g-requires c = omega arith
+
+pub put_gate-p-requires : goal.put_gate-p-requires
+put_gate-p-requires c = tt
+
+pub overflow_add-i : goal.overflow_add-i
+overflow_add-i c = omega arith
+
+pub loop-i-smaller : goal.loop-i-smaller
+loop-i-smaller c = omega arith

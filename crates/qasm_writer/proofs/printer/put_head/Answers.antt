@@ -1,0 +1,7 @@
+-- `printer::put_head` meets its contract.
+use Rattle.text.proofs.Put.{then}
+use Rattle.qasm_writer.proofs.printer.put_head.Goals as goal
+
+pub returns : goal.returns
+returns c =
+    then c.put_indexed-a.ensures (then c.put_indexed-b.ensures c.put_all.ensures)

@@ -1,0 +1,13 @@
+-- `printer::put_qubit` meets its contract.
+use mathlib.Core.Path.{sym, ap}
+use mathlib.Core.Bool.{Bool}
+use Rattle.text.proofs.Put.{text, none}
+use Rattle.qasm_writer.specs.Inner.Print.{qubit_if}
+use Rattle.qasm_writer.proofs.printer.put_qubit.Goals as goal
+
+pub returns-then-used : goal.returns-then-used
+returns-then-used c =
+    text (ap (λ (u : Bool). qubit_if u c.args.n) (sym c.if-used.true)) c.put_indexed.ensures
+
+pub returns : goal.returns
+returns c = text (ap (λ (u : Bool). qubit_if u c.args.n) (sym c.if-used.false)) (none _)

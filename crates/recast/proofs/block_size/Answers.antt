@@ -1,0 +1,21 @@
+-- `block_size` meets its contract.
+use mathlib.Core.Path.{sym, subst}
+use Prim.Native.Nat.{ℕ, ◌*◌, ◌≤◌}
+use native.Mathlib.Omega.{arith}
+use Rattle.recast.proofs.Places.{words_small}
+use Rattle.recast.proofs.block_size.Lts as lts
+use Rattle.recast.proofs.block_size.Reads as reads
+use Rattle.recast.proofs.block_size.Tie as tie
+use Rattle.recast.proofs.block_size.Goals as goal
+
+abbrev After-entry_size : Type 0
+After-entry_size = lts.After-entry_size tie.the-claims reads.Pre reads.Post
+
+small : (c : After-entry_size) → c.row_start.result * c.entry_size.result ≤ 262144
+small c = let s = c.before.before in subst (λ (k : ℕ). k ≤ 262144) (sym (λ i. c.row_start.ensures i * c.entry_size.ensures i)) (words_small s.args.w s.args.f.half s.args.f.plain s.requires)
+
+pub overflow_mul-result : goal.overflow_mul-result
+overflow_mul-result c = let q = small c in omega arith
+
+pub returns : goal.returns
+returns c = λ i. c.row_start.ensures i * c.entry_size.ensures i

@@ -1,0 +1,101 @@
+-- `copy_block` meets its contract.
+use mathlib.Core.Path.{◌≡◌, sym, ◌∙◌, subst}
+use mathlib.Core.Bool.{Bool, true, false, cond}
+use Prim.Native.Nat.{ℕ, ◌+◌, ◌*◌, ◌-◌, ◌≤◌, ◌<◌}
+use native.Mathlib.Omega.{arith}
+use lib.ListN.{length}
+use Rattle.algebra.specs.Words.{blocks}
+use Rattle.channel.specs.Layout.{Form, entry_size, entry_words, from, row_start, block_size, numbers_at}
+use Rattle.recast.specs.Words.{form_of}
+use Rattle.recast.proofs.Rows.{row_room, Rows, rows_begin, rows_again, rows_done, rows_long}
+use Rattle.recast.proofs.copy_block.Lts as lts
+use Rattle.recast.proofs.copy_block.Reads as reads
+use Rattle.recast.proofs.copy_block.Tie as tie
+use Rattle.recast.proofs.copy_block.Goals as goal
+
+abbrev After-first_column-skipped : Type 0
+After-first_column-skipped = lts.After-first_column tie.the-claims reads.Pre reads.Post goal.the-invariant-loop-r goal.the-decreases-loop-r
+
+abbrev In-loop-r : Type 0
+In-loop-r = lts.In-loop tie.the-claims reads.Pre reads.Post goal.the-invariant-loop-r goal.the-decreases-loop-r
+
+abbrev Start : Type 0
+Start = lts.Start tie.the-claims reads.Pre reads.Post goal.the-invariant-loop-r goal.the-decreases-loop-r
+
+module _ (c : After-first_column-skipped) where
+  abbrev turn : In-loop-r
+  turn = c.before.before
+
+  abbrev start : Start
+  start = turn.before.before.before
+
+  abbrev r : ℕ
+  r = turn.loop-r.r
+
+  abbrev G : Form
+  G = form_of start.args.w start.args.to
+
+  abbrev size : ℕ
+  size = turn.entry_size-size.result
+
+  row : r < start.args.w
+  row = turn.loop-r-test.true
+
+  -- where the row goes
+  place : start.args.out + c.row_start-start.result * size ≡ start.args.out + row_start G r * entry_size start.args.to.plain
+  place = λ i. start.args.out + c.row_start-start.ensures i * turn.entry_size-size.ensures i
+
+  same : length turn.loop-r.result ≡ length start.args.res.now
+  same = rows_long G (numbers_at (form_of start.args.w start.args.f) start.args.s.now start.args.at) turn.loop-r.invariant
+
+  room : start.args.out + c.row_start-start.result * size + (start.args.w - c.first_column-skipped.result) * entry_size start.args.to.plain ≤ length turn.loop-r.result
+  room =
+      subst (λ (n : ℕ). n ≤ length turn.loop-r.result) (sym (λ i. place i + (start.args.w - c.first_column-skipped.ensures i) * entry_size start.args.to.plain))
+      (by (row_start G r * entry_size start.args.to.plain) ((start.args.w - from G r) * entry_size start.args.to.plain) (block_size G) (row_room G r row start.requires.0.width) start.requires.1 same)
+    where
+      by : (a b n : ℕ) → a + b ≤ n → start.args.out + n ≤ length start.args.res.now → length turn.loop-r.result ≡ length start.args.res.now → start.args.out + a + b ≤ length turn.loop-r.result
+      by a b n p q e = omega arith
+
+  skips : c.first_column-skipped.result ≤ start.args.w
+  skips = subst (λ (k : ℕ). k ≤ start.args.w) (sym c.first_column-skipped.ensures) (by start.args.to.half)
+    where
+      by : (b : Bool) → cond b r 0 ≤ start.args.w
+      by true = omega arith
+      by false = omega arith
+
+pub loop-r-init : goal.loop-r-init
+loop-r-init c = let s = c.args in rows_begin (form_of s.w s.to) (numbers_at (form_of s.w s.f) s.s.now s.at) s.result.now s.out
+
+pub row_start-start-requires : goal.row_start-start-requires
+row_start-start-requires c = (c.requires.0.width, omega arith)
+
+pub overflow_mul-start : goal.overflow_mul-start
+overflow_mul-start c = let q = room c.before in let e = same c.before in omega arith
+
+pub overflow_add-out : goal.overflow_add-out
+overflow_add-out c = let q = room c.before in let e = same c.before in omega arith
+
+pub copy_row-requires : goal.copy_row-requires
+copy_row-requires c = let k = c.before in ((start k).requires.0, (row k, (skips k, room k)))
+
+pub overflow_add-r : goal.overflow_add-r
+overflow_add-r c = let q = row c.before.before.before in omega arith
+
+pub loop-r-smaller : goal.loop-r-smaller
+loop-r-smaller c = let q = row c.before.before.before in omega arith
+
+pub loop-r-preserved : goal.loop-r-preserved
+loop-r-preserved c =
+    let w = c.before in
+    let k = w.before.before in
+    let s = (start k).args in
+    rows_again (form_of s.w s.to) (numbers_at (form_of s.w s.f) s.s.now s.at) (turn k).loop-r.invariant (row k)
+    (w.copy_row.ensures
+    ∙ (λ i. blocks (entry_size s.to.plain) (turn k).loop-r.result (place k i) (s.w - k.first_column-skipped.ensures i)
+    (λ (j : ℕ). entry_words s.to.plain (numbers_at (form_of s.w s.f) s.s.now s.at (r k * s.w + (k.first_column-skipped.ensures i + j))))))
+
+pub shape_of-res : goal.shape_of-res
+shape_of-res c = let s = c.args in rows_long (form_of s.w s.to) (numbers_at (form_of s.w s.f) s.s.now s.at) c.loop-r.invariant
+
+pub returns : goal.returns
+returns c = let s = c.args in rows_done (form_of s.w s.to) (numbers_at (form_of s.w s.f) s.s.now s.at) c.loop-r.invariant c.loop-r-test.false

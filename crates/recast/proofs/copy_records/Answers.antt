@@ -1,0 +1,112 @@
+-- `copy_records` meets its contract.
+use mathlib.Core.Path.{◌≡◌, sym, ap, ◌∙◌, subst}
+use Prim.Native.Nat.{ℕ, ◌+◌, ◌*◌, ◌-◌, ◌≤◌}
+use native.Mathlib.Nat.{le_of_eq}
+use native.Mathlib.Omega.{arith}
+use lib.ListN.{length}
+use lib.Seq.{sets}
+use Rattle.algebra.proofs.Blocks.{Writing, begin, again, done, long, block_in_lem}
+use Rattle.channel.specs.Layout.{Form, header_size, record_size, record_at, word}
+use Rattle.channel.specs.Recast.{recast_record}
+use Rattle.recast.specs.Words.{form_of}
+use Rattle.recast.specs.Inner.Records.{Readable, Linked}
+use Rattle.recast.proofs.Whole.{record_long}
+use Rattle.recast.proofs.copy_records.Lts as lts
+use Rattle.recast.proofs.copy_records.Reads as reads
+use Rattle.recast.proofs.copy_records.Tie as tie
+use Rattle.recast.proofs.copy_records.Goals as goal
+
+abbrev In-loop-j : Type 0
+In-loop-j = lts.In-loop tie.the-claims reads.Pre reads.Post goal.the-invariant-loop-j goal.the-decreases-loop-j
+
+abbrev Start : Type 0
+Start = lts.Start tie.the-claims reads.Pre reads.Post goal.the-invariant-loop-j goal.the-decreases-loop-j
+
+module _ (c : In-loop-j) where
+  abbrev start : Start
+  start = c.before.before.before.before
+
+  abbrev j : ℕ
+  j = c.loop-j.j
+
+  abbrev F : Form
+  F = form_of start.args.w start.args.f
+
+  abbrev G : Form
+  G = form_of start.args.w start.args.to
+
+  -- where the record lies, and where it goes
+  at : header_size + j * c.record_size-here.result ≡ record_at F j
+  at = ap (λ (r : ℕ). header_size + j * r) c.record_size-here.ensures
+
+  to : header_size + j * c.record_size-there.result ≡ record_at G j
+  to = ap (λ (r : ℕ). header_size + j * r) c.record_size-there.ensures
+
+  within : (r n k : ℕ) → j * r + r ≤ n * r → header_size + n * r ≤ k → header_size + j * r + r ≤ k
+  within r n k p q = omega arith
+
+  readable : Readable F start.args.s.now (record_at F j)
+  readable = record {
+    width = start.requires.0.width;
+    inside = within (record_size F) start.args.n (length start.args.s.now) (block_in_lem c.loop-j-test.true (record_size F)) start.requires.0.inside;
+    right = start.requires.0.block j c.loop-j-test.true;
+  }
+
+  inside : header_size + j * c.record_size-here.result ≤ length start.args.s.now
+  inside = subst (λ (a : ℕ). a ≤ length start.args.s.now) (sym at) (let q = readable.inside in omega arith)
+
+  room : header_size + j * c.record_size-there.result + record_size G ≤ length start.args.res.now
+  room = subst (λ (a : ℕ). a + record_size G ≤ length start.args.res.now) (sym to) (within (record_size G) start.args.n (length start.args.res.now) (block_in_lem c.loop-j-test.true (record_size G)) start.requires.1)
+
+pub record_size-here-requires : goal.record_size-here-requires
+record_size-here-requires c = c.requires.0.width
+
+pub record_size-there-requires : goal.record_size-there-requires
+record_size-there-requires c = c.requires.0.width
+
+pub loop-j-init : goal.loop-j-init
+loop-j-init c = let s = c.args in begin (λ k. le_of_eq (record_long (form_of s.w s.f) (form_of s.w s.to) s.s.now (record_at (form_of s.w s.f) k)))
+
+pub overflow_mul-j : goal.overflow_mul-j
+overflow_mul-j c = let q = inside c in omega arith
+
+pub overflow_add-j : goal.overflow_add-j
+overflow_add-j c = let q = inside c in omega arith
+
+pub overflow_mul-j-in-loop-j : goal.overflow_mul-j-in-loop-j
+overflow_mul-j-in-loop-j c = let q = room c.before in omega arith
+
+pub overflow_add-j-in-loop-j : goal.overflow_add-j-in-loop-j
+overflow_add-j-in-loop-j c = let q = room c.before in omega arith
+
+pub copy_record-requires : goal.copy_record-requires
+copy_record-requires c =
+    let n = c.before in
+    let s = start n in (
+      subst (Readable (F n) s.args.s.now) (sym (at n)) (readable n),
+      (
+        subst (λ (a : ℕ). Linked (F n) (G n) (word s.args.s.now a)) (sym (at n)) (s.requires.0.next (j n) n.loop-j-test.true),
+        subst (λ (k : ℕ). header_size + j n * n.record_size-there.result + record_size (G n) ≤ k) (sym (long n.loop-j.invariant)) (room n),
+      ),
+    )
+
+pub overflow_add-j-in-loop-j-2 : goal.overflow_add-j-in-loop-j-2
+overflow_add-j-in-loop-j-2 c = omega arith
+
+pub loop-j-smaller : goal.loop-j-smaller
+loop-j-smaller c = omega arith
+
+pub loop-j-preserved : goal.loop-j-preserved
+loop-j-preserved c =
+    let w = c.before in
+    let n = w.before.before in
+    let s = (start n).args in
+    let recorded = recast_record (F n) (G n) s.s.now in
+    let from = header_size + j n * n.record_size-here.result in
+    again n.loop-j.invariant n.loop-j-test.true (w.copy_record.ensures ∙ ap (λ (a : ℕ). sets n.loop-j.result a (recorded from)) (to n)) (ap recorded (at n))
+
+pub shape_of-res : goal.shape_of-res
+shape_of-res c = long c.loop-j.invariant
+
+pub returns : goal.returns
+returns c = done c.loop-j.invariant c.loop-j-test.false

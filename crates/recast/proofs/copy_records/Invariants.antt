@@ -1,0 +1,21 @@
+-- `copy_records` meets its contract.
+use mathlib.Core.Path.{◌≡◌, sym, ap, ◌∙◌, subst}
+use Prim.Native.Nat.{ℕ, ◌+◌, ◌*◌, ◌-◌, ◌≤◌}
+use native.Mathlib.Nat.{le_of_eq}
+use native.Mathlib.Omega.{arith}
+use lib.ListN.{length}
+use lib.Seq.{sets}
+use Rattle.algebra.proofs.Blocks.{Writing, begin, again, done, long, block_in_lem}
+use Rattle.channel.specs.Layout.{Form, header_size, record_size, record_at, word}
+use Rattle.channel.specs.Recast.{recast_record}
+use Rattle.recast.specs.Words.{form_of}
+use Rattle.recast.specs.Inner.Records.{Readable, Linked}
+use Rattle.recast.proofs.Whole.{record_long}
+use Rattle.recast.proofs.copy_records.Given as goal
+
+abbrev pub invariant-loop-j : goal.invariant-loop-j
+invariant-loop-j l =
+    Writing (record_size (form_of l.w l.to)) l.initial.res header_size l.n (λ (k : ℕ). recast_record (form_of l.w l.f) (form_of l.w l.to) l.s (record_at (form_of l.w l.f) k)) l.res l.j
+
+abbrev pub decreases-loop-j : goal.decreases-loop-j
+decreases-loop-j l = l.n - l.j

@@ -1,0 +1,87 @@
+-- `copy_row` meets its contract.
+use mathlib.Core.Path.{◌≡◌, sym, ap, ◌∙◌, subst}
+use mathlib.Core.List.{List}
+use Prim.Native.Nat.{ℕ, ◌+◌, ◌*◌, ◌-◌, ◌≤◌, ◌<◌}
+use native.Mathlib.Nat.{le_of_eq}
+use native.Mathlib.Omega.{arith}
+use lib.ListN.{length}
+use lib.Seq.{sets}
+use lib.IntN.{ℤ}
+use Rattle.algebra.proofs.Blocks.{Writing, begin, again, done, long, block_in_lem}
+use Rattle.exact.specs.Exact.{number_of}
+use Rattle.channel.specs.Layout.{entry_size, entry_words, numbers_at}
+use Rattle.recast.specs.Words.{form_of}
+use Rattle.recast.proofs.Places.{entry_long}
+use Rattle.recast.proofs.copy_row.Lts as lts
+use Rattle.recast.proofs.copy_row.Reads as reads
+use Rattle.recast.proofs.copy_row.Tie as tie
+use Rattle.recast.proofs.copy_row.Goals as goal
+
+abbrev In-loop-j : Type 0
+In-loop-j = lts.In-loop tie.the-claims reads.Pre reads.Post goal.the-invariant-loop-j goal.the-decreases-loop-j
+
+abbrev Start : Type 0
+Start = lts.Start tie.the-claims reads.Pre reads.Post goal.the-invariant-loop-j goal.the-decreases-loop-j
+
+module _ (c : In-loop-j) where
+  abbrev start : Start
+  start = c.before.before.before
+
+  abbrev j : ℕ
+  j = c.loop-j.j
+
+  abbrev size : ℕ
+  size = c.entry_size-size.result
+
+  column : start.args.skipped + j < start.args.w
+  column = let t : j < start.args.w - start.args.skipped = c.loop-j-test.true in omega (arith, start.requires.1.1.0)
+
+  room : start.args.out + j * size + entry_size start.args.plain ≤ length c.loop-j.result
+  room = subst (λ (k : ℕ). start.args.out + j * k + entry_size start.args.plain ≤ length c.loop-j.result) (sym c.entry_size-size.ensures)
+      (by (entry_size start.args.plain) (start.args.w - start.args.skipped) (block_in_lem c.loop-j-test.true (entry_size start.args.plain)) start.requires.1.1.1 (long c.loop-j.invariant))
+    where
+      by : (k n : ℕ) → j * k + k ≤ n * k → start.args.out + n * k ≤ length start.args.res.now → length c.loop-j.result ≡ length start.args.res.now → start.args.out + j * k + k ≤ length c.loop-j.result
+      by k n p q e = omega arith
+
+pub overflow_sub-n : goal.overflow_sub-n
+overflow_sub-n c = omega (arith, c.requires.1.1.0)
+
+pub loop-j-init : goal.loop-j-init
+loop-j-init c = begin (λ k. le_of_eq (entry_long c.args.plain _))
+
+pub overflow_add-skipped : goal.overflow_add-skipped
+overflow_add-skipped c = let q = column c in omega arith
+
+pub read_number-x-requires : goal.read_number-x-requires
+read_number-x-requires c = let s = start c in (s.requires.0, (s.requires.1.0, column c))
+
+pub overflow_mul-j : goal.overflow_mul-j
+overflow_mul-j c = let q = room c.before.before in let e = long c.loop-j.invariant in omega arith
+
+pub overflow_add-out : goal.overflow_add-out
+overflow_add-out c = let q = room c.before.before in let e = long c.loop-j.invariant in omega arith
+
+pub write_number-requires : goal.write_number-requires
+write_number-requires c = room c.before.before
+
+pub overflow_add-j : goal.overflow_add-j
+overflow_add-j c = let q = column c.before.before.before.before in omega arith
+
+pub loop-j-smaller : goal.loop-j-smaller
+loop-j-smaller c = omega arith
+
+pub loop-j-preserved : goal.loop-j-preserved
+loop-j-preserved c =
+    let w = c.before in
+    let x = w.before.before in
+    let n = x.before in
+    let s = (start n).args in
+    again n.loop-j.invariant n.loop-j-test.true
+    (w.write_number.ensures ∙ ap (λ (k : ℕ). sets n.loop-j.result (s.out + j n * k) (entry_words s.plain (number_of x.read_number-x.result))) n.entry_size-size.ensures)
+    (ap (λ (y : List ℤ). entry_words s.plain (number_of y)) x.read_number-x.ensures)
+
+pub shape_of-res : goal.shape_of-res
+shape_of-res c = long c.loop-j.invariant
+
+pub returns : goal.returns
+returns c = done c.loop-j.invariant c.loop-j-test.false

@@ -1,0 +1,55 @@
+-- `read_kept` meets its contract.
+use mathlib.Core.Path.{sym, ap, ◌∙◌, subst}
+use mathlib.Core.Bool.{Bool}
+use mathlib.Core.List.{[], ◌∷◌}
+use Prim.Native.Nat.{ℕ, ◌+◌, ◌≤◌}
+use native.Mathlib.Nat.{add-zero}
+use native.Mathlib.Omega.{arith}
+use lib.IntN.{pos}
+use lib.ListN.{length}
+use Rattle.algebra.proofs.Signed.{reads}
+use Rattle.exact.specs.Exact.{list_of}
+use Rattle.channel.specs.Layout.{entry_size, entry_from, word}
+use Rattle.recast.proofs.Places.{entry-least}
+use Rattle.recast.proofs.read_kept.Lts as lts
+use Rattle.recast.proofs.read_kept.Reads as reads
+use Rattle.recast.proofs.read_kept.Goals as goal
+
+abbrev Else-plain : Type 0
+Else-plain = lts.Else1 reads.Pre reads.Post
+
+four : (c : Else-plain) → (let s = c.before.before.before in s.args.p + 4 ≤ length s.args.s.now)
+four c = let s = c.before.before.before in subst (λ (q : Bool). s.args.p + entry_size q ≤ length s.args.s.now) c.if-plain.false s.requires
+
+pub bounds-s-p : goal.bounds-s-p
+bounds-s-p c = omega (arith, entry-least c.args.plain, c.requires)
+
+pub bounds-s-p-2 : goal.bounds-s-p-2
+bounds-s-p-2 c = let s = c.before in omega (arith, entry-least s.args.plain, s.requires)
+
+pub returns-then-plain : goal.returns-then-plain
+returns-then-plain c =
+    let b = c.before in
+    let l = b.args.s.now in
+    let p = b.args.p in
+    let p0 = reads (word l p) b.a-1.given ∙ ap (word l) (sym (add-zero p)) in
+    let p1 = reads (word l (p + 1)) b.b-1.given in
+    (λ i. p0 i ∷ pos 0 ∷ p1 i ∷ pos 0 ∷ []) ∙ sym (ap (λ (q : Bool). list_of (entry_from q (λ (i : ℕ). word l (p + i)))) c.if-plain.true)
+
+pub bounds-s-p-3 : goal.bounds-s-p-3
+bounds-s-p-3 c = let q = four c in omega arith
+
+pub bounds-s-p-4 : goal.bounds-s-p-4
+bounds-s-p-4 c = let q = four c.before in omega arith
+
+pub returns : goal.returns
+returns c =
+    let e = c.before.before in
+    let b = e.before in
+    let l = b.args.s.now in
+    let p = b.args.p in
+    let p0 = reads (word l p) b.a-1.given ∙ ap (word l) (sym (add-zero p)) in
+    let p1 = reads (word l (p + 1)) b.b-1.given in
+    let p2 = reads (word l (p + 2)) c.c-1.given in
+    let p3 = reads (word l (p + 3)) c.d-1.given in
+    (λ i. p0 i ∷ p1 i ∷ p2 i ∷ p3 i ∷ []) ∙ sym (ap (λ (q : Bool). list_of (entry_from q (λ (i : ℕ). word l (p + i)))) e.if-plain.false)

@@ -1,0 +1,28 @@
+-- `Record::bytes` meets its contract.
+use mathlib.Core.Path.{◌≡◌, refl, sym, ◌∙◌}
+use mathlib.Core.List.{foldl}
+use Prim.Native.Nat.{◌-◌}
+use native.Mathlib.Omega.{arith}
+use lib.ListN.{length, drop}
+use Rattle.replay.specs.Record.{with_byte}
+use Rattle.replay.proofs.Reading.{fold_more, fold_end}
+use Rattle.replay.proofs.record.Record.bytes.Goals as goal
+
+pub loop-i-init : goal.loop-i-init
+loop-i-init c = refl
+
+pub overflow_add-i : goal.overflow_add-i
+overflow_add-i c = omega arith
+
+pub loop-i-smaller : goal.loop-i-smaller
+loop-i-smaller c = omega arith
+
+pub loop-i-preserved : goal.loop-i-preserved
+loop-i-preserved c =
+    let s = c.args in
+    c.loop-i.invariant ∙ fold_more (with_byte s.text.now) s.bs.now c.loop-i.i 0 c.loop-i-test.true c.byte-seen.ensures
+
+pub returns : goal.returns
+returns c =
+    let s = c.args in
+    sym (c.loop-i.invariant ∙ fold_end (with_byte s.text.now) s.bs.now c.loop-i.seen c.loop-i.i c.loop-i-test.false)

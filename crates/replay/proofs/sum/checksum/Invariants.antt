@@ -1,0 +1,17 @@
+-- `sum::checksum` meets its contract.
+use mathlib.Core.Path.{◌≡◌, refl, sym, ap, ◌∙◌}
+use mathlib.Core.List.{foldl}
+use Prim.Native.Nat.{◌-◌}
+use native.Mathlib.Omega.{arith}
+use lib.ListN.{length, drop}
+use lib.IntN.{pos}
+use mir.Facts.{to_z-of_z}
+use Rattle.replay.specs.Checksum.{sums, with_word, joined}
+use Rattle.replay.proofs.Reading.{fold_more, fold_end}
+use Rattle.replay.proofs.sum.checksum.Given as goal
+
+abbrev pub invariant-loop-i : goal.invariant-loop-i
+invariant-loop-i l = foldl with_word (sums 0 0) l.words ≡ foldl with_word l.sums (drop l.i l.words)
+
+abbrev pub decreases-loop-i : goal.decreases-loop-i
+decreases-loop-i l = length l.words - l.i

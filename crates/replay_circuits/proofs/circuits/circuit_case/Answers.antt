@@ -1,0 +1,16 @@
+-- `circuits::circuit_case` meets its contract. The buffers have the lengths that they are made with.
+use mathlib.Core.Path.{sym}
+use lib.ListN.{length-replicate}
+use lib.IntN.{ℤ, pos}
+use Rattle.replay_circuits.specs.Cases.{circuit_case}
+use Rattle.replay_circuits.proofs.circuits.circuit_case.Goals as goal
+
+pub returns : goal.returns
+unfolding circuit_case
+returns c = c.answered.ensures
+
+pub slice_bounds-answered-end : goal.slice_bounds-answered-end
+slice_bounds-answered-end c = sym (length-replicate {A = ℤ} 656000 (pos 0))
+
+pub slice_bounds-answered-end-2 : goal.slice_bounds-answered-end-2
+slice_bounds-answered-end-2 c = sym (length-replicate {A = ℤ} 167000 (pos 0))

@@ -1,0 +1,29 @@
+-- `compared::channel_of` meets its contract.
+use mathlib.Core.Path.{sym, ap, ◌∙◌}
+use lib.Seq.{length-take-le}
+use Rattle.judge.specs.Call.{result_after, work_after}
+use Rattle.replay_circuits.specs.declared.reading.Circuit.{Circuit}
+use Rattle.replay_circuits.proofs.Given.{taken}
+use borrow.Author.Rules.{rules}
+use Rattle.replay_circuits.proofs.compared.channel_of.Goals as goal
+
+pub returns : goal.returns
+returns c =
+    let s = c.args in
+    let r = s.result.now in
+    let w = s.work-1.now in
+    let x = c.read_circuit-c.ensures.0 in
+    let store = taken (ap (λ (y : Circuit). y.stored) x) c.read_circuit-c.ensures.1.1.0 in
+    let gates = taken (ap (λ (y : Circuit). y.gates) x) c.read_circuit-c.ensures.1.1.1 in (
+      ap (λ (y : Circuit). y.next) x,
+      (
+        c.circuit_channel.ensures.1.0 ∙ (λ i. result_after (x i).n (x i).bits (store i) (x i).limits-1 (gates i) r w),
+        c.circuit_channel.ensures.1.1 ∙ (λ i. work_after (x i).n (x i).bits (store i) (x i).limits-1 (gates i) r w),
+      ),
+    )
+
+pub slice_bounds-circuit_channel-end : goal.slice_bounds-circuit_channel-end
+slice_bounds-circuit_channel-end c = sym (length-take-le _ _ (search rules))
+
+pub slice_bounds-circuit_channel-end-2 : goal.slice_bounds-circuit_channel-end-2
+slice_bounds-circuit_channel-end-2 c = sym (length-take-le _ _ (search rules))

@@ -1,0 +1,18 @@
+-- `compared::compare_case` meets its contract.
+use mathlib.Core.Path.{◌∙◌}
+use Rattle.channel.specs.Compare.{compare_of}
+use Rattle.replay.specs.Record.{begun}
+use Rattle.replay.specs.Answers.{with_difference}
+use Rattle.replay_circuits.specs.Given.{given}
+use Rattle.replay_circuits.specs.Cases.{room, channel_of, compare_case}
+use Rattle.replay_circuits.proofs.compared.compare_case.Goals as goal
+
+pub returns : goal.returns
+unfolding compare_case
+returns c =
+    let t = c.args.text.now in
+    let left = c.channel_of-second.ensures in
+    let right = c.channel_of-answer.ensures in
+    let begin = c.begin.ensures ∙ (λ i. begun ((right.0 ∙ (λ j. (given t (left.0 j)).next)) i)) in
+    let second = right.1.0 ∙ (λ i. channel_of t (left.0 i) (room 41000) (left.1.1 i)) in
+    c.compare_call.ensures ∙ (λ i. with_difference t (begin i) (compare_of (left.1.0 i) (second i)))

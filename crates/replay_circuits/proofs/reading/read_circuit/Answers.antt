@@ -1,0 +1,29 @@
+-- `reading::read_circuit` meets its contract.
+use mathlib.Core.Path.{◌∙◌}
+use Prim.Native.Nat.{◌%◌}
+use Rattle.replay.specs.Numerals.{word_at}
+use Rattle.replay.specs.Words.{numbers_at, numbers_part}
+use Rattle.replay_circuits.proofs.reading.read_circuit.Goals as goal
+
+pub returns : goal.returns
+returns c =
+    let s = c.args in
+    let t = s.text.now in
+    let σ = s.store-1.now in
+    let ws = s.words-1.now in
+    let bounds = c.read_limits-bounds.ensures in
+    let n = c.read-n.ensures ∙ (λ i. word_at t (bounds i).next) in
+    let m = c.read-bits.ensures ∙ (λ i. word_at t (n i).next) in
+    let bytes = c.read_bytes-bytes.ensures.0 ∙ (λ i. numbers_part 256 t (m i).next σ) in
+    let words = c.read_u32s-part.ensures.0 ∙ (λ i. numbers_part 4294967296 t (bytes i).next ws) in
+    let qubits = c.low.ensures ∙ (λ i. (n i).size % 4294967296) in
+    let bits = c.low-2.ensures ∙ (λ i. (m i).size % 4294967296) in (
+      (λ i. record { limits = (bounds i).limits-1; n = qubits i; bits = bits i; stored = (bytes i).len; gates = (words i).len; next = (words i).next }),
+      (
+        (c.read_bytes-bytes.ensures.1.0, c.read_u32s-part.ensures.1.0),
+        (
+          c.read_bytes-bytes.ensures.1.1 ∙ (λ i. (numbers_at 256 t (m i).next σ).words-1),
+          c.read_u32s-part.ensures.1.1 ∙ (λ i. (numbers_at 4294967296 t (bytes i).next ws).words-1),
+        ),
+      ),
+    )

@@ -1,0 +1,42 @@
+-- `lists::lent` meets its contract.
+use mathlib.Core.Path.{sym, ◌∙◌}
+use lib.ListN.{take}
+use lib.Seq.{length-take-le}
+use Rattle.replay.proofs.Parts.{take-fitting}
+use Rattle.replay.proofs.Reading.{following}
+use Rattle.replay_lists.specs.Cases.{called, lent}
+use borrow.Author.Rules.{rules}
+use Rattle.replay_lists.proofs.lists.lent.Goals as goal
+
+pub returns : goal.returns
+unfolding lent
+returns c =
+    let s = c.args in
+    let t = s.text.now in
+    let w0 = c.read-count.ensures in
+    let w1 = following t s.at 0 w0 c.read-first.ensures in
+    let w2 = following t s.at 1 w1 c.read-second.ensures in
+    let w3 = following t s.at 2 w2 c.read-third.ensures in
+    let w4 = following t s.at 3 w3 c.read-fourth.ensures in
+    let w5 = following t s.at 4 w4 c.read-fifth.ensures in
+    let left = take-fitting c.fitting-l.result c.read-first.result.size s.left-1.now c.fitting-l.ensures ∙ (λ i. take (w1 i).size s.left-1.now) in
+    let right = take-fitting c.fitting-r.result c.read-second.result.size s.right-1.now c.fitting-r.ensures ∙ (λ i. take (w2 i).size s.right-1.now) in
+    let work = take-fitting c.fitting-w.result c.read-third.result.size s.work-1.now c.fitting-w.ensures ∙ (λ i. take (w3 i).size s.work-1.now) in
+    let answers = take-fitting c.fitting-a.result c.read-fourth.result.size s.answers-1.now c.fitting-a.ensures ∙ (λ i. take (w4 i).size s.answers-1.now) in
+    let scalars = take-fitting c.fitting-s.result c.read-fifth.result.size s.scalars-1.now c.fitting-s.ensures ∙ (λ i. take (w5 i).size s.scalars-1.now) in
+    c.called.ensures ∙ (λ i. called t (w5 i).next (w0 i).size (left i) (right i) (work i) (answers i) (scalars i))
+
+pub slice_bounds-called-end-2 : goal.slice_bounds-called-end-2
+slice_bounds-called-end-2 c = sym (length-take-le _ _ (search rules))
+
+pub slice_bounds-called-end-4 : goal.slice_bounds-called-end-4
+slice_bounds-called-end-4 c = sym (length-take-le _ _ (search rules))
+
+pub slice_bounds-called-end-6 : goal.slice_bounds-called-end-6
+slice_bounds-called-end-6 c = sym (length-take-le _ _ (search rules))
+
+pub slice_bounds-called-end-8 : goal.slice_bounds-called-end-8
+slice_bounds-called-end-8 c = sym (length-take-le _ _ (search rules))
+
+pub slice_bounds-called-end-10 : goal.slice_bounds-called-end-10
+slice_bounds-called-end-10 c = sym (length-take-le _ _ (search rules))

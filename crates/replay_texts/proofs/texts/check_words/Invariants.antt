@@ -1,0 +1,15 @@
+-- `texts::check_words` meets its contract.
+use mathlib.Core.Path.{◌≡◌, refl, sym, ap, ◌∙◌}
+use mathlib.Core.List.{foldl}
+use Prim.Native.Nat.{◌-◌}
+use native.Mathlib.Omega.{arith}
+use lib.ListN.{length, drop}
+use Rattle.replay.specs.Record.{with_number}
+use Rattle.replay.proofs.Reading.{fold_more, fold_end}
+use Rattle.replay_texts.proofs.texts.check_words.Given as goal
+
+abbrev pub invariant-loop-i : goal.invariant-loop-i
+invariant-loop-i l = foldl (with_number l.text) l.initial.checked l.words ≡ foldl (with_number l.text) l.checked (drop l.i l.words)
+
+abbrev pub decreases-loop-i : goal.decreases-loop-i
+decreases-loop-i l = length l.words - l.i

@@ -1,0 +1,18 @@
+-- `edits::called` meets its contract.
+use mathlib.Core.Path.{◌∙◌}
+use Rattle.replay.specs.Record.{with_number}
+use Rattle.replay.specs.Checksum.{checksum_of}
+use Rattle.replay_verdicts.specs.Verdicts.{with_verdict}
+use Rattle.replay_verdicts.specs.Edits.{with_kept, with_copy}
+use Rattle.replay_verdicts.proofs.edits.called.Goals as goal
+
+pub returns : goal.returns
+returns c =
+    let s = c.args in
+    let t = s.text.now in
+    let m = c.edited-v.ensures.1 in
+    let first = c.check_verdict-first.ensures ∙ (λ i. with_verdict t (c.begin.ensures i) (c.edited-v.ensures.0 i)) in
+    let sum = c.checksum.ensures ∙ (λ i. checksum_of (m i)) in
+    let left = c.number-left.ensures ∙ (λ i. with_number t (first i) (sum i)) in
+    let kept = c.check_kept-kept.ensures ∙ (λ i. with_kept t (left i) (m i) s.store.now s.result s.work) in
+    c.check_copy.ensures ∙ (λ i. with_copy t (kept i) (m i) s.out-1.now)

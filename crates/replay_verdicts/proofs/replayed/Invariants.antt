@@ -1,0 +1,13 @@
+-- `replayed` meets its contract: each turn leaves one case less.
+use mathlib.Core.Path.{◌≡◌}
+use native.Mathlib.Omega.{arith}
+use Rattle.replay.specs.Progress.{with_nexts, replay_of}
+use Rattle.replay.proofs.Turns.{turns_begin, turns_more, turns_end}
+use Rattle.replay_verdicts.specs.Cases.{case_of}
+use Rattle.replay_verdicts.proofs.replayed.Given as goal
+
+abbrev pub invariant-loop-rest : goal.invariant-loop-rest
+invariant-loop-rest l = replay_of case_of l.text ≡ with_nexts case_of l.text l.rest l.progress
+
+abbrev pub decreases-loop-rest : goal.decreases-loop-rest
+decreases-loop-rest l = l.rest

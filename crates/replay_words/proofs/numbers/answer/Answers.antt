@@ -1,0 +1,56 @@
+-- `numbers::answer` meets its contract: each number has its call, and those past the first nine the last one.
+use mathlib.Core.Path.{◌≡◌, sym, ap, ◌∙◌}
+use Prim.Native.Nat.{ℕ, ◌+◌, ◌≤◌, zero-le}
+use native.Mathlib.Omega.{arith}
+use lib.ListN.{get_or, get_or-eq_default}
+use lib.IntN.{pos}
+use mir.Syntax.{w64}
+use mir.Val.{SFits}
+use mir.Facts.{to_z-of_z}
+use Rattle.scalar.specs.Calls.{value, integer_answer, omega_answer, mul_answer}
+use Rattle.replay_words.specs.Cases.{answers_of, answer_of}
+use Rattle.replay_words.proofs.numbers.answer.Goals as goal
+
+past : {n : ℕ} (k : ℕ) → k ≤ n → (n ≡ k → ⊥) → k + 1 ≤ n
+past k h ne = omega arith
+
+pub returns-in-0 : goal.returns-in-0
+returns-in-0 c =
+    let s = c.args in
+    let fits : SFits w64 (get_or s.t3.n 0 (pos 0)) = record { sfits = c.integer-arg-1.given } in
+    c.integer.ensures ∙ ap integer_answer (to_z-of_z fits) ∙ sym (ap (λ (k : ℕ). answer_of k s.first s.t3 s.y) c.in-0.is)
+
+pub returns-in-1 : goal.returns-in-1
+returns-in-1 c = let s = c.args in c.zero.ensures ∙ sym (ap (λ (k : ℕ). answer_of k s.first s.t3 s.y) c.in-1.is)
+
+pub returns-in-2 : goal.returns-in-2
+returns-in-2 c = let s = c.args in c.i.ensures ∙ sym (ap (λ (k : ℕ). answer_of k s.first s.t3 s.y) c.in-2.is)
+
+pub returns-in-3 : goal.returns-in-3
+returns-in-3 c = let s = c.args in c.inv_sqrt_two.ensures ∙ sym (ap (λ (k : ℕ). answer_of k s.first s.t3 s.y) c.in-3.is)
+
+pub returns-in-4 : goal.returns-in-4
+returns-in-4 c =
+    let s = c.args in
+    c.omega.ensures ∙ ap omega_answer c.low.ensures ∙ sym (ap (λ (k : ℕ). answer_of k s.first s.t3 s.y) c.in-4.is)
+
+pub returns-in-5 : goal.returns-in-5
+returns-in-5 c = let s = c.args in c.add.ensures ∙ sym (ap (λ (k : ℕ). answer_of k s.first s.t3 s.y) c.in-5.is)
+
+pub returns-in-6 : goal.returns-in-6
+returns-in-6 c = let s = c.args in c.neg.ensures ∙ sym (ap (λ (k : ℕ). answer_of k s.first s.t3 s.y) c.in-6.is)
+
+pub returns-in-7 : goal.returns-in-7
+returns-in-7 c = let s = c.args in c.half.ensures ∙ sym (ap (λ (k : ℕ). answer_of k s.first s.t3 s.y) c.in-7.is)
+
+pub returns-in-8 : goal.returns-in-8
+returns-in-8 c = let s = c.args in c.conj.ensures ∙ sym (ap (λ (k : ℕ). answer_of k s.first s.t3 s.y) c.in-8.is)
+
+pub returns-in_default : goal.returns-in_default
+returns-in_default c =
+    let s = c.args in
+    let r = c.in_default.in_default-own.rest in
+    let three = past 2 (past 1 (past 0 zero-le r.0.0.0.0.0.0.0.0.1) r.0.0.0.0.0.0.0.1) r.0.0.0.0.0.0.1 in
+    let six = past 5 (past 4 (past 3 three r.0.0.0.0.0.1) r.0.0.0.0.1) r.0.0.0.1 in
+    let nine = past 8 (past 7 (past 6 six r.0.0.1) r.0.1) r.1 in
+    c.mul.ensures ∙ sym (get_or-eq_default (answers_of s.first s.t3 s.y) (mul_answer (value s.t3) (value s.y)) nine)

@@ -1,0 +1,69 @@
+-- `or_more` meets its contract: what is gathered so far is that of i words.
+use mathlib.Core.Path.{◌≡◌, sym, ap, ◌∙◌, subst}
+use mathlib.Core.List.{List}
+use Prim.Native.Nat.{ℕ, ◌+◌, ◌-◌, ◌^◌, ◌≤◌, ◌<◌}
+use native.Mathlib.Nat.{le_refl}
+use native.Mathlib.Decide.{dec_lt}
+use native.Mathlib.Numerals.{add-one}
+use native.Mathlib.Omega.{arith}
+use lib.Bits.{bit_or, or_lt}
+use mir.Syntax.{w64}
+use lib.IntN.{ℤ}
+use mir.Val.{SFits, of_z}
+use mir.Facts.{of_z-to_z, Fits-of_z}
+use Rattle.channel.specs.Layout.{word}
+use Rattle.share.specs.Share.{or_words}
+use Rattle.share.proofs.or_more.Goals as goal
+
+one_more : (l : List ℤ) (at k i : ℕ) → ((j : ℕ) → k ≤ j → j < i → SFits w64 (word l (at + j))) → SFits w64 (word l (at + i)) → (j : ℕ) → k ≤ j → j < i + 1 → SFits w64 (word l (at + j))
+one_more l at k i f x j q h = go (dec_lt j i)
+  where
+    go : Dec (j < i) → SFits w64 (word l (at + j))
+    go (yes p) = f j q p
+    go (no p) = let e : i ≡ j = omega arith in subst (λ (m : ℕ). SFits w64 (word l (at + m))) e x
+
+pub loop-i-init : goal.loop-i-init
+loop-i-init c = (le_refl c.args.k, (omega arith, ((Fits-of_z {w = w64} {z = c.args.g} c.ranges.g).fits, (c.requires.1, λ j p h. absurd (omega arith)))))
+
+pub overflow_add-end : goal.overflow_add-end
+overflow_add-end c = omega (arith, c.requires.0)
+
+pub overflow_add-h : goal.overflow_add-h
+overflow_add-h c = omega arith
+
+pub offset_bounds-s-at : goal.offset_bounds-s-at
+offset_bounds-s-at c = omega arith
+
+pub bounds-s-at : goal.bounds-s-at
+bounds-s-at c = omega arith
+
+pub overflow_add-i : goal.overflow_add-i
+overflow_add-i c = omega arith
+
+pub loop-i-smaller : goal.loop-i-smaller
+loop-i-smaller c = omega arith
+
+pub loop-i-preserved : goal.loop-i-preserved
+loop-i-preserved c =
+    let s = c.args in
+    let x = word s.s.now (s.at + c.loop-i.i) in
+    let v = c.loop-i.invariant.1.1 in (
+      omega (arith, c.loop-i.invariant.0),
+      (
+        omega arith,
+        (
+          or_lt 64 c.loop-i.h-bits (of_z w64 x) v.0 (Fits-of_z {w = w64} {z = x} (record { sfits = c.h-1.given })).fits,
+          (
+            ap (λ (k : ℕ). bit_or k (of_z w64 x)) v.1.0 ∙ ap (or_words s.s.now s.at) (sym (add-one c.loop-i.i)),
+            one_more s.s.now s.at s.k c.loop-i.i v.1.1 (record { sfits = c.h-1.given }),
+          ),
+        ),
+      ),
+    )
+
+pub returns : goal.returns
+returns c =
+    let s = c.args in
+    let v = c.loop-i.invariant.1 in
+    let e : c.loop-i.i ≡ s.k + s.n = omega (arith, v.0) in
+    (of_z-to_z {w = w64} (record { fits = v.1.0 }) ∙ v.1.1.0 ∙ ap (or_words s.s.now s.at) e, λ j p h. v.1.1.1 j p (omega arith))

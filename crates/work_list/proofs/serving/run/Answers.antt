@@ -1,0 +1,12 @@
+-- `run` meets its contract.
+use mathlib.Core.Path.{◌∙◌}
+use Rattle.pair_list.specs.Inner.Spots.{circuit_in}
+use Rattle.work_list.proofs.Zeros.{work_kept}
+use Rattle.work_list.proofs.serving.run.Goals as goal
+
+pub returns : goal.returns
+returns c =
+    let a = c.args in
+    let k = circuit_in a.words.now a.stores.now a.c in
+    let e = c.circuit_channel.ensures in
+    (e.1.0, e.1.1 ∙ work_kept k.qubits k.bits k.store a.limits k.gates a.result.now a.work-1.now c.requires.1)

@@ -1,0 +1,30 @@
+-- `run_pair` meets its contract.
+use mathlib.Core.Path.{sym, ap, ◌∙◌, subst}
+use lib.ListN.{length}
+use Rattle.channel.specs.Compare.{compare_of}
+use Rattle.pair_list.specs.Inner.Spots.{circuit_in}
+use Rattle.work_list.specs.Inner.Weighing.{Blank, delivers}
+use Rattle.work_list.proofs.Zeros.{result_long, wiped_again}
+use Rattle.work_list.proofs.serving.run_pair.Goals as goal
+
+pub run-requires-2 : goal.run-requires-2
+run-requires-2 c =
+    (c.requires.0.1, subst Blank (sym c.run.ensures.1) c.requires.1.1.1)
+
+pub returns : goal.returns
+returns c =
+    let a = c.args in
+    let l = a.limits in
+    let x = circuit_in a.words.now a.stores.now a.l in
+    let y = circuit_in a.words.now a.stores.now a.r in
+    let left = c.run.ensures.0 in
+    let right = c.run-2.ensures.0 ∙ ap (delivers l y a.right-1.now) c.run.ensures.1 in (
+      c.compare-d.ensures ∙ (λ i. compare_of (left i) (right i)),
+      (
+        wiped_again c.wipe.ensures (ap length left ∙ result_long x.qubits x.bits x.store l x.gates a.left-1.now a.work-1.now) c.requires.1.0,
+        (
+          wiped_again c.wipe-2.ensures (ap length right ∙ result_long y.qubits y.bits y.store l y.gates a.right-1.now a.work-1.now) c.requires.1.1.0,
+          c.run-2.ensures.1 ∙ c.run.ensures.1,
+        ),
+      ),
+    )
