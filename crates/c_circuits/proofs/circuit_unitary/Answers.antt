@@ -6,6 +6,6 @@ use Rattle.c_circuits.proofs.circuit_unitary.Goals as goal
 pub returns : goal.returns
 returns c =
     let a = c.args in
-    reported (λ l. verdict_of a.qubits l a.gates.now a.result.now a.work-1.now)
-    (λ l. result_after a.qubits l a.gates.now a.result.now a.work-1.now)
-    (λ l. work_after a.qubits l a.gates.now a.result.now a.work-1.now) c.circuit_unitary-v.ensures c.report.ensures c.read_limits-l.ensures
+    reported (λ l. verdict_of a.qubits l a.gates.now a.res.now a.work.now)
+    (λ l. result_after a.qubits l a.gates.now a.res.now a.work.now)
+    (λ l. work_after a.qubits l a.gates.now a.res.now a.work.now) c.circuit_unitary-v.ensures c.report.ensures c.read_limits-l.ensures

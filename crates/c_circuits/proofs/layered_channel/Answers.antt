@@ -6,6 +6,6 @@ use Rattle.c_circuits.proofs.layered_channel.Goals as goal
 pub returns : goal.returns
 returns c =
     let a = c.args in
-    reported (λ l. layered_verdict_of a.qubits a.bits a.store.now l a.gates.now a.ends.now a.result.now a.work-1.now)
-    (λ l. layered_result a.qubits a.bits a.store.now l a.gates.now a.ends.now a.result.now a.work-1.now)
-    (λ l. layered_work a.qubits a.bits a.store.now l a.gates.now a.ends.now a.result.now a.work-1.now) c.layered_channel-v.ensures c.report.ensures c.read_limits-l.ensures
+    reported (λ l. layered_verdict_of a.qubits a.bits a.store.now l a.gates.now a.ends.now a.res.now a.work.now)
+    (λ l. layered_result a.qubits a.bits a.store.now l a.gates.now a.ends.now a.res.now a.work.now)
+    (λ l. layered_work a.qubits a.bits a.store.now l a.gates.now a.ends.now a.res.now a.work.now) c.layered_channel-v.ensures c.report.ensures c.read_limits-l.ensures

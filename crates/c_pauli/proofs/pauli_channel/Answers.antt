@@ -6,6 +6,6 @@ use Rattle.c_pauli.proofs.pauli_channel.Goals as goal
 pub returns : goal.returns
 returns c =
     let a = c.args in
-    reported (λ l. verdict_of a.qubits a.bits a.store.now l a.nodes.now a.operations.now a.result.now a.work-1.now)
-    (λ l. result_after a.qubits a.bits a.store.now l a.nodes.now a.operations.now a.result.now a.work-1.now)
-    (λ l. work_after a.qubits a.bits a.store.now l a.nodes.now a.operations.now a.result.now a.work-1.now) c.pauli_channel-v.ensures c.report.ensures c.read_limits-l.ensures
+    reported (λ l. verdict_of a.qubits a.bits a.store.now l a.nodes.now a.operations.now a.res.now a.work.now)
+    (λ l. result_after a.qubits a.bits a.store.now l a.nodes.now a.operations.now a.res.now a.work.now)
+    (λ l. work_after a.qubits a.bits a.store.now l a.nodes.now a.operations.now a.res.now a.work.now) c.pauli_channel-v.ensures c.report.ensures c.read_limits-l.ensures

@@ -9,7 +9,7 @@ pub returns : goal.returns
 returns c =
     let a = c.args in
     let (answer, (left, (right, (text, buffers)))) =
-    under a.left.now a.right.now a.store.now a.gates-1.now a.first-1.now a.second-1.now a.work-1.now a.answer-1.now c.read_limits-l.ensures
+    under a.left.now a.right.now a.store.now a.gates.now a.first.now a.second.now a.work.now a.answer.now c.read_limits-l.ensures
     c.judge_texts-j.result _ _ _ _ _ c.judge_texts-j.ensures in (
       c.answer_number.ensures ∙ ap answer_number answer,
       (c.answer_numbers.ensures ∙ ap answer_numbers answer, (c.two_scalars.ensures ∙ (λ i. two_scalars (left i) (right i)), (text, buffers))),

@@ -9,4 +9,4 @@ use Rattle.c_texts.proofs.number_text.Goals as goal
 pub returns : goal.returns
 returns c =
     let a = c.args in
-    c.put_number.ensures.is ∙ ap (λ (s : Scalar). write (page a.out-1.now 0) (number_text (value s))) c.read_operand-s.ensures
+    c.put_number.ensures.is ∙ ap (λ (s : Scalar). write (page a.out.now 0) (number_text (value s))) c.read_operand-s.ensures

@@ -13,17 +13,17 @@ returns c =
     let a = c.args in
     let l = c.read_limits-l.ensures in
     let (refusal, (text, (gates, (result, work)))) = c.text_channel-d.ensures in
-    let is = refusal ∙ ap (λ (x : Limits). only_refusal a.text.now a.store.now x a.gates-1.now a.result.now a.work-1.now a.answer-1.now) l in (
+    let is = refusal ∙ ap (λ (x : Limits). only_refusal a.text.now a.store.now x a.gates.now a.res.now a.work.now a.answer.now) l in (
       c.number.ensures ∙ ap (λ (x : Refusal). verdict_number x.verdict) is,
       (
         c.refusal_numbers.ensures ∙ ap refusal_numbers is,
         (
-          text ∙ ap (λ (x : Limits). write (page a.answer-1.now 0) (only_text a.text.now a.store.now x a.gates-1.now a.result.now a.work-1.now a.answer-1.now)) l,
+          text ∙ ap (λ (x : Limits). write (page a.answer.now 0) (only_text a.text.now a.store.now x a.gates.now a.res.now a.work.now a.answer.now)) l,
           (
-            gates ∙ ap (λ (x : Limits). only_gates a.text.now a.store.now x a.gates-1.now a.result.now a.work-1.now a.answer-1.now) l,
+            gates ∙ ap (λ (x : Limits). only_gates a.text.now a.store.now x a.gates.now a.res.now a.work.now a.answer.now) l,
             (
-              result ∙ ap (λ (x : Limits). only_result a.text.now a.store.now x a.gates-1.now a.result.now a.work-1.now a.answer-1.now) l,
-              work ∙ ap (λ (x : Limits). only_work a.text.now a.store.now x a.gates-1.now a.result.now a.work-1.now a.answer-1.now) l,
+              result ∙ ap (λ (x : Limits). only_result a.text.now a.store.now x a.gates.now a.res.now a.work.now a.answer.now) l,
+              work ∙ ap (λ (x : Limits). only_work a.text.now a.store.now x a.gates.now a.res.now a.work.now a.answer.now) l,
             ),
           ),
         ),

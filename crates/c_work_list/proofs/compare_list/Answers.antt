@@ -9,7 +9,7 @@ pub returns : goal.returns
 returns c =
     let a = c.args in
     let (reply, rest) =
-    under a.count a.words.now a.stores.now a.allowance a.left-1.now a.right-1.now a.work-1.now a.answers-1.now a.scalars-1.now c.read_limits-l.ensures
+    under a.count a.words.now a.stores.now a.allowance a.left.now a.right.now a.work.now a.answers.now a.scalars.now c.read_limits-l.ensures
     c.compare_list-r.result _ _ _ _ _ c.compare_list-r.ensures in
     let (number, index) = c.report.ensures in
     (number ∙ ap (λ (x : Reply). verdict_number x.verdict) reply, (index ∙ ap (λ (x : Reply). verdict_index x.verdict) reply, (ap (λ (x : Reply). x.total) reply, rest)))

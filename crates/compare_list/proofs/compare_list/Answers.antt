@@ -49,8 +49,8 @@ pub serve_all-total-requires : goal.serve_all-total-requires
 serve_all-total-requires c =
     let w = c.before.before.before.before.before.before.before in
     let a = (s w).args in
-    listed a.count a.words.now a.stores.now a.limits a.allowance a.left-1.now a.right-1.now a.work-1.now a.answers-1.now a.scalars-1.now (judged w).judge_list-v.ensures (yes w)
-    (wiped_blanks a.left-1.now a.right-1.now a.work-1.now (first w).wipe.ensures (second w).wipe-then-is_accepted.ensures w.wipe-then-is_accepted-2.ensures)
+    listed a.count a.words.now a.stores.now a.limits a.allowance a.left.now a.right.now a.work.now a.answers.now a.scalars.now (judged w).judge_list-v.ensures (yes w)
+    (wiped_blanks a.left.now a.right.now a.work.now (first w).wipe.ensures (second w).wipe-then-is_accepted.ensures w.wipe-then-is_accepted-2.ensures)
 
 pub returns-then-is_accepted : goal.returns-then-is_accepted
 returns-then-is_accepted c =
@@ -58,12 +58,12 @@ returns-then-is_accepted c =
     let w = v.before.before.before.before.before.before.before in
     let a = (s w).args in
     let (total, (answers, (scalars, (left, (right, work))))) = v.serve_all-total.ensures in
-    accepts a.count a.words.now a.stores.now a.limits a.allowance a.left-1.now a.right-1.now a.work-1.now a.answers-1.now a.scalars-1.now (judged w).judge_list-v.ensures (yes w)
+    accepts a.count a.words.now a.stores.now a.limits a.allowance a.left.now a.right.now a.work.now a.answers.now a.scalars.now (judged w).judge_list-v.ensures (yes w)
     (first w).wipe.ensures (second w).wipe-then-is_accepted.ensures w.wipe-then-is_accepted-2.ensures total answers scalars left right work
 
 pub returns : goal.returns
 returns c =
     let j = c.before.before.before in
     let a = j.args in
-    refused a.count a.words.now a.stores.now a.limits a.allowance a.left-1.now a.right-1.now a.work-1.now a.answers-1.now a.scalars-1.now j.judge_list-v.ensures
+    refused a.count a.words.now a.stores.now a.limits a.allowance a.left.now a.right.now a.work.now a.answers.now a.scalars.now j.judge_list-v.ensures
     (sym c.is_accepted.ensures ∙ c.if-is_accepted.false)

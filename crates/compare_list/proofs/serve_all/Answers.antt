@@ -40,7 +40,7 @@ next : (l : In-loop-i) → let o = l.before in Framed (s o).args.words.now (s o)
 next l =
     let o = l.before in
     let a = (s o).args in
-    due a.words.now a.stores.now (t o) a.count a.answers-1.now a.scalars-1.now o.loop-i.invariant.0 l.loop-i-test.true
+    due a.words.now a.stores.now (t o) a.count a.answers.now a.scalars.now o.loop-i.invariant.0 l.loop-i-test.true
 
 -- its answer
 answered : (v : After-serve_at-a) → let o = v.before.before.before.before.before in
@@ -55,7 +55,7 @@ pub loop-i-init : goal.loop-i-init
 loop-i-init c =
     let s = c.before.before.before.before in
     let a = s.args in
-    (along-none a.words.now a.stores.now (lent a.limits a.left-1.now a.right-1.now a.work-1.now a.allowance) a.count a.answers-1.now a.scalars-1.now s.requires.pairs, (refl, (refl, refl)))
+    (along-none a.words.now a.stores.now (lent a.limits a.left.now a.right.now a.work.now a.allowance) a.count a.answers.now a.scalars.now s.requires.pairs, (refl, (refl, refl)))
 
 pub serve_at-a-requires : goal.serve_at-a-requires
 serve_at-a-requires c =
@@ -65,7 +65,7 @@ serve_at-a-requires c =
     let b = (s o).requires.blanks in record {
       framed = next l;
       within = o.loop-i.invariant.0.within;
-      blanks = record { left = subst Blank (sym x) b.left-1; right = subst Blank (sym y) b.right-1; work = subst Blank (sym z) b.work-1 };
+      blanks = record { left = subst Blank (sym x) b.left; right = subst Blank (sym y) b.right; work = subst Blank (sym z) b.work };
     }
 
 pub put-requires : goal.put-requires
@@ -94,7 +94,7 @@ overflow_add-spent c =
       arith,
       c.charge_of-spent.ensures,
       (s o).ranges.allowance,
-      within-next a.words.now a.stores.now (t o) a.count a.answers-1.now a.scalars-1.now o.loop-i.invariant.0 l.loop-i-test.true (answered v),
+      within-next a.words.now a.stores.now (t o) a.count a.answers.now a.scalars.now o.loop-i.invariant.0 l.loop-i-test.true (answered v),
     )
 
 pub pair_bytes-from-requires : goal.pair_bytes-from-requires
@@ -132,7 +132,7 @@ loop-i-preserved c =
     let a = (s o).args in
     let (x, (y, z)) = o.loop-i.invariant.1 in
     let e = v.serve_at-a.ensures.1 in (
-      along-more a.words.now a.stores.now (t o) a.count a.answers-1.now a.scalars-1.now o.loop-i.invariant.0 l.loop-i-test.true (answered v) p.put.ensures.0 p.put.ensures.1
+      along-more a.words.now a.stores.now (t o) a.count a.answers.now a.scalars.now o.loop-i.invariant.0 l.loop-i-test.true (answered v) p.put.ensures.0 p.put.ensures.1
           g.charge_of-spent.ensures c.pair_words-at.ensures c.pair_bytes-from.ensures,
       (e.0 ∙ x, (e.1.0 ∙ y, e.1.1 ∙ z)),
     )
@@ -158,9 +158,9 @@ returns c =
     let a = (s o).args in
     let g = o.loop-i.invariant.0 in
     let h = c.loop-i-test.false in (
-      all_spent a.words.now a.stores.now (t o) a.count a.answers-1.now a.scalars-1.now g h,
+      all_spent a.words.now a.stores.now (t o) a.count a.answers.now a.scalars.now g h,
       (
-        all_answers a.words.now a.stores.now (t o) a.count a.answers-1.now a.scalars-1.now g h,
-        (all_scalars a.words.now a.stores.now (t o) a.count a.answers-1.now a.scalars-1.now g h, o.loop-i.invariant.1),
+        all_answers a.words.now a.stores.now (t o) a.count a.answers.now a.scalars.now g h,
+        (all_scalars a.words.now a.stores.now (t o) a.count a.answers.now a.scalars.now g h, o.loop-i.invariant.1),
       ),
     )

@@ -22,6 +22,6 @@ are_within-requires c = let s = c.args in rw (shifted (s.e - s.x.e)) refl
 pub returns : goal.returns
 returns c =
     let s = c.args in
-    let z = number_of s.x.n-1 in
+    let z = number_of s.x.n in
     let k = s.e - s.x.e in
     c.are_within.ensures ∙ ap (λ (m : ℤ). within (nat_abs m) z) (shifted k) ∙ fits-scaled z k ∙ ap (within max_numerator) (scaled_is z k)

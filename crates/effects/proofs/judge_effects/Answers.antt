@@ -99,8 +99,8 @@ pub returns-then-not-is_accepted : goal.returns-then-not-is_accepted
 returns-then-not-is_accepted c =
     let k = c.before in
     let s = (start k).args in
-    answered (words k) s.result.now (shape k) (form_verdict (words k))
-    (ap (λ (p : Bool). by (words k) p (leb (effects_size (words k)) (length s.result.now)) (sums_fit (words k) (dim_at (words k)) (count_at (words k)))) (sym (tested k) ∙ c.if-not-is_accepted.true))
+    answered (words k) s.res.now (shape k) (form_verdict (words k))
+    (ap (λ (p : Bool). by (words k) p (leb (effects_size (words k)) (length s.res.now)) (sums_fit (words k) (dim_at (words k)) (count_at (words k)))) (sym (tested k) ∙ c.if-not-is_accepted.true))
     k.judge-h.ensures
 
 pub record_size-size-requires : goal.record_size-size-requires
@@ -118,8 +118,8 @@ returns-then-res-n c =
     let e = r.before in
     let k = known e in
     let s = (start k).args in
-    let short : leb (effects_size (words k)) (length s.result.now) ≡ false = lt-leb _ _ (subst (λ (n : ℕ). length s.result.now < n) (need_is r) c.if-res-n.true) in
-    answered (words k) s.result.now _ ShortBuffer (λ i. by (words k) (passed e i) (short i) (sums_fit (words k) (dim_at (words k)) (count_at (words k)))) c.no_shape.ensures
+    let short : leb (effects_size (words k)) (length s.res.now) ≡ false = lt-leb _ _ (subst (λ (n : ℕ). length s.res.now < n) (need_is r) c.if-res-n.true) in
+    answered (words k) s.res.now _ ShortBuffer (λ i. by (words k) (passed e i) (short i) (sums_fit (words k) (dim_at (words k)) (count_at (words k)))) c.no_shape.ensures
 
 pub sums_fit-requires : goal.sums_fit-requires
 sums_fit-requires c = records c.before.before
@@ -131,7 +131,7 @@ returns-then-not-sums_fit c =
     let e = t.before.before in
     let k = known e in
     let s = (start k).args in
-    answered (words k) s.result.now _ TooLarge (λ i. by (words k) (passed e i) (room t i) ((sym (sums f) ∙ c.if-not-sums_fit.true) i)) c.no_shape-then-not-sums_fit.ensures
+    answered (words k) s.res.now _ TooLarge (λ i. by (words k) (passed e i) (room t i) ((sym (sums f) ∙ c.if-not-sums_fit.true) i)) c.no_shape-then-not-sums_fit.ensures
 
 pub returns : goal.returns
 returns c =
@@ -140,4 +140,4 @@ returns c =
     let e = t.before.before in
     let k = known e in
     let s = (start k).args in
-    answered (words k) s.result.now (shape k) Accepted (λ i. by (words k) (passed e i) (room t i) ((sym (sums f) ∙ c.if-not-sums_fit.false) i)) (is e)
+    answered (words k) s.res.now (shape k) Accepted (λ i. by (words k) (passed e i) (room t i) ((sym (sums f) ∙ c.if-not-sums_fit.false) i)) (is e)

@@ -52,7 +52,7 @@ returns c =
     let w = c.before in
     let e = w.before.before in
     let s = (start e).args in
-    append_block s.result.now (pos e.effect_exponent-e.result ∷ []) (block_words (effects s.d) (numerators e)) s.out 1 refl
-    (ap (λ (z : ℤ). set s.result.now s.out z) (to_z_pos w64 (small e)))
+    append_block s.res.now (pos e.effect_exponent-e.result ∷ []) (block_words (effects s.d) (numerators e)) s.out 1 refl
+    (ap (λ (z : ℤ). set s.res.now s.out z) (to_z_pos w64 (small e)))
     (w.write_entries.ensures ∙ numbers-block s.d (numerators e) _ (s.out + 1))
-    ∙ ap (sets s.result.now s.out) (strided-words s.s.now s.at s.d s.rows s.cols _ (start e).requires.0.strides e.effect_exponent-e.ensures)
+    ∙ ap (sets s.res.now s.out) (strided-words s.s.now s.at s.d s.rows s.cols _ (start e).requires.0.strides e.effect_exponent-e.ensures)

@@ -38,4 +38,4 @@ returns c =
     let r = c.requires.0 in
     let records = with_records (strided_at a.rows a.cols) a.s.now in
     c.write_records.ensures ∙ ap (records a.d a.n) c.write_header.ensures
-    ∙ (λ i. records (r.dim i) (r.count i) (sets a.result.now 0 (effect_header a.s.now (r.dim i))))
+    ∙ (λ i. records (r.dim i) (r.count i) (sets a.res.now 0 (effect_header a.s.now (r.dim i))))

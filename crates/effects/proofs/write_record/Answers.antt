@@ -23,8 +23,8 @@ returns c =
     let s = c.args in
     let l = s.s.now in
     let three = c.put_three.ensures
-    ∙ (λ i. sets s.result.now s.out
-    ((reads c.relinked.result c.relinked.type-inv ∙ c.relinked.ensures ∙ ap (relink (channels s.d) (effects s.d)) (reads (word l s.at) c.next-1.given)) i
+    ∙ (λ i. sets s.res.now s.out
+    ((reads c.relinked.result c.relinked.type_inv ∙ c.relinked.ensures ∙ ap (relink (channels s.d) (effects s.d)) (reads (word l s.at) c.next-1.given)) i
     ∷ reads (word l (s.at + 1)) c.low-1.given i ∷ reads (word l (s.at + 2)) c.high-1.given i ∷ [])) in
-    append_block s.result.now (relink (channels s.d) (effects s.d) (word l s.at) ∷ word l (s.at + 1) ∷ word l (s.at + 2) ∷ [])
+    append_block s.res.now (relink (channels s.d) (effects s.d) (word l s.at) ∷ word l (s.at + 1) ∷ word l (s.at + 2) ∷ [])
     (shared_words s.d (effect_shared (strided_at s.rows s.cols) l s.at s.d)) s.out exponent_place refl three c.write_block.ensures

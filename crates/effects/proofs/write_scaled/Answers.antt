@@ -12,12 +12,12 @@ use Rattle.effects.proofs.write_scaled.Goals as goal
 
 pub scaled4-y-requires : goal.scaled4-y-requires
 scaled4-y-requires c =
-    let z = number_of c.args.x.n-1 in
+    let z = number_of c.args.x.n in
     let k = c.args.e - c.args.x.e in
     (omega (arith, c.requires.1.1.0), roomy _ (within_of max_numerator _ (ap (within max_numerator) (scaled_is z k) ∙ c.requires.1.1.1)))
 
 pub returns : goal.returns
 returns c =
     let s = c.args in
-    c.write_number.ensures ∙ ap (λ (y : List ℤ). sets s.result.now s.at (list_of (number_of y))) c.scaled4-y.ensures
-    ∙ ap (λ (z : Number). sets s.result.now s.at (list_of z)) (scaled_is (number_of s.x.n-1) (s.e - s.x.e))
+    c.write_number.ensures ∙ ap (λ (y : List ℤ). sets s.res.now s.at (list_of (number_of y))) c.scaled4-y.ensures
+    ∙ ap (λ (z : Number). sets s.res.now s.at (list_of z)) (scaled_is (number_of s.x.n) (s.e - s.x.e))

@@ -9,7 +9,7 @@ use Rattle.hermitian.proofs.Mirrored.{mirror_asks, mirror_more}
 use Rattle.hermitian.proofs.mirror.Goals as goal
 
 pub loop-r-init : goal.loop-r-init
-loop-r-init c = let s = c.args in (omega arith, no_rows s.s-1.now s.out s.w _)
+loop-r-init c = let s = c.args in (omega arith, no_rows s.s.now s.out s.w _)
 
 pub mirror_column-requires : goal.mirror_column-requires
 mirror_column-requires c =

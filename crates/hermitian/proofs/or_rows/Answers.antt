@@ -41,7 +41,7 @@ loop-r-preserved c =
     let more : r * n.w * 4 + n.w * 4 ≡ (r + 1) * n.w * 4 = omega arith in (
       omega arith,
       (
-        (Fits-of_z {w = w64} {z = c.or_row-g.result} (record { sfits = c.or_row-g.type-inv })).fits,
+        (Fits-of_z {w = w64} {z = c.or_row-g.result} (record { sfits = c.or_row-g.type_inv })).fits,
         (
           c.or_row-g.ensures.0 ∙ ap (or_words n.s.now n.at) more,
           λ i h. fit c i (dec_lt i (r * n.w * 4)) (omega arith),

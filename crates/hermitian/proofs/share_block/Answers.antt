@@ -74,7 +74,7 @@ returns c =
     let s = (start l).args in (
       ap (λ (j : ℕ). s.e - j) l.least-t.ensures ∙ (alike l).exp,
       c.shift_rows.ensures
-          ∙ ap (λ (j : ℕ). fill_words s.s-1.now s.at (n l * 4) (λ (i : ℕ). shr_z (get_or s.s-1.now (s.at + i) (pos 0)) (2 ^ j))) l.least-t.ensures
-          ∙ shifts_are s.s-1.now s.at (n l) (least l)
-          ∙ numerators_are s.s-1.now s.at (n l) s.e (least l) (alike l),
+          ∙ ap (λ (j : ℕ). fill_words s.s.now s.at (n l * 4) (λ (i : ℕ). shr_z (get_or s.s.now (s.at + i) (pos 0)) (2 ^ j))) l.least-t.ensures
+          ∙ shifts_are s.s.now s.at (n l) (least l)
+          ∙ numerators_are s.s.now s.at (n l) s.e (least l) (alike l),
     )

@@ -8,7 +8,7 @@ use Rattle.hermitian.proofs.Shared.{Shifted, none-shifted, shift_asks, shift_mor
 use Rattle.hermitian.proofs.shift_rows.Goals as goal
 
 pub loop-r-init : goal.loop-r-init
-loop-r-init c = let s = c.args in (omega arith, none-shifted s.s-1.now s.at s.w s.t)
+loop-r-init c = let s = c.args in (omega arith, none-shifted s.s.now s.at s.w s.t)
 
 pub shift_row-requires : goal.shift_row-requires
 shift_row-requires c =

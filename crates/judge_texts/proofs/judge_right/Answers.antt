@@ -8,7 +8,7 @@ returns-then-is_accepted c =
     let a = c.args in
     let e = c.run_side-r.ensures in
     let (reply, text) =
-    compared-right a.l a.first.now a.right.now a.store.now a.limits a.gates-1.now a.second-1.now a.work-1.now a.out-1.now e.0
+    compared-right a.l a.first.now a.right.now a.store.now a.limits a.gates.now a.second.now a.work.now a.out.now e.0
     c.compare-d.result c.put_compared-n.result
     (sym c.is_accepted.ensures ∙ c.if-is_accepted.true) e.1.1.1.0 c.compare-d.ensures c.put_compared-n.ensures.is in
     (reply, (text, (e.1.1.0, (e.1.1.1.0, e.1.1.1.1))))
@@ -18,7 +18,7 @@ returns c =
     let a = c.args in
     let e = c.run_side-r.ensures in
     let (reply, text) =
-    refused-right a.l a.first.now a.right.now a.store.now a.limits a.gates-1.now a.second-1.now a.work-1.now a.out-1.now e.0
+    refused-right a.l a.first.now a.right.now a.store.now a.limits a.gates.now a.second.now a.work.now a.out.now e.0
     c.without_entry.result
     (sym c.is_accepted.ensures ∙ c.if-is_accepted.false) e.1.1.0 c.without_entry.ensures c.refuse-d.ensures.0 c.refuse-d.ensures.1 in
     (reply, (text, (e.1.1.0, (e.1.1.1.0, e.1.1.1.1))))

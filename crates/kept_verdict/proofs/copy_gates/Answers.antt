@@ -99,8 +99,8 @@ returns-else-are_up_to c =
 pub returns-else-is_sound : goal.returns-else-is_sound
 returns-else-is_sound c =
     let s = c.args in
-    let e = copy_answers s.words.now s.out-1.now (sym c.is_sound.ensures ∙ c.if-is_sound.false) refl refl in
-    (e, ap (λ (v : Verdict). cond (accepted v) (sets s.out-1.now 0 (copied s.words.now)) s.out-1.now) e)
+    let e = copy_answers s.words.now s.out.now (sym c.is_sound.ensures ∙ c.if-is_sound.false) refl refl in
+    (e, ap (λ (v : Verdict). cond (accepted v) (sets s.out.now 0 (copied s.words.now)) s.out.now) e)
 
 pub overflow_mul-n : goal.overflow_mul-n
 overflow_mul-n c = omega (arith, size c.before, fits c.before.before)

@@ -108,7 +108,7 @@ returns-then-f-l c =
     let w = t b in
     let a = (s w).args in
     c.judge_numbers.ensures
-    ∙ (λ i. first_no (number_questions ((f b).footprint_of-f.ensures i) (k.follow-qubits.ensures i) (k.follow-bits.ensures i) a.store.now a.l a.result a.work))
+    ∙ (λ i. first_no (number_questions ((f b).footprint_of-f.ensures i) (k.follow-qubits.ensures i) (k.follow-bits.ensures i) a.store.now a.l a.res a.work))
     ∙ answered w (low b ∙ r.if-matrix-branch.true) (le-leb (gates_of (l w)) a.l.max_operations (omega (arith, gates_is b, r.if-f-l.true)))
 
 pub returns-then-matrix-branch : goal.returns-then-matrix-branch
@@ -123,7 +123,7 @@ returns-then-is_sound c = let b = c.before.before in answered (t b) (low b ∙ c
 pub returns : goal.returns
 returns c =
     let a = c.args in
-    kept_answers a.words.now a.store.now a.l a.result a.work (sym c.is_sound.ensures ∙ c.if-is_sound.false) refl refl
+    kept_answers a.words.now a.store.now a.l a.res a.work (sym c.is_sound.ensures ∙ c.if-is_sound.false) refl refl
 
 pub footprint_of-f-requires : goal.footprint_of-f-requires
 footprint_of-f-requires c = sound-true c.before

@@ -79,8 +79,8 @@ returns-in_default c =
     let a = k.args in
     let t = a.text.now in
     let no = refused-false (is_input_text t) (circuit_in (numbers_of t)) (sym k.read_input.ensures.0 ∙ e.enum_told-1.given.1) in (
-      n.write_no_input.ensures ∙ ap (write (page a.out-1.now 0)) (no_answer t a.result.now a.work-1.now no),
-      (no_result t a.result.now a.work-1.now no, no_work t a.result.now a.work-1.now no),
+      n.write_no_input.ensures ∙ ap (write (page a.out.now 0)) (no_answer t a.res.now a.work.now no),
+      (no_result t a.res.now a.work.now no, no_work t a.res.now a.work.now no),
     )
 
 pub overflow_mul-end : goal.overflow_mul-end
@@ -105,10 +105,10 @@ returns c =
     let k = n.before.before.before.before in
     let a = (read k).args in
     let t = text k in
-    let r = a.result.now in
-    let w = a.work-1.now in
+    let r = a.res.now in
+    let w = a.work.now in
     let e : number_count (circuit k).bits (circuit k).gates - (3 + (circuit k).bits) ≡ gate_size * (circuit k).gates = omega arith in
     let ws = ap (λ (j : ℕ). take j (drop (3 + (circuit k).bits) (numbers k))) e ∙ words-part k in (
-      l.list_circuit.ensures.0 ∙ ap (write (page a.out-1.now 0)) (an_answer t r w (yes k) (is k) (store-part k) ws),
+      l.list_circuit.ensures.0 ∙ ap (write (page a.out.now 0)) (an_answer t r w (yes k) (is k) (store-part k) ws),
       (l.list_circuit.ensures.1.0 ∙ a_result t r w (yes k) (is k) (store-part k) ws, l.list_circuit.ensures.1.1 ∙ a_work t r w (yes k) (is k) (store-part k) ws),
     )

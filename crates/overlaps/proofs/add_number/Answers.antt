@@ -39,7 +39,7 @@ returns-then-zero_at c =
     let z = c.before in
     let s = z.before in
     let n = s.args in
-    sym (ap (λ (v : Number). sets n.result.now n.at (list_of v)) (right-none n.result.now n.at n.work.now n.e n.q (number_of n.x) (sym z.zero_at.ensures ∙ c.if-zero_at.true)) ∙ number-there n.result.now n.at)
+    sym (ap (λ (v : Number). sets n.res.now n.at (list_of v)) (right-none n.res.now n.at n.work.now n.e n.q (number_of n.x) (sym z.zero_at.ensures ∙ c.if-zero_at.true)) ∙ number-there n.res.now n.at)
 
 pub read_scaled-y-requires : goal.read_scaled-y-requires
 read_scaled-y-requires c = c.requires.factor

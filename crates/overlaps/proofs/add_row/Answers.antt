@@ -43,7 +43,7 @@ pub returns-then-zero_at : goal.returns-then-zero_at
 returns-then-zero_at c =
     let z = c.before in
     let n = z.args in
-    sym (numbers-there n.result.now n.to n.n _ (λ i h. left-none n.result.now (n.to + i * 4) n.work.now n.e (n.k + i * cell_size) n.p (sym z.zero_at.ensures ∙ c.if-zero_at.true)))
+    sym (numbers-there n.res.now n.to n.n _ (λ i h. left-none n.res.now (n.to + i * 4) n.work.now n.e (n.k + i * cell_size) n.p (sym z.zero_at.ensures ∙ c.if-zero_at.true)))
 
 pub read_scaled-x-requires : goal.read_scaled-x-requires
 read_scaled-x-requires c = c.requires.scale

@@ -29,7 +29,7 @@ module _ (t : In-loop-r) where
   row_in = diagonal-room s.requires t.loop-r-test.true t.loop-r.invariant.1
 
 pub loop-r-init : goal.loop-r-init
-loop-r-init c = let s = c.args in (omega arith, no_rows s.result.now s.out s.w _)
+loop-r-init c = let s = c.args in (omega arith, no_rows s.res.now s.out s.w _)
 
 pub add_row-requires : goal.add_row-requires
 add_row-requires c =

@@ -22,12 +22,12 @@ Then-is_accepted = lts.Then1 tie.the-claims reads.Pre reads.Post
 
 -- the words pass: the verdict is that of circuit_channel
 passed : (c : Then-is_accepted) → let a = c.args in
-    plain_verdict_of a.qubits a.bits a.store.now a.limits a.gates.now a.result.now a.work-1.now
-    ≡ verdict_of a.qubits a.bits a.store.now a.limits a.gates.now a.result.now a.work-1.now
+    plain_verdict_of a.qubits a.bits a.store.now a.limits a.gates.now a.res.now a.work.now
+    ≡ verdict_of a.qubits a.bits a.store.now a.limits a.gates.now a.res.now a.work.now
 passed c =
     let j = c.before.before in
     let a = j.args in
-    as_channel a.qubits a.bits a.limits a.gates.now a.store.now (length a.result.now) (length a.work-1.now)
+    as_channel a.qubits a.bits a.limits a.gates.now a.store.now (length a.res.now) (length a.work.now)
     (sym (ap accepted j.judge_profile-v.ensures) ∙ sym c.is_accepted.ensures ∙ c.if-is_accepted.true)
 
 pub returns-then-is_accepted : goal.returns-then-is_accepted
@@ -37,8 +37,8 @@ returns-then-is_accepted c =
     let a = t.args in (
       d.circuit_channel.ensures.0 ∙ sym (passed t),
       (
-        d.circuit_channel.ensures.1.0 ∙ sym (same_result a.qubits a.bits a.store.now a.limits a.gates.now a.result.now a.work-1.now (passed t)),
-        d.circuit_channel.ensures.1.1 ∙ sym (same_work a.qubits a.bits a.store.now a.limits a.gates.now a.result.now a.work-1.now (passed t)),
+        d.circuit_channel.ensures.1.0 ∙ sym (same_result a.qubits a.bits a.store.now a.limits a.gates.now a.res.now a.work.now (passed t)),
+        d.circuit_channel.ensures.1.1 ∙ sym (same_work a.qubits a.bits a.store.now a.limits a.gates.now a.res.now a.work.now (passed t)),
       ),
     )
 
@@ -48,13 +48,13 @@ returns c =
     let a = j.args in
     let no : accepted j.judge_profile-v.result ≡ false = sym c.is_accepted.ensures ∙ c.if-is_accepted.false in
     let v = after_no (plain_word_questions a.qubits a.bits a.limits a.gates.now)
-    (number_questions (footprint_of a.bits (gates_of a.gates.now)) a.qubits a.bits a.store.now a.limits (length a.result.now) (length a.work-1.now))
+    (number_questions (footprint_of a.bits (gates_of a.gates.now)) a.qubits a.bits a.store.now a.limits (length a.res.now) (length a.work.now))
     (plain-words_refuse a.qubits a.bits a.limits a.gates.now) j.judge_profile-v.ensures no in
-    let q = result_after a.qubits a.bits a.store.now a.limits a.gates.now a.result.now a.work-1.now in
-    let x = work_after a.qubits a.bits a.store.now a.limits a.gates.now a.result.now a.work-1.now in (
+    let q = result_after a.qubits a.bits a.store.now a.limits a.gates.now a.res.now a.work.now in
+    let x = work_after a.qubits a.bits a.store.now a.limits a.gates.now a.res.now a.work.now in (
       v,
       (
-        sym (ap (λ (b : Bool). cond b q a.result.now) (sym (ap accepted v) ∙ no)),
-        sym (ap (λ (b : Bool). cond b x a.work-1.now) (sym (ap accepted v) ∙ no)),
+        sym (ap (λ (b : Bool). cond b q a.res.now) (sym (ap accepted v) ∙ no)),
+        sym (ap (λ (b : Bool). cond b x a.work.now) (sym (ap accepted v) ∙ no)),
       ),
     )

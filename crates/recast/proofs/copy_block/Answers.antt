@@ -64,7 +64,7 @@ module _ (c : After-first_column-skipped) where
       by false = omega arith
 
 pub loop-r-init : goal.loop-r-init
-loop-r-init c = let s = c.args in rows_begin (form_of s.w s.to) (numbers_at (form_of s.w s.f) s.s.now s.at) s.result.now s.out
+loop-r-init c = let s = c.args in rows_begin (form_of s.w s.to) (numbers_at (form_of s.w s.f) s.s.now s.at) s.res.now s.out
 
 pub row_start-start-requires : goal.row_start-start-requires
 row_start-start-requires c = (c.requires.0.width, omega arith)

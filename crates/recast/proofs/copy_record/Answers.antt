@@ -33,7 +33,7 @@ returns c =
     let F = form_of s.w s.f in
     let G = form_of s.w s.to in
     let four = p.put_four.ensures
-    ∙ (λ i. sets s.result.now s.out
-    ((reads k.relinked.result k.relinked.type-inv ∙ k.relinked.ensures ∙ ap (relink F G) (reads (word l s.at) x.next-1.given)) i
+    ∙ (λ i. sets s.res.now s.out
+    ((reads k.relinked.result k.relinked.type_inv ∙ k.relinked.ensures ∙ ap (relink F G) (reads (word l s.at) x.next-1.given)) i
     ∷ reads (word l (s.at + 1)) x.low-1.given i ∷ reads (word l (s.at + 2)) x.high-1.given i ∷ reads (word l (s.at + 3)) x.exponent-1.given i ∷ [])) in
-    append_block s.result.now (relink F G (word l s.at) ∷ word l (s.at + 1) ∷ word l (s.at + 2) ∷ word l (s.at + 3) ∷ []) (block_words G (numbers_at F l s.at)) s.out 4 refl four b.copy_block.ensures
+    append_block s.res.now (relink F G (word l s.at) ∷ word l (s.at + 1) ∷ word l (s.at + 2) ∷ word l (s.at + 3) ∷ []) (block_words G (numbers_at F l s.at)) s.out 4 refl four b.copy_block.ensures

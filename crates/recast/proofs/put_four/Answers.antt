@@ -17,4 +17,4 @@ bounds-res-at-4 c = simp length-set (omega arith)
 pub returns : goal.returns
 returns c =
     let s = c.args in
-    λ i. set (set (set (set s.result.now s.at (to_z-of_z c.ranges.a i)) (add-one s.at i) (to_z-of_z c.ranges.b i)) (add-two s.at i) (to_z-of_z c.ranges.c i)) (add-three s.at i) (to_z-of_z c.ranges.d i)
+    λ i. set (set (set (set s.res.now s.at (to_z-of_z c.ranges.a i)) (add-one s.at i) (to_z-of_z c.ranges.b i)) (add-two s.at i) (to_z-of_z c.ranges.c i)) (add-three s.at i) (to_z-of_z c.ranges.d i)

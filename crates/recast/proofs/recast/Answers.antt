@@ -38,7 +38,7 @@ module _ (s : Start) where
   header = long_in F s.args.s.now s.requires.right
 
   room : record_at G s.args.n ≤ length s.args.res.now
-  room = subst (λ (n : ℕ). record_at G n ≤ length s.args.res.now) (sym s.requires.count-1) s.requires.room
+  room = subst (λ (n : ℕ). record_at G n ≤ length s.args.res.now) (sym s.requires.count) s.requires.room
 
 pub bounds-s-0 : goal.bounds-s-0
 bounds-s-0 c = let q = header c in omega arith
@@ -79,9 +79,9 @@ returns c =
     let s = x.before.before.before.before in
     let a = s.args in
     let l = a.s.now in
-    whole_is (F s) (G s) l a.result.now _ _ a.n s.requires.count-1
+    whole_is (F s) (G s) l a.res.now _ _ a.n s.requires.count
     (p.put_four.ensures
-    ∙ (λ i. sets a.result.now 0
+    ∙ (λ i. sets a.res.now 0
     (reads (word l 0) x.dim-1.given i ∷ reads (word l 1) x.bits-1.given i ∷ reads (word l 2) x.count-1.given i
-    ∷ (reads k.relinked.result k.relinked.type-inv ∙ k.relinked.ensures ∙ ap (relink (F s) (G s)) (reads (word l 3) x.first-1.given)) i ∷ [])))
+    ∷ (reads k.relinked.result k.relinked.type_inv ∙ k.relinked.ensures ∙ ap (relink (F s) (G s)) (reads (word l 3) x.first-1.given)) i ∷ [])))
     b.copy_records.ensures

@@ -6,13 +6,13 @@ use Rattle.text_channel.proofs.text_channel.Goals as goal
 pub returns-then-out-lt-MAX_ANSWER : goal.returns-then-out-lt-MAX_ANSWER
 returns-then-out-lt-MAX_ANSWER c =
     let a = c.args in
-    short a.text.now a.store.now a.limits a.gates-1.now a.result.now a.work-1.now a.out-1.now c.if-out-lt-MAX_ANSWER.true c.no_place.ensures
+    short a.text.now a.store.now a.limits a.gates.now a.res.now a.work.now a.out.now c.if-out-lt-MAX_ANSWER.true c.no_place.ensures
 
 pub returns-then-is_accepted : goal.returns-then-is_accepted
 returns-then-is_accepted c =
     let a = c.args in
     let e = c.run_side-s.ensures in
-    fine a.text.now a.store.now a.limits a.gates-1.now a.result.now a.work-1.now a.out-1.now c.if-out-lt-MAX_ANSWER.false e.0 e.1.1.0 e.1.1.1.0 e.1.1.1.1
+    fine a.text.now a.store.now a.limits a.gates.now a.res.now a.work.now a.out.now c.if-out-lt-MAX_ANSWER.false e.0 e.1.1.0 e.1.1.1.0 e.1.1.1.1
     (sym c.is_accepted.ensures ∙ c.if-is_accepted.true) c.refusal_of.ensures
 
 pub refuse-requires : goal.refuse-requires
@@ -23,5 +23,5 @@ pub returns : goal.returns
 returns c =
     let a = c.args in
     let e = c.run_side-s.ensures in
-    told a.text.now a.store.now a.limits a.gates-1.now a.result.now a.work-1.now a.out-1.now c.if-out-lt-MAX_ANSWER.false e.0 e.1.1.0 e.1.1.1.0 e.1.1.1.1
+    told a.text.now a.store.now a.limits a.gates.now a.res.now a.work.now a.out.now c.if-out-lt-MAX_ANSWER.false e.0 e.1.1.0 e.1.1.1.0 e.1.1.1.1
     (sym c.is_accepted.ensures ∙ c.if-is_accepted.false) c.refuse.ensures.0 c.refuse.ensures.1

@@ -43,14 +43,14 @@ returns-then-is_accepted c =
     let t = j.before.before.before.before in
     let a = (start t).args in
     let e = words_are (read_is t) (read t).read_qasm-r.ensures.1 in (
-      side-run a.store.now a.limits a.result.now a.work-1.now (read_is t) e j.run_circuit-judged.ensures.0,
+      side-run a.store.now a.limits a.res.now a.work.now (read_is t) e j.run_circuit-judged.ensures.0,
       (
         long (read_is t) (read t).read_qasm-r.ensures.1,
         (
           (read t).read_qasm-r.ensures.1,
           (
-            result_run a.store.now a.limits a.result.now a.work-1.now (read_is t) e j.run_circuit-judged.ensures.1.0,
-            work_run a.store.now a.limits a.result.now a.work-1.now (read_is t) e j.run_circuit-judged.ensures.1.1,
+            result_run a.store.now a.limits a.res.now a.work.now (read_is t) e j.run_circuit-judged.ensures.1.0,
+            work_run a.store.now a.limits a.res.now a.work.now (read_is t) e j.run_circuit-judged.ensures.1.1,
           ),
         ),
       ),
@@ -60,6 +60,6 @@ pub returns : goal.returns
 returns c =
     let r = c.before.before.before.before.before in
     let a = r.args in
-    let s = stop a.store.now a.limits a.gates-1.now a.result.now a.work-1.now r.read_qasm-r.result (read_of a.text.now) r.read_qasm-r.ensures.0
+    let s = stop a.store.now a.limits a.gates.now a.res.now a.work.now r.read_qasm-r.result (read_of a.text.now) r.read_qasm-r.ensures.0
     (sym c.is_accepted.ensures ∙ c.if-is_accepted.false) in
     (s.side, (omega arith, (r.read_qasm-r.ensures.1, (s.result, s.work-1))))

@@ -9,7 +9,7 @@ use Rattle.answers.proofs.numbers.put_number.Goals as goal
 
 pub returns : goal.returns
 returns c =
-    let v = number_of c.args.x.n-1 in
+    let v = number_of c.args.x.n in
     let e =
     read4 {w = v.re.re} {x = v.re.im} {y = v.im.re} {z = v.im.im}
     (record { sfits = c.put_fraction-arg-2-1.given })

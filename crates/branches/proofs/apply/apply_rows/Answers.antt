@@ -33,7 +33,7 @@ abbrev After-read_cell-x : Type 0
 After-read_cell-x = lts.After-read_cell tie.the-claims reads.Pre reads.Post goal.the-invariant-loop-r goal.the-decreases-loop-r
 
 pub loop-r-init : goal.loop-r-init
-loop-r-init c = let a = c.args in none_applied a.work-1.now a.m a.op a.old a.new a.d
+loop-r-init c = let a = c.args in none_applied a.work.now a.m a.op a.old a.new a.d
 
 -- a row, and its partner
 module _ (u : After-partner_row-s) where

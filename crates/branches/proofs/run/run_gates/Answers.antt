@@ -45,7 +45,7 @@ dim_small s = omega (arith, s.requires.dim, pow_mono {i = s.args.n} {j = 5} s.re
 pub branch_size-requires : goal.branch_size-requires
 branch_size-requires c = dim_small c.before.before.before
 
-bank-small : (c : After-branch_size) → let a = c.args in 2 * (a.banks * c.branch_size.result) + 2 * branch_size a.d ≤ length a.work-1.now
+bank-small : (c : After-branch_size) → let a = c.args in 2 * (a.banks * c.branch_size.result) + 2 * branch_size a.d ≤ length a.work.now
 bank-small c =
     let s = c.before.before.before in
     omega (arith, s.requires.room, work_is s.args.d s.args.banks, ap (λ (k : ℕ). s.args.banks * k) c.branch_size.ensures)
@@ -85,7 +85,7 @@ loop-i-preserved c =
     more (given a).requires (begun a).start_branch.ensures a.loop-i.invariant t.loop-i-test.true (sized a).branch_size.ensures g.step_gate-count.ensures.0 g.step_gate-count.ensures.1
 
 left : (c : After-loop-i) → let s = (given c.before).args in
-    Ran s.work-1.now c.loop-i.work s.gates.now s.store.now s.n s.d s.banks c.loop-i.from
+    Ran s.work.now c.loop-i.work s.gates.now s.store.now s.n s.d s.banks c.loop-i.from
 left c = let a = c.before in ends (given a).requires (begun a).start_branch.ensures a.loop-i.invariant c.loop-i-test.false
 
 pub shape_of-work : goal.shape_of-work

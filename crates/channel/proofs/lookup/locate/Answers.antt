@@ -65,8 +65,8 @@ module _ (c : Else-not-is_accepted) where
   is : shape c.before ≡ shape_at (words c.before)
   is = shape_is (words c.before) (form_verdict (words c.before)) (shape c.before) c.judge-h.ensures (sym c.is_accepted.ensures ∙ c.if-not-is_accepted.false)
 
-stores : (c : After-is_store) → c.is_IsStore.result ≡ store_fits (bits_at (words c.before.before)) (bytes c.before.before)
-stores c = c.is_IsStore.ensures ∙ ap (λ (h : Shape). store_fits h.bits (bytes c.before.before)) (is c.before)
+stores : (c : After-is_store) → c.is_store.result ≡ store_fits (bits_at (words c.before.before)) (bytes c.before.before)
+stores c = c.is_store.ensures ∙ ap (λ (h : Shape). store_fits h.bits (bytes c.before.before)) (is c.before)
 
 module _ (c : Else-not-is_store) where
   abbrev known : After-is_accepted

@@ -126,5 +126,5 @@ pub returns : goal.returns
 returns c =
     let e = c.before in
     let l = e.loop-left in
-    c.verdict_by.ensures ∙ ap (λ (b : Bool). verdict_by b l.zero) (bits-zero l.z-1)
-    ∙ sym (l.invariant.1 ∙ ended _ _ _ _ l.left (to_z w64 l.z-1) l.first l.prev l.zero _ e.loop-left-test.false refl)
+    c.verdict_by.ensures ∙ ap (λ (b : Bool). verdict_by b l.zero) (bits-zero l.z)
+    ∙ sym (l.invariant.1 ∙ ended _ _ _ _ l.left (to_z w64 l.z) l.first l.prev l.zero _ e.loop-left-test.false refl)

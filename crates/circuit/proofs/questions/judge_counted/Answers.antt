@@ -21,6 +21,6 @@ judge_numbers-verdict-requires c =
 pub returns : goal.returns
 returns c =
     let a = c.args in (
-      c.judge_numbers-verdict.ensures ∙ ap (λ (f : Footprint). first_no (number_questions f a.n a.bits a.store.now a.l a.result a.work)) c.of-f.ensures,
+      c.judge_numbers-verdict.ensures ∙ ap (λ (f : Footprint). first_no (number_questions f a.n a.bits a.store.now a.l a.res a.work)) c.of-f.ensures,
       ap (λ (f : Footprint). f.splits) c.of-f.ensures,
     )

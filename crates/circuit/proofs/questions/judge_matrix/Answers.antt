@@ -29,24 +29,24 @@ has_unitary_room-requires c = let t = c.before.before.before.before in omega (ar
 
 -- the gates are accepted, so the answers to the last two questions decide
 last : (c : After-of-f) {v : Verdict} → let a = c.args in
-    v ≡ first_no (last_questions a.n a.words.now a.result a.work) → v ≡ first_no (matrix_questions a.n a.words.now a.result a.work)
+    v ≡ first_no (last_questions a.n a.words.now a.res a.work) → v ≡ first_no (matrix_questions a.n a.words.now a.res a.work)
 last c h =
     let t = c.before in
     let g = t.before.before in
     let a = g.args in
-    after-yes (gates_questions Unitary a.n 0 (gates_of a.words.now)) (last_questions a.n a.words.now a.result a.work)
+    after-yes (gates_questions Unitary a.n 0 (gates_of a.words.now)) (last_questions a.n a.words.now a.res a.work)
     (gates_refuse Unitary a.n 0 (gates_of a.words.now)) g.judge_gates-v.ensures (sym t.is_accepted.ensures ∙ t.if-is_accepted.true) h
 
 -- every answer but the last is yes
 ended : (c : After-has_unitary_room) {b : Bool} → c.has_unitary_room.result ≡ b → let o = c.before.before.before in
     let a = o.args in
-    cond b Accepted ShortBuffer ≡ first_no (matrix_questions a.n a.words.now a.result a.work)
+    cond b Accepted ShortBuffer ≡ first_no (matrix_questions a.n a.words.now a.res a.work)
 ended c e =
     let o = c.before.before.before in
     let s = o.before.before.before.before.before in
     let a = s.args in
-    last o (last_answers a.n a.words.now a.result a.work o.of-f.ensures (le-leb _ _ c.if-f-le-MAX_WEIGHT.true)
-    (room-found a.n a.words.now a.result a.work s.requires.0 c.has_unitary_room.ensures e))
+    last o (last_answers a.n a.words.now a.res a.work o.of-f.ensures (le-leb _ _ c.if-f-le-MAX_WEIGHT.true)
+    (room-found a.n a.words.now a.res a.work s.requires.0 c.has_unitary_room.ensures e))
 
 pub returns-then-has_unitary_room : goal.returns-then-has_unitary_room
 returns-then-has_unitary_room c = ended c.before.before c.if-has_unitary_room.true
@@ -58,11 +58,11 @@ pub returns-then-is_accepted : goal.returns-then-is_accepted
 returns-then-is_accepted c =
     let o = c.before.before.before in
     let a = o.args in
-    last o (last_answers a.n a.words.now a.result a.work o.of-f.ensures (lt-leb _ _ c.if-f-le-MAX_WEIGHT.false) refl)
+    last o (last_answers a.n a.words.now a.res a.work o.of-f.ensures (lt-leb _ _ c.if-f-le-MAX_WEIGHT.false) refl)
 
 pub returns : goal.returns
 returns c =
     let g = c.before.before.before in
     let a = g.args in
-    after_no (gates_questions Unitary a.n 0 (gates_of a.words.now)) (last_questions a.n a.words.now a.result a.work)
+    after_no (gates_questions Unitary a.n 0 (gates_of a.words.now)) (last_questions a.n a.words.now a.res a.work)
     (gates_refuse Unitary a.n 0 (gates_of a.words.now)) g.judge_gates-v.ensures (sym c.is_accepted.ensures ∙ c.if-is_accepted.false)

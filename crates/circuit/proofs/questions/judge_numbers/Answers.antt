@@ -33,21 +33,21 @@ begun c = let t = c.before.before.before.before in t.before.before.before
 low : (c : Then-bits-l) → Low (begun c).args.l
 low c = all-low (begun c).args.l (begun c).requires.0
 
-stored : (c : Then-bits-l) → store_fits (begun c).args.bits (begun c).args.store.now ≡ c.is_IsStore.result
-stored c = sym c.is_IsStore.ensures
+stored : (c : Then-bits-l) → store_fits (begun c).args.bits (begun c).args.store.now ≡ c.is_store.result
+stored c = sym c.is_store.ensures
 
-within : (c : After-is_within) → let a = (begun c.before.before).args in within_limits a.f a.n a.bits a.l ≡ c.is_Within.result
+within : (c : After-is_within) → let a = (begun c.before.before).args in within_limits a.f a.n a.bits a.l ≡ c.is_within.result
 within c =
     let o = c.before in
     let a = (begun o.before).args in
-    within-found a.l a.f a.n a.bits (low o.before) o.if-bits-l.true o.of-s.ensures.0 c.is_Within.ensures
+    within-found a.l a.f a.n a.bits (low o.before) o.if-bits-l.true o.of-s.ensures.0 c.is_within.ensures
 
 room : (c : After-has_room) → let o = c.before.before.before.before.before in
-    let a = (begun o.before).args in room_for (sizes_of a.f a.n) a.result a.work ≡ c.has_room.result
+    let a = (begun o.before).args in room_for (sizes_of a.f a.n) a.res a.work ≡ c.has_room.result
 room c =
     let o = c.before.before.before.before.before in
     let a = (begun o.before).args in
-    ap (λ (s : Sizes). room_for s a.result a.work) (sym o.of-s.ensures.0) ∙ sym c.has_room.ensures
+    ap (λ (s : Sizes). room_for s a.res a.work) (sym o.of-s.ensures.0) ∙ sym c.has_room.ensures
 
 pub of-s-requires : goal.of-s-requires
 of-s-requires c = let a = (begun c.before).args in few-small a.l a.f a.n a.bits (low c.before) c.if-bits-l.true
@@ -57,13 +57,13 @@ is_within-requires c = (c.of-s.ensures.1, omega (arith, (low c.before.before).op
 
 -- every answer but the last is yes
 last : (c : After-has_room) {d : Bool} → c.has_room.result ≡ d → let a = (begun c.before.before.before.before.before.before).args in
-    cond d Accepted ShortBuffer ≡ first_no (number_questions a.f a.n a.bits a.store.now a.l a.result a.work)
+    cond d Accepted ShortBuffer ≡ first_no (number_questions a.f a.n a.bits a.store.now a.l a.res a.work)
 last c e =
     let t = c.before.before.before in
     let i = t.before in
     let s = i.before.before in
     let a = (begun s).args in
-    four_answers a.f a.n a.bits a.store.now a.l a.result a.work (stored s ∙ s.if-is_store.true) (within i ∙ t.if-is_within.true)
+    four_answers a.f a.n a.bits a.store.now a.l a.res a.work (stored s ∙ s.if-is_store.true) (within i ∙ t.if-is_within.true)
     (le-leb _ _ c.if-f-le-MAX_WEIGHT.true) (room c ∙ e)
 
 pub returns-then-has_room : goal.returns-then-has_room
@@ -78,7 +78,7 @@ returns-then-is_within c =
     let i = t.before in
     let s = i.before.before in
     let a = (begun s).args in
-    four_answers a.f a.n a.bits a.store.now a.l a.result a.work (stored s ∙ s.if-is_store.true) (within i ∙ t.if-is_within.true)
+    four_answers a.f a.n a.bits a.store.now a.l a.res a.work (stored s ∙ s.if-is_store.true) (within i ∙ t.if-is_within.true)
     (lt-leb _ _ c.if-f-le-MAX_WEIGHT.false) refl
 
 pub returns-else-is_within : goal.returns-else-is_within
@@ -86,7 +86,7 @@ returns-else-is_within c =
     let i = c.before.before in
     let s = i.before.before in
     let a = (begun s).args in
-    four_answers a.f a.n a.bits a.store.now a.l a.result a.work (stored s ∙ s.if-is_store.true) (within i ∙ c.if-is_within.false) refl refl
+    four_answers a.f a.n a.bits a.store.now a.l a.res a.work (stored s ∙ s.if-is_store.true) (within i ∙ c.if-is_within.false) refl refl
 
 pub returns-else-bits-l : goal.returns-else-bits-l
 returns-else-bits-l c =
@@ -94,11 +94,11 @@ returns-else-bits-l c =
     let k = t.before in
     let s = k.before.before in
     let a = s.args in
-    four_answers a.f a.n a.bits a.store.now a.l a.result a.work (sym k.is_IsStore.ensures ∙ t.if-is_store.true)
+    four_answers a.f a.n a.bits a.store.now a.l a.res a.work (sym k.is_store.ensures ∙ t.if-is_store.true)
     (too_many a.l a.f a.n a.bits (all-low a.l s.requires.0) c.if-bits-l.false) refl refl
 
 pub returns : goal.returns
 returns c =
     let k = c.before.before in
     let a = k.args in
-    four_answers a.f a.n a.bits a.store.now a.l a.result a.work (sym k.is_IsStore.ensures ∙ c.if-is_store.false) refl refl refl
+    four_answers a.f a.n a.bits a.store.now a.l a.res a.work (sym k.is_store.ensures ∙ c.if-is_store.false) refl refl refl

@@ -65,30 +65,30 @@ returns-then-is_unitary_within c =
     let i = c.before.before.before in
     let t = i.before.before.before.before.before in
     let a = (begun t).args in
-    c.judge_matrix.ensures ∙ unitary_answers a.n a.l a.words.now a.result a.work (low t) (whole t) (within i ∙ c.if-is_unitary_within.true)
+    c.judge_matrix.ensures ∙ unitary_answers a.n a.l a.words.now a.res a.work (low t) (whole t) (within i ∙ c.if-is_unitary_within.true)
 
 pub returns-else-is_unitary_within : goal.returns-else-is_unitary_within
 returns-else-is_unitary_within c =
     let i = c.before.before in
     let t = i.before.before.before.before.before in
     let a = (begun t).args in
-    unitary_answers a.n a.l a.words.now a.result a.work (low t) (whole t) (within i ∙ c.if-is_unitary_within.false)
+    unitary_answers a.n a.l a.words.now a.res a.work (low t) (whole t) (within i ∙ c.if-is_unitary_within.false)
 
 pub returns-else-n-l : goal.returns-else-n-l
 returns-else-n-l c =
     let t = c.before.before.before.before in
     let a = (begun t).args in
-    unitary_answers a.n a.l a.words.now a.result a.work (low t) (whole t) (unitary-many a.n a.l (length a.words.now / gate_size) c.if-n-l.false)
+    unitary_answers a.n a.l a.words.now a.res a.work (low t) (whole t) (unitary-many a.n a.l (length a.words.now / gate_size) c.if-n-l.false)
 
 pub returns-then-are_matrix_limits_low : goal.returns-then-are_matrix_limits_low
 returns-then-are_matrix_limits_low c =
     let m = c.before.before.before in
     let a = m.args in
-    unitary_answers a.n a.l a.words.now a.result a.work (sym m.are_matrix_limits_low.ensures ∙ c.if-are_matrix_limits_low.true)
+    unitary_answers a.n a.l a.words.now a.res a.work (sym m.are_matrix_limits_low.ensures ∙ c.if-are_matrix_limits_low.true)
     (ne_eqb (length a.words.now % gate_size) 0 c.if-words-eq0.false) refl
 
 pub returns : goal.returns
 returns c =
     let m = c.before.before in
     let a = m.args in
-    unitary_answers a.n a.l a.words.now a.result a.work (sym m.are_matrix_limits_low.ensures ∙ c.if-are_matrix_limits_low.false) refl refl
+    unitary_answers a.n a.l a.words.now a.res a.work (sym m.are_matrix_limits_low.ensures ∙ c.if-are_matrix_limits_low.false) refl refl

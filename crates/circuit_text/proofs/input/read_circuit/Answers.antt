@@ -95,7 +95,7 @@ pub returns-then-text-gt-MAX_BYTES : goal.returns-then-text-gt-MAX_BYTES
 returns-then-text-gt-MAX_BYTES c =
     let a = c.args in
     let no = too_long a.text.now c.if-text-gt-MAX_BYTES.true in
-    (refused-text a.text.now no, ((kept a.text.now a.numbers-1.now no).0, (kept a.text.now a.store-1.now no).1))
+    (refused-text a.text.now no, ((kept a.text.now a.numbers.now no).0, (kept a.text.now a.store.now no).1))
 
 pub slice_bounds-judge-end : goal.slice_bounds-judge-end
 slice_bounds-judge-end c = sym (part_long c.before.before)

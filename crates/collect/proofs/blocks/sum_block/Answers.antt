@@ -122,4 +122,4 @@ returns c =
     let a = c.before in
     let n = (start a.before.before.before).args in
     let e : a.loop-j.j ≡ n.count = omega (arith, a.loop-j.invariant.0, c.loop-j-test.false) in
-    subst (λ (j : ℕ). a.loop-j.result ≡ with_numerators n.result.now n.out (n.d * n.d * (n.d * n.d)) (upper n.work.now n.at n.d j (store_of n.work.now n.at n.d n.b))) e (summed a).is
+    subst (λ (j : ℕ). a.loop-j.result ≡ with_numerators n.res.now n.out (n.d * n.d * (n.d * n.d)) (upper n.work.now n.at n.d j (store_of n.work.now n.at n.d n.b))) e (summed a).is

@@ -19,7 +19,7 @@ abbrev pub start : After-clear → Start
 start k = k.before.before.before
 
 -- after j branches
-pub summed : (a : At-loop-j) → let n = (start a.before.before.before).args in Summed n.result.now n.out n.work.now n.at n.d (store_of n.work.now n.at n.d n.b) a.loop-j.result a.loop-j.j
+pub summed : (a : At-loop-j) → let n = (start a.before.before.before).args in Summed n.res.now n.out n.work.now n.at n.d (store_of n.work.now n.at n.d n.b) a.loop-j.result a.loop-j.j
 summed a = let k = a.before.before.before in let s = start k in a.loop-j.invariant.1.1 s.args.res.now s.requires.1.0 k.clear.ensures
 
 -- the block is summed over the words m that were cleared

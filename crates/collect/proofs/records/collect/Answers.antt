@@ -5,7 +5,7 @@ use Rattle.collect.proofs.Recording.{Collected, none-collected, begun, collected
 use Rattle.collect.proofs.records.collect.Goals as goal
 
 pub loop-b-init : goal.loop-b-init
-loop-b-init c = let s = c.args in none-collected s.result.now s.work.now s.at s.d s.count
+loop-b-init c = let s = c.args in none-collected s.res.now s.work.now s.at s.d s.count
 
 pub collect_branch-n-requires : goal.collect_branch-n-requires
 collect_branch-n-requires c =

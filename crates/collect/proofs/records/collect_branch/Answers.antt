@@ -57,7 +57,7 @@ pub returns-then-not-is_alive : goal.returns-then-not-is_alive
 returns-then-not-is_alive c =
     let a = c.before in
     let n = a.args in
-    unstarted n.result.now n.n n.work.now n.at n.d n.count n.b (ap (λ (t : Bool). t && is_first n.work.now n.at n.d n.b) (sym a.is_alive.ensures ∙ c.if-not-is_alive.true))
+    unstarted n.res.now n.n n.work.now n.at n.d n.count n.b (ap (λ (t : Bool). t && is_first n.work.now n.at n.d n.b) (sym a.is_alive.ensures ∙ c.if-not-is_alive.true))
 
 pub is_first-requires : goal.is_first-requires
 is_first-requires c =
@@ -68,7 +68,7 @@ pub returns-then-not-is_first : goal.returns-then-not-is_first
 returns-then-not-is_first c =
     let f = c.before in
     let n = f.args in
-    unstarted n.result.now n.n n.work.now n.at n.d n.count n.b (and_no (survives n.work.now n.at n.d n.b) _ (sym f.is_first.ensures ∙ c.if-not-is_first.true))
+    unstarted n.res.now n.n n.work.now n.at n.d n.count n.b (and_no (survives n.work.now n.at n.d n.b) _ (sym f.is_first.ensures ∙ c.if-not-is_first.true))
 
 pub overflow_mul-d : goal.overflow_mul-d
 overflow_mul-d c = omega (arith, square c)
@@ -99,5 +99,5 @@ returns c =
     let r = w.before.before in
     let e = r.before in
     let n = (start e).args in
-    newly-started n.result.now n.n n.work.now n.at n.d n.count n.b (is_start e)
-    (w.write_record.ensures ∙ ap (λ (k : ℕ). sets n.result.now (header_size + k) (record_of n.work.now n.at n.d n.count (store_of n.work.now n.at n.d n.b))) (place r))
+    newly-started n.res.now n.n n.work.now n.at n.d n.count n.b (is_start e)
+    (w.write_record.ensures ∙ ap (λ (k : ℕ). sets n.res.now (header_size + k) (record_of n.work.now n.at n.d n.count (store_of n.work.now n.at n.d n.b))) (place r))

@@ -77,5 +77,5 @@ returns c =
     let n = s.args in
     let p = store_place n.at n.d n.b in
     let b = shared_of n.work.now n.at n.d n.count (store_of n.work.now n.at n.d n.b) in
-    record_written n.result.now n.to (branch s).store (pos b.exp ∷ block_words (channels n.d) b.num)
+    record_written n.res.now n.to (branch s).store (pos b.exp ∷ block_words (channels n.d) b.num)
     (reads (word n.work.now p) h.low-1.given) (reads (word n.work.now (p + 1)) h.high-1.given) w.write_block.ensures

@@ -13,4 +13,4 @@ pub returns : goal.returns
 returns c =
     let a = c.args in
     c.write_cell-2.ensures ∙ ap (λ (l : List ℤ). sets l (a.at + cell_size) (cell_words (value a.a.right))) c.write_cell.ensures
-    ∙ sym (sets_append (cell_words (value a.a.left)) (cell_words (value a.a.right)) a.scalars-1.now a.at)
+    ∙ sym (sets_append (cell_words (value a.a.left)) (cell_words (value a.a.right)) a.scalars.now a.at)

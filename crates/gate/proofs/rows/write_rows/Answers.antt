@@ -90,7 +90,7 @@ write_cell-requires-in-loop-r c =
     let s = (h v).before.before.before.before in
     let a = s.args in
     let i : r v * 2 < a.d * 2 = omega (arith, in_row v) in
-    let room : a.at + (r v * 2 + 1) * cell_size + cell_size ≤ length a.buf-1.now = omega (arith, in_row v, s.requires.1.0) in
+    let room : a.at + (r v * 2 + 1) * cell_size + cell_size ≤ length a.buf.now = omega (arith, in_row v, s.requires.1.0) in
     subst (λ (k : ℕ). a.at + (r v * 2 + 1) * cell_size + cell_size ≤ k) (sym (long (again v.loop-r.invariant i w.write_cell.ensures (own-words v)))) room
 
 pub overflow_add-r : goal.overflow_add-r
@@ -109,7 +109,7 @@ loop-r-preserved c =
     let i : r v * 2 < a.d * 2 = omega (arith, in_row v) in
     let own = again t.loop-r.invariant i w.write_cell.ensures (own-words v) in
     let next : r v * 2 + 1 + 1 ≡ (r v + 1) * 2 = omega arith in
-    subst (Writing cell_size a.buf-1.now a.at (a.d * 2) (λ (i : ℕ). cell_words (value (side (pairs (h v) (i / 2)) i))) _) next
+    subst (Writing cell_size a.buf.now a.at (a.d * 2) (λ (i : ℕ). cell_words (value (side (pairs (h v) (i / 2)) i))) _) next
     (again own (in_row v) o.write_cell-in-loop-r.ensures (other-words v))
 
 pub shape_of-buf : goal.shape_of-buf
@@ -127,5 +127,5 @@ returns c =
     let high = h.pair_of-high.ensures ∙ ap (λ (t : Table). pair_of t 1) u.core_table-u.ensures in
     let all : a.d * 2 ≤ c.loop-r.r * 2 = omega (arith, c.loop-r-test.false) in
     done c.loop-r.invariant all
-    ∙ blocks-same cell_size a.buf-1.now a.at (a.d * 2) _ _ (λ i k.
+    ∙ blocks-same cell_size a.buf.now a.at (a.d * 2) _ _ (λ i k.
     ap cell_words (row-entry i p.1.1.1.1 p.1.1.0 p.0 h.controls-held.ensures low high (subst (λ (d : ℕ). i < d * 2) p.1.1.1.0 k)))

@@ -13,7 +13,7 @@ After-is_accepted = lts.After-is_accepted tie.the-claims reads.Pre reads.Post
 
 -- the test is the acceptance of the call
 tested : (c : After-is_accepted) → let a = c.args in
-    accepts a.qubits a.bits a.store.now a.limits a.gates.now a.result.now a.work-1.now ≡ c.is_accepted.result
+    accepts a.qubits a.bits a.store.now a.limits a.gates.now a.res.now a.work.now ≡ c.is_accepted.result
 tested c = sym (c.is_accepted.ensures ∙ ap accepted c.judge_circuit-j.ensures.0)
 
 pub run_and_deliver-requires : goal.run_and_deliver-requires
@@ -30,8 +30,8 @@ returns-then-is_accepted c =
     let a = i.args in (
       i.judge_circuit-j.ensures.0,
       (
-        result_accepted a.qubits a.bits a.store.now a.limits a.gates.now a.result.now a.work-1.now (tested i ∙ t.if-is_accepted.true) d.run_and_deliver.ensures.0,
-        work_accepted a.qubits a.bits a.store.now a.limits a.gates.now a.result.now a.work-1.now (tested i ∙ t.if-is_accepted.true) d.run_and_deliver.ensures.1,
+        result_accepted a.qubits a.bits a.store.now a.limits a.gates.now a.res.now a.work.now (tested i ∙ t.if-is_accepted.true) d.run_and_deliver.ensures.0,
+        work_accepted a.qubits a.bits a.store.now a.limits a.gates.now a.res.now a.work.now (tested i ∙ t.if-is_accepted.true) d.run_and_deliver.ensures.1,
       ),
     )
 
@@ -41,7 +41,7 @@ returns-else-is_accepted c =
     let a = i.args in (
       i.judge_circuit-j.ensures.0,
       (
-        result_refused a.qubits a.bits a.store.now a.limits a.gates.now a.result.now a.work-1.now (tested i ∙ c.if-is_accepted.false),
-        work_refused a.qubits a.bits a.store.now a.limits a.gates.now a.result.now a.work-1.now (tested i ∙ c.if-is_accepted.false),
+        result_refused a.qubits a.bits a.store.now a.limits a.gates.now a.res.now a.work.now (tested i ∙ c.if-is_accepted.false),
+        work_refused a.qubits a.bits a.store.now a.limits a.gates.now a.res.now a.work.now (tested i ∙ c.if-is_accepted.false),
       ),
     )

@@ -20,15 +20,15 @@ Then-is_accepted = lts.Then1 tie.the-claims reads.Pre reads.Post
 
 -- the test is the acceptance of the call
 tested : (c : After-is_accepted) → let a = c.args in
-    layered_accepts a.qubits a.bits a.store.now a.limits a.gates.now a.ends.now a.result.now a.work-1.now ≡ c.is_accepted.result
+    layered_accepts a.qubits a.bits a.store.now a.limits a.gates.now a.ends.now a.res.now a.work.now ≡ c.is_accepted.result
 tested c = sym (c.is_accepted.ensures ∙ ap accepted c.judge_layered-judged.ensures.0)
 
 -- where the layered circuit is accepted, its gate list is
 sound : (c : Then-is_accepted) → let a = c.args in
-    accepts a.qubits a.bits a.store.now a.limits a.gates.now a.result.now a.work-1.now ≡ true
+    accepts a.qubits a.bits a.store.now a.limits a.gates.now a.res.now a.work.now ≡ true
 sound c =
     let a = c.args in
-    layered-accepts a.qubits a.bits a.store.now a.limits a.gates.now a.ends.now (length a.result.now) (length a.work-1.now) (tested c.before ∙ c.if-is_accepted.true)
+    layered-accepts a.qubits a.bits a.store.now a.limits a.gates.now a.ends.now (length a.res.now) (length a.work.now) (tested c.before ∙ c.if-is_accepted.true)
 
 pub run_and_deliver-requires : goal.run_and_deliver-requires
 run_and_deliver-requires c =
@@ -42,14 +42,14 @@ returns-then-is_accepted c =
     let t = d.before.before.before in
     let i = t.before in
     let a = i.args in
-    let q = result_after a.qubits a.bits a.store.now a.limits a.gates.now a.result.now a.work-1.now in
-    let x = work_after a.qubits a.bits a.store.now a.limits a.gates.now a.result.now a.work-1.now in (
+    let q = result_after a.qubits a.bits a.store.now a.limits a.gates.now a.res.now a.work.now in
+    let x = work_after a.qubits a.bits a.store.now a.limits a.gates.now a.res.now a.work.now in (
       i.judge_layered-judged.ensures.0,
       (
-        result_accepted a.qubits a.bits a.store.now a.limits a.gates.now a.result.now a.work-1.now (sound t) d.run_and_deliver.ensures.0
-            ∙ sym (ap (λ (b : Bool). cond b q a.result.now) (tested i ∙ t.if-is_accepted.true)),
-        work_accepted a.qubits a.bits a.store.now a.limits a.gates.now a.result.now a.work-1.now (sound t) d.run_and_deliver.ensures.1
-            ∙ sym (ap (λ (b : Bool). cond b x a.work-1.now) (tested i ∙ t.if-is_accepted.true)),
+        result_accepted a.qubits a.bits a.store.now a.limits a.gates.now a.res.now a.work.now (sound t) d.run_and_deliver.ensures.0
+            ∙ sym (ap (λ (b : Bool). cond b q a.res.now) (tested i ∙ t.if-is_accepted.true)),
+        work_accepted a.qubits a.bits a.store.now a.limits a.gates.now a.res.now a.work.now (sound t) d.run_and_deliver.ensures.1
+            ∙ sym (ap (λ (b : Bool). cond b x a.work.now) (tested i ∙ t.if-is_accepted.true)),
       ),
     )
 
@@ -57,11 +57,11 @@ pub returns-else-is_accepted : goal.returns-else-is_accepted
 returns-else-is_accepted c =
     let i = c.before.before in
     let a = i.args in
-    let q = result_after a.qubits a.bits a.store.now a.limits a.gates.now a.result.now a.work-1.now in
-    let x = work_after a.qubits a.bits a.store.now a.limits a.gates.now a.result.now a.work-1.now in (
+    let q = result_after a.qubits a.bits a.store.now a.limits a.gates.now a.res.now a.work.now in
+    let x = work_after a.qubits a.bits a.store.now a.limits a.gates.now a.res.now a.work.now in (
       i.judge_layered-judged.ensures.0,
       (
-        sym (ap (λ (b : Bool). cond b q a.result.now) (tested i ∙ c.if-is_accepted.false)),
-        sym (ap (λ (b : Bool). cond b x a.work-1.now) (tested i ∙ c.if-is_accepted.false)),
+        sym (ap (λ (b : Bool). cond b q a.res.now) (tested i ∙ c.if-is_accepted.false)),
+        sym (ap (λ (b : Bool). cond b x a.work.now) (tested i ∙ c.if-is_accepted.false)),
       ),
     )

@@ -7,7 +7,7 @@ use Rattle.listing.proofs.blocks.put_scalar.Goals as goal
 
 pub returns : goal.returns
 returns c =
-    let n = c.args.x.n-1 in
+    let n = c.args.x.n in
     then (spaced-word (get_or n 0 (pos 0)) c.put_spaced-arg-2-1.given c.put_spaced-a.ensures)
     (then (spaced-word (get_or n 1 (pos 0)) c.put_spaced-arg-4-1.given c.put_spaced-b.ensures)
     (then (spaced-word (get_or n 2 (pos 0)) c.put_spaced-arg-6-1.given c.put_spaced-c.ensures)

@@ -13,7 +13,7 @@ After-is_accepted = lts.After-is_accepted tie.the-claims reads.Pre reads.Post
 
 -- the test is the acceptance of the call
 tested : (c : After-is_accepted) → let a = c.args in
-    accepts a.qubits a.bits a.store.now a.limits a.nodes.now a.operations.now a.result.now a.work-1.now ≡ c.is_accepted.result
+    accepts a.qubits a.bits a.store.now a.limits a.nodes.now a.operations.now a.res.now a.work.now ≡ c.is_accepted.result
 tested c = sym (c.is_accepted.ensures ∙ ap accepted c.judge_program-j.ensures.0)
 
 pub run_and_deliver-requires : goal.run_and_deliver-requires
@@ -29,7 +29,7 @@ returns-then-is_accepted c =
     let i = t.before in
     let a = i.args in (
       i.judge_program-j.ensures.0,
-      accepted_leaves a.qubits a.bits a.store.now a.limits a.nodes.now a.operations.now a.result.now a.work-1.now (tested i ∙ t.if-is_accepted.true)
+      accepted_leaves a.qubits a.bits a.store.now a.limits a.nodes.now a.operations.now a.res.now a.work.now (tested i ∙ t.if-is_accepted.true)
           d.run_and_deliver.ensures.0 d.run_and_deliver.ensures.1,
     )
 
@@ -38,5 +38,5 @@ returns-else-is_accepted c =
     let i = c.before.before in
     let a = i.args in (
       i.judge_program-j.ensures.0,
-      refused_leaves a.qubits a.bits a.store.now a.limits a.nodes.now a.operations.now a.result.now a.work-1.now (tested i ∙ c.if-is_accepted.false),
+      refused_leaves a.qubits a.bits a.store.now a.limits a.nodes.now a.operations.now a.res.now a.work.now (tested i ∙ c.if-is_accepted.false),
     )

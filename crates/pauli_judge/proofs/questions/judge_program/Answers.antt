@@ -28,9 +28,9 @@ pub returns-then-is_accepted : goal.returns-then-is_accepted
 returns-then-is_accepted c =
     let a = c.args in (
       after-yes (program_word_questions a.n a.bits a.l a.nodes.now a.operations.now)
-          (program_number_questions (program_footprint a.n a.bits (operations_of a.operations.now)) a.n a.bits a.store.now a.l a.result a.work)
+          (program_number_questions (program_footprint a.n a.bits (operations_of a.operations.now)) a.n a.bits a.store.now a.l a.res a.work)
           (words_refuse a.n a.bits a.l a.nodes.now a.operations.now) c.judge_words-v.ensures (sym c.is_accepted.ensures ∙ c.if-is_accepted.true)
-          (c.judge_numbers-u.ensures ∙ ap (λ (f : ProgramFootprint). first_no (program_number_questions f a.n a.bits a.store.now a.l a.result a.work)) c.of-f.ensures),
+          (c.judge_numbers-u.ensures ∙ ap (λ (f : ProgramFootprint). first_no (program_number_questions f a.n a.bits a.store.now a.l a.res a.work)) c.of-f.ensures),
       c.of-f.ensures,
     )
 
@@ -38,7 +38,7 @@ pub returns : goal.returns
 returns c =
     let a = c.args in (
       after_no (program_word_questions a.n a.bits a.l a.nodes.now a.operations.now)
-          (program_number_questions (program_footprint a.n a.bits (operations_of a.operations.now)) a.n a.bits a.store.now a.l a.result a.work)
+          (program_number_questions (program_footprint a.n a.bits (operations_of a.operations.now)) a.n a.bits a.store.now a.l a.res a.work)
           (words_refuse a.n a.bits a.l a.nodes.now a.operations.now) c.judge_words-v.ensures (sym c.is_accepted.ensures ∙ c.if-is_accepted.false),
       c.of-f.ensures,
     )

@@ -66,7 +66,7 @@ dim_small s = omega (arith, s.requires.1.dim, pow_mono {i = s.args.n} {j = 5} s.
 pub branch_size-requires : goal.branch_size-requires
 branch_size-requires c = dim_small c.before.before.before.before
 
-bank-small : (c : After-branch_size) → let a = c.args in 2 * (a.banks * c.branch_size.result) ≤ length a.work-1.now
+bank-small : (c : After-branch_size) → let a = c.args in 2 * (a.banks * c.branch_size.result) ≤ length a.work.now
 bank-small c =
     let s = c.before.before.before.before in
     omega (arith, s.requires.1.room, ap (λ (k : ℕ). s.args.banks * k) c.branch_size.ensures)
@@ -134,8 +134,8 @@ loop-i-preserved c = let a = (turn c.before).before in λ nodes r.
     (stepped c.before).step_operation-count.ensures.0 (ap (λ (k : ℕ). a.loop-i.made + k) (made_is c.before)) (stepped c.before).step_operation-count.ensures.1
 
 left : (c : After-loop-i) → let s = (given c.before).args in
-    (nodes : List Node) → Runs s.work-1.now s.operations.now s.masks.now s.store.now s.n s.d s.banks nodes
-    → Ran s.work-1.now c.loop-i.work s.operations.now s.store.now s.n s.d s.banks c.loop-i.from nodes
+    (nodes : List Node) → Runs s.work.now s.operations.now s.masks.now s.store.now s.n s.d s.banks nodes
+    → Ran s.work.now c.loop-i.work s.operations.now s.store.now s.n s.d s.banks c.loop-i.from nodes
 left c nodes r = let a = c.before in ends r (begun a).start_branch.ensures (a.loop-i.invariant nodes (runs r (begun a).start_branch.ensures)) c.loop-i-test.false
 
 pub shape_of-work : goal.shape_of-work

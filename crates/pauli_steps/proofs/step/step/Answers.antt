@@ -29,7 +29,7 @@ abbrev Start : Type 0
 Start = lts.Start tie.the-claims reads.Pre reads.Post goal.the-invariant-loop-j goal.the-decreases-loop-j
 
 pub loop-j-init : goal.loop-j-init
-loop-j-init c = let a = c.args in begin (λ j. le_of_eq (length-product a.work-1.now a.m _ _ a.d a.bit (chosen a.shift j)))
+loop-j-init c = let a = c.args in begin (λ j. le_of_eq (length-product a.work.now a.m _ _ a.d a.bit (chosen a.shift j)))
 
 -- one turn: j, and the branch and the operator by its shift and its mask
 module _ (t : In-loop-j) where

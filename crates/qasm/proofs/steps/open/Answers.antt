@@ -35,14 +35,14 @@ entry-there : (c : Else-e-eq-ENTRIES) → c.find-e.result < entry_count
 entry-there c =
     let s = start c.before.before.before.before in
     let a = s.args in
-    omega (arith, c.if-e-eq-ENTRIES.false, c.find-e.ensures, index-most (has a.text.now a.room a.s a.gates-1.now a.begin a.end s.requires.0 s.requires.1) no_entry table)
+    omega (arith, c.if-e-eq-ENTRIES.false, c.find-e.ensures, index-most (has a.text.now a.room a.s a.gates.now a.begin a.end s.requires.0 s.requires.1) no_entry table)
 
 pub returns-then-s-is_same : goal.returns-then-s-is_same
 returns-then-s-is_same c =
     let k = c.before.before.before in
     let s = start k in
     let a = s.args in
-    open_creg a.text.now a.room a.s a.gates-1.now a.begin a.end s.requires.0 s.requires.1 (sym (tested k) ∙ c.if-s-is_same.true) c.go_to.ensures
+    open_creg a.text.now a.room a.s a.gates.now a.begin a.end s.requires.0 s.requires.1 (sym (tested k) ∙ c.if-s-is_same.true) c.go_to.ensures
 
 pub returns-then-e-eq-ENTRIES : goal.returns-then-e-eq-ENTRIES
 returns-then-e-eq-ENTRIES c =
@@ -51,7 +51,7 @@ returns-then-e-eq-ENTRIES c =
     let k = o.before in
     let s = start k in
     let a = s.args in
-    open_none a.text.now a.room a.s a.gates-1.now a.begin a.end s.requires.0 s.requires.1 (sym (tested k) ∙ o.if-s-is_same.false) (sym f.find-e.ensures ∙ c.if-e-eq-ENTRIES.true)
+    open_none a.text.now a.room a.s a.gates.now a.begin a.end s.requires.0 s.requires.1 (sym (tested k) ∙ o.if-s-is_same.false) (sym f.find-e.ensures ∙ c.if-e-eq-ENTRIES.true)
     (c.refuse.ensures ∙ ap (λ (n : ℕ). refused a.s n a.begin) c.wrong-number.ensures)
 
 pub open_gate-requires : goal.open_gate-requires
@@ -71,4 +71,4 @@ returns c =
     let k = o.before in
     let s = start k in
     let a = s.args in
-    open_gate a.text.now a.room a.s a.gates-1.now a.begin a.end s.requires.0 s.requires.1 (sym (tested k) ∙ o.if-s-is_same.false) f.find-e.ensures (entry-there e) g.open_gate.ensures
+    open_gate a.text.now a.room a.s a.gates.now a.begin a.end s.requires.0 s.requires.1 (sym (tested k) ∙ o.if-s-is_same.false) f.find-e.ensures (entry-there e) g.open_gate.ensures

@@ -10,5 +10,5 @@ returns c =
       place = c.place_at-place.result;
       at = c.place_at-place.ensures;
       is = c.go_to.ensures;
-      written = c.put_gate.ensures ∙ ap (put_gate a.gates-1.now a.room a.s.words) c.kind_at.ensures;
+      written = c.put_gate.ensures ∙ ap (put_gate a.gates.now a.room a.s.words) c.kind_at.ensures;
     }

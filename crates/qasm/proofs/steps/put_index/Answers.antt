@@ -35,9 +35,9 @@ returns-then-piece c =
     let p = c.before.before.before in
     let t = p.before.before in
     let a = t.args in
-    p.put.ensures ∙ ap (λ (b : Bool). cond b (put_word a.gates-1.now a.room (a.words - 5 + (a.piece - 48)) a.v) a.gates-1.now) (sym t.if-piece.true)
+    p.put.ensures ∙ ap (λ (b : Bool). cond b (put_word a.gates.now a.room (a.words - 5 + (a.piece - 48)) a.v) a.gates.now) (sym t.if-piece.true)
 
 pub returns-else-piece : goal.returns-else-piece
 returns-else-piece c =
     let a = c.args in
-    ap (λ (b : Bool). cond b (put_word a.gates-1.now a.room (a.words - 5 + (a.piece - 48)) a.v) a.gates-1.now) (sym c.if-piece.false)
+    ap (λ (b : Bool). cond b (put_word a.gates.now a.room (a.words - 5 + (a.piece - 48)) a.v) a.gates.now) (sym c.if-piece.false)

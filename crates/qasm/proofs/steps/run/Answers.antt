@@ -36,7 +36,7 @@ pub loop-begin-init : goal.loop-begin-init
 loop-begin-init c =
     let s = c.before.before.before.before.before.before in
     let a = s.args in
-    going_top a.text.now a.at a.room a.gates-1.now c.top-s.ensures c.gap_end-begin.ensures
+    going_top a.text.now a.at a.room a.gates.now c.top-s.ensures c.gap_end-begin.ensures
 
 pub token_end-end-requires : goal.token_end-end-requires
 token_end-end-requires c = (c.loop-begin-test.true, c.loop-begin.invariant.stops c.loop-begin-test.true)
@@ -49,14 +49,14 @@ shape_of-gates-then-s-ne0 c =
     let p = c.before.before.before.before.before in
     let k = p.before.before in
     let a = (start k).args in
-    stepped-length a.text.now a.at a.room a.gates-1.now (head k).loop-begin.invariant k.loop-begin-test.true k.token_end-end.ensures p.step-s.ensures
+    stepped-length a.text.now a.at a.room a.gates.now (head k).loop-begin.invariant k.loop-begin-test.true k.token_end-end.ensures p.step-s.ensures
 
 pub returns-then-s-ne0 : goal.returns-then-s-ne0
 returns-then-s-ne0 c =
     let p = c.before.before.before.before.before in
     let k = p.before.before in
     let a = (start k).args in
-    going_fault a.text.now a.at a.room a.gates-1.now (head k).loop-begin.invariant k.loop-begin-test.true k.token_end-end.ensures p.step-s.ensures c.if-s-ne0.true
+    going_fault a.text.now a.at a.room a.gates.now (head k).loop-begin.invariant k.loop-begin-test.true k.token_end-end.ensures p.step-s.ensures c.if-s-ne0.true
 
 pub gap_end-begin-requires-in-loop-begin : goal.gap_end-begin-requires-in-loop-begin
 gap_end-begin-requires-in-loop-begin c = let k = c.before.before.before.before.before.before.before in (may k).inside.within
@@ -72,16 +72,16 @@ loop-begin-preserved c =
     let p = e.before.before.before.before in
     let k = p.before.before in
     let a = (start k).args in
-    going_on a.text.now a.at a.room a.gates-1.now (head k).loop-begin.invariant k.loop-begin-test.true k.token_end-end.ensures p.step-s.ensures e.if-s-ne0.false c.gap_end-begin-in-loop-begin.ensures
+    going_on a.text.now a.at a.room a.gates.now (head k).loop-begin.invariant k.loop-begin-test.true k.token_end-end.ensures p.step-s.ensures e.if-s-ne0.false c.gap_end-begin-in-loop-begin.ensures
 
 pub shape_of-gates : goal.shape_of-gates
 shape_of-gates c =
     let l = c.before.before in
     let a = l.args in
-    going_length a.text.now a.at a.room a.gates-1.now l.loop-begin.invariant
+    going_length a.text.now a.at a.room a.gates.now l.loop-begin.invariant
 
 pub returns : goal.returns
 returns c =
     let l = c.before.before in
     let a = l.args in
-    going_end a.text.now a.at a.room a.gates-1.now l.loop-begin.invariant c.loop-begin-test.false
+    going_end a.text.now a.at a.room a.gates.now l.loop-begin.invariant c.loop-begin-test.false

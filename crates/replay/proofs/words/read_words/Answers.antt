@@ -37,5 +37,5 @@ returns c =
     let q0 = c.read-length.ensures in
     let q1 = following t s.at 0 q0 c.read-count.ensures in
     let e = sym (sym (λ i. placed t (q1 i).size (q1 i).next (c.clear.ensures i)) ∙ c.loop-left.invariant.1 ∙ placed_end t c.loop-left.false c.loop-left.next c.loop-left.buf c.loop-left-test.false) in
-    let n = c.fitting.ensures ∙ ap (λ (w : Word). min w.size (length s.buf-1.now)) q0 in
+    let n = c.fitting.ensures ∙ ap (λ (w : Word). min w.size (length s.buf.now)) q0 in
     ((λ i. record { len = n i; next = (e i).next }), (omega (arith, c.fitting.ensures), ap (λ (f : Filled ℤ). f.words) e))

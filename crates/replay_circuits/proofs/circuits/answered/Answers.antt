@@ -13,8 +13,8 @@ unfolding answered
 returns c =
     let s = c.args in
     let t = s.text.now in
-    let r = s.result.now in
-    let w = s.work-1.now in
+    let r = s.res.now in
+    let w = s.work.now in
     let a = c.read-after.ensures in
     let b = following t s.at 0 a c.read-spent.ensures in
     let e = following t s.at 1 b c.read-effects.ensures in

@@ -10,8 +10,8 @@ use Rattle.replay_circuits.proofs.compared.channel_of.Goals as goal
 pub returns : goal.returns
 returns c =
     let s = c.args in
-    let r = s.result.now in
-    let w = s.work-1.now in
+    let r = s.res.now in
+    let w = s.work.now in
     let x = c.read_circuit-c.ensures.0 in
     let store = taken (ap (λ (y : Circuit). y.stored) x) c.read_circuit-c.ensures.1.1.0 in
     let gates = taken (ap (λ (y : Circuit). y.gates) x) c.read_circuit-c.ensures.1.1.1 in (

@@ -9,8 +9,8 @@ pub returns : goal.returns
 returns c =
     let s = c.args in
     let t = s.text.now in
-    let σ = s.store-1.now in
-    let ws = s.words-1.now in
+    let σ = s.store.now in
+    let ws = s.words.now in
     let bounds = c.read_limits-bounds.ensures in
     let n = c.read-n.ensures ∙ (λ i. word_at t (bounds i).next) in
     let m = c.read-bits.ensures ∙ (λ i. word_at t (n i).next) in

@@ -23,7 +23,7 @@ returns c =
     let high = c.low.ensures ∙ (λ i. (w0 i).size % 4294967296) in
     let rest = c.low-2.ensures ∙ (λ i. (w1 i).size % 4294967296) in
     c.compared.ensures
-    ∙ (λ i. compared t (q i).next s.count (words i) (stores i) (high i * 4294967296 + rest i) s.left-1.now s.right-1.now s.work-1.now s.answers-1.now s.scalars-1.now)
+    ∙ (λ i. compared t (q i).next s.count (words i) (stores i) (high i * 4294967296 + rest i) s.left.now s.right.now s.work.now s.answers.now s.scalars.now)
 
 pub slice_bounds-compared-end : goal.slice_bounds-compared-end
 slice_bounds-compared-end c = sym (length-take-le _ _ (search rules))

@@ -13,12 +13,12 @@ pub returns : goal.returns
 returns c =
     let s = c.args in
     let (reply, (answers, (scalars, (left, (right, work))))) = c.compare_list-reply.ensures in
-    let m = along s.count s.words.now s.stores.now s.allowance s.left-1.now s.right-1.now s.work-1.now s.answers-1.now s.scalars-1.now c.defaults.ensures in
+    let m = along s.count s.words.now s.stores.now s.allowance s.left.now s.right.now s.work.now s.answers.now s.scalars.now c.defaults.ensures in
     let clear = m (List ℤ → List ℤ) cleared in
     let first = reply ∙ m Reply reply_of in
-    let l = left ∙ (λ i. clear i s.left-1.now) in
-    let r = right ∙ (λ i. clear i s.right-1.now) in
-    let w = work ∙ (λ i. clear i s.work-1.now) in
+    let l = left ∙ (λ i. clear i s.left.now) in
+    let r = right ∙ (λ i. clear i s.right.now) in
+    let w = work ∙ (λ i. clear i s.work.now) in
     let z = scalars ∙ m (List ℤ) scalars_after in
     let o = answers ∙ m (List ℕ) answers_after in
     c.check_reply.ensures ∙ (λ i. with_reply s.text.now (c.begin.ensures i) (first i) (l i) (r i) (w i) (z i) (o i))

@@ -28,8 +28,8 @@ returns c =
     let operations = c.read_u32s-done.ensures.1.1 ∙ (λ i. (numbers_at 4294967296 t (q i).next (replicate 600 0)).words) in
     let n = c.low.ensures ∙ (λ i. (w0 i).size % 4294967296) in
     let m = c.low-2.ensures ∙ (λ i. (w1 i).size % 4294967296) in
-    let result = take-fitting c.fitting-r.result c.read-after.result.size s.result.now c.fitting-r.ensures ∙ (λ i. take (w2 i).size s.result.now) in
-    let work = take-fitting c.fitting-w.result c.read-spent.result.size s.work-1.now c.fitting-w.ensures ∙ (λ i. take (w3 i).size s.work-1.now) in
+    let result = take-fitting c.fitting-r.result c.read-after.result.size s.res.now c.fitting-r.ensures ∙ (λ i. take (w2 i).size s.res.now) in
+    let work = take-fitting c.fitting-w.result c.read-spent.result.size s.work.now c.fitting-w.ensures ∙ (λ i. take (w3 i).size s.work.now) in
     c.called.ensures
     ∙ (λ i. called t (o i).next (n i) (m i) (take (p i).len (store i)) (take (q i).len (nodes i)) (take (o i).len (operations i)) (result i) (work i))
 

@@ -14,5 +14,5 @@ returns c =
     let first = c.check_verdict-first.ensures ∙ (λ i. with_verdict t (c.begin.ensures i) (c.edited-v.ensures.0 i)) in
     let sum = c.checksum.ensures ∙ (λ i. checksum_of (m i)) in
     let left = c.number-left.ensures ∙ (λ i. with_number t (first i) (sum i)) in
-    let kept = c.check_kept-kept.ensures ∙ (λ i. with_kept t (left i) (m i) s.store.now s.result s.work) in
-    c.check_copy.ensures ∙ (λ i. with_copy t (kept i) (m i) s.out-1.now)
+    let kept = c.check_kept-kept.ensures ∙ (λ i. with_kept t (left i) (m i) s.store.now s.res s.work) in
+    c.check_copy.ensures ∙ (λ i. with_copy t (kept i) (m i) s.out.now)

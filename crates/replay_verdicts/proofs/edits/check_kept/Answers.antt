@@ -7,5 +7,5 @@ use Rattle.replay_verdicts.proofs.edits.check_kept.Goals as goal
 pub returns : goal.returns
 returns c =
     let s = c.args in
-    let v = c.judge_kept-v.ensures ∙ (λ i. kept_verdict s.words.now s.store.now (c.defaults.ensures i) s.result s.work) in
+    let v = c.judge_kept-v.ensures ∙ (λ i. kept_verdict s.words.now s.store.now (c.defaults.ensures i) s.res s.work) in
     c.check_verdict.ensures ∙ (λ i. with_verdict s.text.now s.seen (v i))

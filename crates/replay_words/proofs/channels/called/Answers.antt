@@ -10,6 +10,6 @@ returns c =
     let s = c.args in
     let t = s.text.now in
     let compared = c.compare_call-compared.ensures ∙ (λ i. with_difference t (c.begin.ensures i) (compare_of s.left.now s.right.now)) in
-    let traced = c.effects_call-traced.ensures ∙ (λ i. with_blocks t (compared i) s.left.now (marked s.effects-1.now)) in
-    let measured = c.povm_call-measured.ensures ∙ (λ i. with_povm t (traced i) s.left.now (marked s.povm-1.now)) in
+    let traced = c.effects_call-traced.ensures ∙ (λ i. with_blocks t (compared i) s.left.now (marked s.effects.now)) in
+    let measured = c.povm_call-measured.ensures ∙ (λ i. with_povm t (traced i) s.left.now (marked s.povm.now)) in
     c.check_part.ensures ∙ (λ i. with_part t (measured i) (c.lookup.ensures i))

@@ -18,12 +18,12 @@ returns c =
     let x = circuit_in a.words.now a.stores.now a.l in
     let y = circuit_in a.words.now a.stores.now a.r in
     let left = c.run.ensures.0 in
-    let right = c.run-2.ensures.0 ∙ ap (delivers l y a.right-1.now) c.run.ensures.1 in (
+    let right = c.run-2.ensures.0 ∙ ap (delivers l y a.right.now) c.run.ensures.1 in (
       c.compare-d.ensures ∙ (λ i. compare_of (left i) (right i)),
       (
-        wiped_again c.wipe.ensures (ap length left ∙ result_long x.qubits x.bits x.store l x.gates a.left-1.now a.work-1.now) c.requires.1.0,
+        wiped_again c.wipe.ensures (ap length left ∙ result_long x.qubits x.bits x.store l x.gates a.left.now a.work.now) c.requires.1.0,
         (
-          wiped_again c.wipe-2.ensures (ap length right ∙ result_long y.qubits y.bits y.store l y.gates a.right-1.now a.work-1.now) c.requires.1.1.0,
+          wiped_again c.wipe-2.ensures (ap length right ∙ result_long y.qubits y.bits y.store l y.gates a.right.now a.work.now) c.requires.1.1.0,
           c.run-2.ensures.1 ∙ c.run.ensures.1,
         ),
       ),

@@ -42,7 +42,7 @@ count_terms-requires c =
     let j = c.before.before.before in
     let a = (s j).args in
     let k = circuit j in
-    let m = small k.qubits k.bits k.store a.limits k.gates a.result a.work (sym (ap accepted j.judge_circuit-j.ensures.0) ∙ yes c.before) in
+    let m = small k.qubits k.bits k.store a.limits k.gates a.res a.work (sym (ap accepted j.judge_circuit-j.ensures.0) ∙ yes c.before) in
     let same = ap (λ (n : ℕ). n / gate_size) (gates_long j) in
     (m.qubits, omega (arith, m.splitting, j.judge_circuit-j.ensures.1 (yes c.before)), omega (arith, m.gates, same))
 
@@ -51,10 +51,10 @@ returns-then-is_accepted c =
     let t = c.before.before in
     let j = t.before.before in
     let a = (s j).args in
-    weight-yes (circuit j) a.limits a.result a.work j.judge_circuit-j.ensures.0 (yes t) (ap (λ (n : ℕ). n / gate_size) (gates_long j)) (j.judge_circuit-j.ensures.1 (yes t)) c.count_terms.ensures
+    weight-yes (circuit j) a.limits a.res a.work j.judge_circuit-j.ensures.0 (yes t) (ap (λ (n : ℕ). n / gate_size) (gates_long j)) (j.judge_circuit-j.ensures.1 (yes t)) c.count_terms.ensures
 
 pub returns : goal.returns
 returns c =
     let j = c.before.before.before in
     let a = (s j).args in
-    weight_no (circuit j) a.limits a.result a.work j.judge_circuit-j.ensures.0 (sym c.is_accepted.ensures ∙ c.if-is_accepted.false)
+    weight_no (circuit j) a.limits a.res a.work j.judge_circuit-j.ensures.0 (sym c.is_accepted.ensures ∙ c.if-is_accepted.false)
