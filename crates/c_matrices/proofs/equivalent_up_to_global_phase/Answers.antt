@@ -1,12 +1,9 @@
 -- `equivalent_up_to_global_phase` meets its contract.
 use mathlib.Core.Path.{ap, ◌∙◌}
 use Rattle.c_matrices.specs.Matrices.{phase_number}
-use Rattle.c_matrices.proofs.equivalent_up_to_global_phase.Statement.{
 use Rattle.c_matrices.proofs.equivalent_up_to_global_phase.Goals as goal
 
 -- `equivalent_up_to_global_phase` meets its contract.
-  statement,
-}
 
 pub returns : goal.returns
 returns c =

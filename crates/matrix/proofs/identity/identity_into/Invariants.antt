@@ -13,7 +13,7 @@ use Rattle.matrix.proofs.Terms.{dim_pos}
 use Rattle.matrix.proofs.identity.identity_into.Given as goal
 
 abbrev pub invariant-loop-i : goal.invariant-loop-i
-invariant-loop-i l = Writing cell_size l.initial.buf l.at (l.d * l.d) (λ (l.i : ℕ). cell_words (δ exact (l.i / l.d) (l.i % l.d))) l.buf l.i
+invariant-loop-i l = Writing cell_size l.initial.buf l.at (l.d * l.d) (λ (i : ℕ). cell_words (δ exact (i / l.d) (i % l.d))) l.buf l.i
 
 abbrev pub decreases-loop-i : goal.decreases-loop-i
 decreases-loop-i l = l.d * l.d - l.i
