@@ -5,10 +5,5 @@ use Rattle.c_channels.proofs.compare.Goals as goal
 
 pub returns : goal.returns
 returns c =
-    let e = c.compare-d.ensures in (
-      c.finding_number.ensures ∙ ap (λ d. finding_number d.found) e,
-      (
-        c.place_words.ensures ∙ ap (λ d. place_words d.found) e,
-        c.two_scalars.ensures ∙ ap (λ d. two_scalars d.left d.right) e,
-      ),
-    )
+    let e = c.compare-d.ensures in
+    record { value = c.finding_number.ensures ∙ ap (λ d. finding_number d.found) e; place_after = c.place_words.ensures ∙ ap (λ d. place_words d.found) e; scalars_after = c.two_scalars.ensures ∙ ap (λ d. two_scalars d.left d.right) e }

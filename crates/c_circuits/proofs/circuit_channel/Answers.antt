@@ -6,6 +6,6 @@ use Rattle.c_circuits.proofs.circuit_channel.Goals as goal
 pub returns : goal.returns
 returns c =
     let a = c.args in
-    reported (λ l. verdict_of a.qubits a.bits a.store.now l a.gates.now a.res.now a.work.now)
+    let all = reported (λ l. verdict_of a.qubits a.bits a.store.now l a.gates.now a.res.now a.work.now)
     (λ l. result_after a.qubits a.bits a.store.now l a.gates.now a.res.now a.work.now)
-    (λ l. work_after a.qubits a.bits a.store.now l a.gates.now a.res.now a.work.now) c.circuit_channel-v.ensures c.report.ensures c.read_limits-l.ensures
+    (λ l. work_after a.qubits a.bits a.store.now l a.gates.now a.res.now a.work.now) (c.circuit_channel-v.ensures.value, (c.circuit_channel-v.ensures.res_after, c.circuit_channel-v.ensures.work_after)) (c.report.ensures.value, c.report.ensures.index_after) c.read_limits-l.ensures in record { value = all.0; index_after = all.1.0; res_after = all.1.1.0; work_after = all.1.1.1 }

@@ -5,6 +5,6 @@ use Rattle.c_kept.proofs.append.Goals as goal
 
 pub returns : goal.returns
 returns c =
-    let (e, words) = c.append-v.ensures in
-    let (number, index) = c.report.ensures in
-    (number ∙ ap verdict_number e, (index ∙ ap verdict_index e, words))
+    let record { value = e; words_after = words } = c.append-v.ensures in
+    let record { value = number; index_after = index } = c.report.ensures in
+    record { value = number ∙ ap verdict_number e; index_after = index ∙ ap verdict_index e; words_after = words }

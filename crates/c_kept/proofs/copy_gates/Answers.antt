@@ -5,5 +5,5 @@ use Rattle.c_kept.proofs.copy_gates.Goals as goal
 
 pub returns : goal.returns
 returns c =
-    let (e, words) = c.copy_gates-v.ensures in
-    (c.number.ensures ∙ ap verdict_number e, words)
+    let record { value = e; out_after = words } = c.copy_gates-v.ensures in
+    record { value = c.number.ensures ∙ ap verdict_number e; out_after = words }

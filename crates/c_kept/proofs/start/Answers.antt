@@ -5,5 +5,5 @@ use Rattle.c_kept.proofs.start.Goals as goal
 
 pub returns : goal.returns
 returns c =
-    let (e, words) = c.start-v.ensures in
-    (c.number.ensures ∙ ap verdict_number e, words)
+    let record { value = e; words_after = words } = c.start-v.ensures in
+    record { value = c.number.ensures ∙ ap verdict_number e; words_after = words }

@@ -9,4 +9,4 @@ pub returns : goal.returns
 returns c =
     let a = c.args in
     c.number.ensures
-    ∙ ap verdict_number (c.judge_kept-v.ensures ∙ ap (λ (l : Limits). kept_verdict a.words.now a.store.now l a.result_words a.work-words) c.read_limits-l.ensures)
+    ∙ ap verdict_number (c.judge_kept-v.ensures ∙ ap (λ (l : Limits). kept_verdict a.words.now a.store.now l a.result_words a.work_words) c.read_limits-l.ensures)

@@ -6,4 +6,4 @@ use Rattle.c_packed.proofs.read_plain.Goals as goal
 pub returns : goal.returns
 returns c =
     let j = c.read_plain-v in
-    (c.report.ensures.0 ∙ ap verdict_number j.ensures.0, (c.report.ensures.1 ∙ ap verdict_index j.ensures.0, j.ensures.1))
+    record { value = c.report.ensures.value ∙ ap verdict_number j.ensures.0; index_after = c.report.ensures.index_after ∙ ap verdict_index j.ensures.0; res_after = j.ensures.1 }

@@ -7,7 +7,5 @@ use Rattle.c_qasm.proofs.read_qasm.Goals as goal
 
 pub returns : goal.returns
 returns c =
-    let (e, gates) = c.read_qasm-r.ensures in (
-      c.number.ensures ∙ ap (λ (r : Reading). verdict_number r.verdict) e,
-      (gates, (ap count_words e, (ap (λ (r : Reading). r.words) e, ap (λ (r : Reading). r.position) e))),
-    )
+    let record { reply = e; gates = gates } = c.read_qasm-r.ensures in
+    record { value = c.number.ensures ∙ ap (λ (r : Reading). verdict_number r.verdict) e; gates_after = gates; counts_after = ap count_words e; words_after = ap (λ (r : Reading). r.words) e; position_after = ap (λ (r : Reading). r.position) e }

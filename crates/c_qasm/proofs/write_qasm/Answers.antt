@@ -6,8 +6,6 @@ use Rattle.c_qasm.proofs.write_qasm.Goals as goal
 
 pub returns : goal.returns
 returns c =
-    let (e, out) = c.write_qasm-w.ensures in
-    let (number, index) = c.report.ensures in (
-      number ∙ ap (λ (w : Written). verdict_number w.verdict) e,
-      (out, (ap (λ (w : Written). w.bytes) e, index ∙ ap (λ (w : Written). verdict_index w.verdict) e)),
-    )
+    let record { value = e; out_after = out } = c.write_qasm-w.ensures in
+    let record { value = number; index_after = index } = c.report.ensures in
+    record { value = number ∙ ap (λ (w : Written). verdict_number w.verdict) e; out_after = out; bytes_after = ap (λ (w : Written). w.bytes) e; index_after = index ∙ ap (λ (w : Written). verdict_index w.verdict) e }

@@ -8,4 +8,4 @@ use Rattle.c_scalars.proofs.write_integer.Goals as goal
 pub returns : goal.returns
 returns c =
     let n = to_z-of_z c.ranges.n in
-    answered c.answer.ensures (c.integer.ensures ∙ ap integer_answer n)
+    let all = answered (c.answer.ensures.value, c.answer.ensures.out_after) (c.integer.ensures ∙ ap integer_answer n) in record { value = all.0; out_after = all.1 }

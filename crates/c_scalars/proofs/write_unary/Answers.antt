@@ -8,4 +8,4 @@ use Rattle.c_scalars.proofs.write_unary.Goals as goal
 pub returns : goal.returns
 returns c =
     let f = c.args.f in
-    answered c.answer.ensures (c.unary_answer.ensures ∙ ap (λ x. unary_answer f (value x)) c.read_operand.ensures)
+    let all = answered (c.answer.ensures.value, c.answer.ensures.out_after) (c.unary_answer.ensures ∙ ap (λ x. unary_answer f (value x)) c.read_operand.ensures) in record { value = all.0; out_after = all.1 }

@@ -10,7 +10,5 @@ returns c =
     let a = c.args in
     let (answer, (left, (right, (text, buffers)))) =
     under a.left.now a.right.now a.store.now a.gates.now a.first.now a.second.now a.work.now a.answer.now c.read_limits-l.ensures
-    c.judge_texts-j.result _ _ _ _ _ c.judge_texts-j.ensures in (
-      c.answer_number.ensures ∙ ap answer_number answer,
-      (c.answer_numbers.ensures ∙ ap answer_numbers answer, (c.two_scalars.ensures ∙ (λ i. two_scalars (left i) (right i)), (text, buffers))),
-    )
+    c.judge_texts-j.result _ _ _ _ _ (c.judge_texts-j.ensures.answer, (c.judge_texts-j.ensures.left, (c.judge_texts-j.ensures.right, (c.judge_texts-j.ensures.text, (c.judge_texts-j.ensures.gates, (c.judge_texts-j.ensures.first, (c.judge_texts-j.ensures.second, c.judge_texts-j.ensures.work))))))) in
+    record { value = c.answer_number.ensures ∙ ap answer_number answer; numbers_after = c.answer_numbers.ensures ∙ ap answer_numbers answer; scalars_after = c.two_scalars.ensures ∙ (λ i. two_scalars (left i) (right i)); bytes_after = text; gates_after = buffers.0; first_after = buffers.1.0; second_after = buffers.1.1.0; work_after = buffers.1.1.1 }

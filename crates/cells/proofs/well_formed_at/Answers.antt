@@ -44,31 +44,26 @@ module _ (l : List ℤ) (at : ℕ) (h : mag (get_or l (at + 4) (pos 0)) < 2 ^ 63
 
 pub returns-then-e-lt0 : goal.returns-then-e-lt0
 returns-then-e-lt0 c =
-    let a = c.before in
-    let s = a.args in
-    answers s.s.now s.at a.e-1.given false (negative s.s.now s.at a.e-1.given c.if-e-lt0.true)
+    let s = c.args in
+    answers s.s.now s.at c.e-1.given false (negative s.s.now s.at c.e-1.given c.if-e-lt0.true)
 
 pub returns-then-e : goal.returns-then-e
 returns-then-e c =
-    let a = c.before.before in
-    let s = a.args in
-    answers s.s.now s.at a.e-1.given false (large s.s.now s.at a.e-1.given c.if-e.true)
+    let s = c.args in
+    answers s.s.now s.at c.e-1.given false (large s.s.now s.at c.e-1.given c.if-e.true)
 
 -- the exponent is one
 exponent : (c : Else-e) → let s = c.args in exponent_at s.s.now s.at ≡ true
 exponent c =
-    let a = c.before.before in
-    let s = a.args in
-    allowed s.s.now s.at a.e-1.given c.if-e-lt0.false c.if-e.false
+    let s = c.args in
+    allowed s.s.now s.at c.e-1.given c.if-e-lt0.false c.if-e.false
 
 pub read_cell-v-requires : goal.read_cell-v-requires
 read_cell-v-requires c = (c.requires, exponent c)
 
 pub returns : goal.returns
 returns c =
-    let r = c.before in
-    let a = r.before.before.before in
-    let s = a.args in
+    let s = c.args in
     c.is_well_formed.ensures
-    ∙ ap (λ (v : Scalar). well_formed (value v)) r.read_cell-v.ensures
-    ∙ answers s.s.now s.at a.e-1.given true (exponent r.before)
+    ∙ ap (λ (v : Scalar). well_formed (value v)) c.read_cell-v.ensures
+    ∙ answers s.s.now s.at c.e-1.given true (exponent c.before.before)

@@ -31,10 +31,9 @@ bounds-s-at-5 c = simp length-set (omega arith)
 
 pub returns : goal.returns
 returns c =
-    let a = c.before.before.before in
-    let n = a.args.v.n in
-    let p0 = reads (get_or n 0 (pos 0)) a.a-1.given in
+    let n = c.args.v.n in
+    let p0 = reads (get_or n 0 (pos 0)) c.a-1.given in
     let p1 = reads (get_or n 1 (pos 0)) c.b-1.given in
     let p2 = reads (get_or n 2 (pos 0)) c.c-1.given in
     let p3 = reads (get_or n 3 (pos 0)) c.d-1.given in
-    simp (add-one, add-two, add-three, add-four, p0, p1, p2, p3, to_z_pos w64 (small a))
+    simp (add-one, add-two, add-three, add-four, p0, p1, p2, p3, to_z_pos w64 (small c.before.before.before))

@@ -9,22 +9,22 @@ use Rattle.compare_list.proofs.compare_list.Tie as tie
 use Rattle.compare_list.proofs.compare_list.Goals as goal
 
 abbrev After-wipe-then-is_accepted-2 : Type 0
-After-wipe-then-is_accepted-2 = lts.After-wipe3 tie.the-claims reads.Pre reads.Post
+After-wipe-then-is_accepted-2 = lts.After-wipe3 tie.the-claims reads.Pre reads.Post tie.handed_clauses
 
 abbrev After-wipe-then-is_accepted : Type 0
-After-wipe-then-is_accepted = lts.After-wipe2 tie.the-claims reads.Pre reads.Post
+After-wipe-then-is_accepted = lts.After-wipe2 tie.the-claims reads.Pre reads.Post tie.handed_clauses
 
 abbrev After-wipe : Type 0
-After-wipe = lts.After-wipe tie.the-claims reads.Pre reads.Post
+After-wipe = lts.After-wipe tie.the-claims reads.Pre reads.Post tie.handed_clauses
 
 abbrev Then-is_accepted : Type 0
-Then-is_accepted = lts.Then1 tie.the-claims reads.Pre reads.Post
+Then-is_accepted = lts.Then1 tie.the-claims reads.Pre reads.Post tie.handed_clauses
 
 abbrev After-judge_list-v : Type 0
-After-judge_list-v = lts.After-judge_list tie.the-claims reads.Pre reads.Post
+After-judge_list-v = lts.After-judge_list tie.the-claims reads.Pre reads.Post tie.handed_clauses
 
 abbrev Start : Type 0
-Start = lts.Start tie.the-claims reads.Pre reads.Post
+Start = lts.Start tie.the-claims reads.Pre reads.Post tie.handed_clauses
 
 module _ (w : After-wipe-then-is_accepted-2) where
   abbrev second : After-wipe-then-is_accepted
@@ -47,23 +47,19 @@ module _ (w : After-wipe-then-is_accepted-2) where
 
 pub serve_all-total-requires : goal.serve_all-total-requires
 serve_all-total-requires c =
-    let w = c.before.before.before.before.before.before.before in
-    let a = (s w).args in
-    listed a.count a.words.now a.stores.now a.limits a.allowance a.left.now a.right.now a.work.now a.answers.now a.scalars.now (judged w).judge_list-v.ensures (yes w)
-    (wiped_blanks a.left.now a.right.now a.work.now (first w).wipe.ensures (second w).wipe-then-is_accepted.ensures w.wipe-then-is_accepted-2.ensures)
+    let a = (s c.before.before.before.before.before.before.before).args in
+    listed a.count a.words.now a.stores.now a.limits a.allowance a.left.now a.right.now a.work.now a.answers.now a.scalars.now (judged c.before.before.before.before.before.before.before).judge_list-v.ensures (yes c.before.before.before.before.before.before.before)
+    (wiped_blanks a.left.now a.right.now a.work.now (first c.before.before.before.before.before.before.before).wipe.ensures (second c.before.before.before.before.before.before.before).wipe-then-is_accepted.ensures c.wipe-then-is_accepted-2.ensures)
 
 pub returns-then-is_accepted : goal.returns-then-is_accepted
 returns-then-is_accepted c =
-    let v = c.before.before.before.before.before.before.before in
-    let w = v.before.before.before.before.before.before.before in
-    let a = (s w).args in
-    let (total, (answers, (scalars, (left, (right, work))))) = v.serve_all-total.ensures in
-    accepts a.count a.words.now a.stores.now a.limits a.allowance a.left.now a.right.now a.work.now a.answers.now a.scalars.now (judged w).judge_list-v.ensures (yes w)
-    (first w).wipe.ensures (second w).wipe-then-is_accepted.ensures w.wipe-then-is_accepted-2.ensures total answers scalars left right work
+    let a = (s c.before.before.before.before.before.before.before.before.before.before.before.before.before.before).args in
+    let (total, (answers, (scalars, (left, (right, work))))) = c.serve_all-total.ensures in
+    let all = accepts a.count a.words.now a.stores.now a.limits a.allowance a.left.now a.right.now a.work.now a.answers.now a.scalars.now (judged c.before.before.before.before.before.before.before.before.before.before.before.before.before.before).judge_list-v.ensures (yes c.before.before.before.before.before.before.before.before.before.before.before.before.before.before)
+    (first c.before.before.before.before.before.before.before.before.before.before.before.before.before.before).wipe.ensures (second c.before.before.before.before.before.before.before.before.before.before.before.before.before.before).wipe-then-is_accepted.ensures c.wipe-then-is_accepted-2.ensures total answers scalars left right work in record { reply = all.0; answers = all.1.0; scalars = all.1.1.0; left = all.1.1.1.0; right = all.1.1.1.1.0; work = all.1.1.1.1.1 }
 
 pub returns : goal.returns
 returns c =
-    let j = c.before.before.before in
-    let a = j.args in
-    refused a.count a.words.now a.stores.now a.limits a.allowance a.left.now a.right.now a.work.now a.answers.now a.scalars.now j.judge_list-v.ensures
-    (sym c.is_accepted.ensures ∙ c.if-is_accepted.false)
+    let a = c.args in
+    let all = refused a.count a.words.now a.stores.now a.limits a.allowance a.left.now a.right.now a.work.now a.answers.now a.scalars.now c.judge_list-v.ensures
+    (sym c.is_accepted.ensures ∙ c.if-is_accepted.false) in record { reply = all.0; answers = all.1.0; scalars = all.1.1.0; left = all.1.1.1.0; right = all.1.1.1.1.0; work = all.1.1.1.1.1 }

@@ -14,19 +14,19 @@ use Rattle.compare_list.proofs.serve_all.Tie as tie
 use Rattle.compare_list.proofs.serve_all.Goals as goal
 
 abbrev At-loop-i : Type 0
-At-loop-i = lts.At-loop tie.the-claims reads.Pre reads.Post goal.the-invariant-loop-i goal.the-decreases-loop-i
+At-loop-i = lts.At-loop tie.the-claims reads.Pre reads.Post goal.the-invariant-loop-i goal.the-decreases-loop-i tie.handed_clauses
 
 abbrev Start : Type 0
-Start = lts.Start tie.the-claims reads.Pre reads.Post goal.the-invariant-loop-i goal.the-decreases-loop-i
+Start = lts.Start tie.the-claims reads.Pre reads.Post goal.the-invariant-loop-i goal.the-decreases-loop-i tie.handed_clauses
 
 abbrev In-loop-i : Type 0
-In-loop-i = lts.In-loop tie.the-claims reads.Pre reads.Post goal.the-invariant-loop-i goal.the-decreases-loop-i
+In-loop-i = lts.In-loop tie.the-claims reads.Pre reads.Post goal.the-invariant-loop-i goal.the-decreases-loop-i tie.handed_clauses
 
 abbrev After-serve_at-a : Type 0
-After-serve_at-a = lts.After-serve_at tie.the-claims reads.Pre reads.Post goal.the-invariant-loop-i goal.the-decreases-loop-i
+After-serve_at-a = lts.After-serve_at tie.the-claims reads.Pre reads.Post goal.the-invariant-loop-i goal.the-decreases-loop-i tie.handed_clauses
 
 abbrev After-charge_of-spent : Type 0
-After-charge_of-spent = lts.After-charge_of tie.the-claims reads.Pre reads.Post goal.the-invariant-loop-i goal.the-decreases-loop-i
+After-charge_of-spent = lts.After-charge_of tie.the-claims reads.Pre reads.Post goal.the-invariant-loop-i goal.the-decreases-loop-i tie.handed_clauses
 
 module _ (o : At-loop-i) where
   abbrev s : Start
@@ -36,45 +36,37 @@ module _ (o : At-loop-i) where
   t = lent s.args.limits s.args.left.now s.args.right.now s.args.work.now s.args.allowance
 
 -- the pair that is due
-next : (l : In-loop-i) → let o = l.before in Framed (s o).args.words.now (s o).args.stores.now o.loop-i.at o.loop-i.from
+next : (l : In-loop-i) → Framed (s l.before).args.words.now (s l.before).args.stores.now l.loop-i.at l.loop-i.from
 next l =
-    let o = l.before in
-    let a = (s o).args in
-    due a.words.now a.stores.now (t o) a.count a.answers.now a.scalars.now o.loop-i.invariant.0 l.loop-i-test.true
+    let a = (s l.before).args in
+    due a.words.now a.stores.now (t l.before) a.count a.answers.now a.scalars.now l.loop-i.invariant.0 l.loop-i-test.true
 
 -- its answer
-answered : (v : After-serve_at-a) → let o = v.before.before.before.before.before in
-    v.serve_at-a.result ≡ answer_to (t o) o.loop-i.spent (pair_at (s o).args.words.now (s o).args.stores.now o.loop-i.at o.loop-i.from)
+answered : (v : After-serve_at-a) → v.serve_at-a.result ≡ answer_to (t v.before.before.before.before.before) v.loop-i.spent (pair_at (s v.before.before.before.before.before).args.words.now (s v.before.before.before.before.before).args.stores.now v.loop-i.at v.loop-i.from)
 answered v =
-    let o = v.before.before.before.before.before in
-    let a = (s o).args in
-    let (l, (r, w)) = o.loop-i.invariant.1 in
-    v.serve_at-a.ensures.0 ∙ (λ i. answer_to (lent a.limits (l i) (r i) (w i) a.allowance) o.loop-i.spent (pair_at a.words.now a.stores.now o.loop-i.at o.loop-i.from))
+    let a = (s v.before.before.before.before.before).args in
+    let (l, (r, w)) = v.loop-i.invariant.1 in
+    v.serve_at-a.ensures.value ∙ (λ i. answer_to (lent a.limits (l i) (r i) (w i) a.allowance) v.loop-i.spent (pair_at a.words.now a.stores.now v.loop-i.at v.loop-i.from))
 
 pub loop-i-init : goal.loop-i-init
 loop-i-init c =
-    let s = c.before.before.before.before in
-    let a = s.args in
-    (along-none a.words.now a.stores.now (lent a.limits a.left.now a.right.now a.work.now a.allowance) a.count a.answers.now a.scalars.now s.requires.pairs, (refl, (refl, refl)))
+    let a = c.args in
+    (along-none a.words.now a.stores.now (lent a.limits a.left.now a.right.now a.work.now a.allowance) a.count a.answers.now a.scalars.now c.requires.pairs, (refl, (refl, refl)))
 
 pub serve_at-a-requires : goal.serve_at-a-requires
 serve_at-a-requires c =
-    let l = c.before.before.before.before in
-    let o = l.before in
-    let (x, (y, z)) = o.loop-i.invariant.1 in
-    let b = (s o).requires.blanks in record {
-      framed = next l;
-      within = o.loop-i.invariant.0.within;
+    let (x, (y, z)) = c.loop-i.invariant.1 in
+    let b = (s c.before.before.before.before.before).requires.blanks in record {
+      framed = next c.before.before.before.before;
+      within = c.loop-i.invariant.0.within;
       blanks = record { left = subst Blank (sym x) b.left; right = subst Blank (sym y) b.right; work = subst Blank (sym z) b.work };
     }
 
 pub put-requires : goal.put-requires
 put-requires c =
-    let l = c.before.before.before.before.before.before.before.before.before.before in
-    let o = l.before in
-    let g = o.loop-i.invariant.0 in
-    let p = (s o).requires in
-    (omega (arith, l.loop-i-test.true, p.answer_room, g.answers_long), omega (arith, l.loop-i-test.true, p.scalar_room, g.scalars_long))
+    let g = c.loop-i.invariant.0 in
+    let p = (s c.before.before.before.before.before.before.before.before.before.before.before).requires in
+    (omega (arith, c.loop-i-test.true, p.answer_room, g.answers_long), omega (arith, c.loop-i-test.true, p.scalar_room, g.scalars_long))
 
 -- from what is spent back to the answer, and to the loop
 asked : After-charge_of-spent → After-serve_at-a
@@ -88,13 +80,12 @@ unfolding asked turn
 overflow_add-spent c =
     let v = asked c.before in
     let l = turn v in
-    let o = l.before in
-    let a = (s o).args in
+    let a = (s l.before).args in
     omega (
       arith,
       c.charge_of-spent.ensures,
-      (s o).ranges.allowance,
-      within-next a.words.now a.stores.now (t o) a.count a.answers.now a.scalars.now o.loop-i.invariant.0 l.loop-i-test.true (answered v),
+      (s l.before).ranges.allowance,
+      within-next a.words.now a.stores.now (t l.before) a.count a.answers.now a.scalars.now l.loop-i.invariant.0 l.loop-i-test.true (answered v),
     )
 
 pub pair_bytes-from-requires : goal.pair_bytes-from-requires
@@ -124,16 +115,13 @@ loop-i-smaller c = let l = turn (asked c.before.before.before) in omega (arith, 
 pub loop-i-preserved : goal.loop-i-preserved
 unfolding asked turn
 loop-i-preserved c =
-    let g = c.before.before.before in
-    let p = g.before.before.before.before in
-    let v = asked g in
+    let v = asked c.before.before.before in
     let l = turn v in
-    let o = l.before in
-    let a = (s o).args in
-    let (x, (y, z)) = o.loop-i.invariant.1 in
-    let e = v.serve_at-a.ensures.1 in (
-      along-more a.words.now a.stores.now (t o) a.count a.answers.now a.scalars.now o.loop-i.invariant.0 l.loop-i-test.true (answered v) p.put.ensures.0 p.put.ensures.1
-          g.charge_of-spent.ensures c.pair_words-at.ensures c.pair_bytes-from.ensures,
+    let a = (s l.before).args in
+    let (x, (y, z)) = l.loop-i.invariant.1 in
+    let e = v.serve_at-a.ensures.left_unchanged in (
+      along-more a.words.now a.stores.now (t l.before) a.count a.answers.now a.scalars.now l.loop-i.invariant.0 l.loop-i-test.true (answered v) c.put.ensures.answers_after c.put.ensures.scalars_after
+          c.charge_of-spent.ensures c.pair_words-at.ensures c.pair_bytes-from.ensures,
       (e.0 ∙ x, (e.1.0 ∙ y, e.1.1 ∙ z)),
     )
 
@@ -154,13 +142,7 @@ shape_of-scalars c = c.loop-i.invariant.0.scalars_long
 
 pub returns : goal.returns
 returns c =
-    let o = c.before.before in
-    let a = (s o).args in
-    let g = o.loop-i.invariant.0 in
-    let h = c.loop-i-test.false in (
-      all_spent a.words.now a.stores.now (t o) a.count a.answers.now a.scalars.now g h,
-      (
-        all_answers a.words.now a.stores.now (t o) a.count a.answers.now a.scalars.now g h,
-        (all_scalars a.words.now a.stores.now (t o) a.count a.answers.now a.scalars.now g h, o.loop-i.invariant.1),
-      ),
-    )
+    let a = (s c.before.before).args in
+    let g = c.loop-i.invariant.0 in
+    let h = c.loop-i-test.false in
+    let all = c.loop-i.invariant.1 in record { value = all_spent a.words.now a.stores.now (t c.before.before) a.count a.answers.now a.scalars.now g h; answers_after = all_answers a.words.now a.stores.now (t c.before.before) a.count a.answers.now a.scalars.now g h; scalars_after = all_scalars a.words.now a.stores.now (t c.before.before) a.count a.answers.now a.scalars.now g h; left_unchanged = all.0; right_unchanged = all.1.0; work_unchanged = all.1.1 }

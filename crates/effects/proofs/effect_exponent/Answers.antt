@@ -16,13 +16,11 @@ use Rattle.effects.proofs.effect_exponent.Goals as goal
 abbrev After-sum_entry-a : Type 0
 After-sum_entry-a = lts.After-sum_entry tie.the-claims reads.Pre reads.Post goal.the-invariant-loop-i goal.the-decreases-loop-i
 
-summed : (a : After-sum_entry-a) → (let l = a.before.before in let s = l.args in a.sum_entry-a.result.value ≡ scalar_of (effect_at s.s.now s.at s.d l.loop-i.i))
+summed : (a : After-sum_entry-a) → (let s = a.args in a.sum_entry-a.result.value ≡ scalar_of (effect_at s.s.now s.at s.d a.loop-i.i))
 summed a =
-    let l = a.before.before in
-    let s = l.before in
-    let c = s.args in
-    answer-value (term c.s.now c.at c.d l.loop-i.i) c.d _ a.sum_entry-a.ensures
-    (all-at (c.d * c.d) (λ (k : ℕ). partials_fit c.d (term c.s.now c.at c.d k)) s.requires.1 l.loop-i.i a.loop-i-test.true)
+    let c = a.args in
+    answer-value (term c.s.now c.at c.d a.loop-i.i) c.d _ a.sum_entry-a.ensures
+    (all-at (c.d * c.d) (λ (k : ℕ). partials_fit c.d (term c.s.now c.at c.d k)) a.requires.1 a.loop-i.i a.loop-i-test.true)
 
 pub overflow_mul-n : goal.overflow_mul-n
 overflow_mul-n c = let q = dim_square c.requires.0.dim in omega arith
@@ -44,16 +42,13 @@ loop-i-smaller c = omega arith
 
 pub loop-i-preserved : goal.loop-i-preserved
 loop-i-preserved c =
-    let a = c.before.before in
-    let l = a.before.before in
-    let s = l.args in (
+    let s = c.args in (
       omega arith,
-      c.greatest-e.ensures ∙ (λ k. max (l.loop-i.invariant.1 k) (summed a k).e) ∙ ap (λ (n : ℕ). shared_exponent n (effect_at s.s.now s.at s.d)) (sym (add-one l.loop-i.i)),
+      c.greatest-e.ensures ∙ (λ k. max (c.loop-i.invariant.1 k) (summed c.before.before k).e) ∙ ap (λ (n : ℕ). shared_exponent n (effect_at s.s.now s.at s.d)) (sym (add-one c.loop-i.i)),
     )
 
 pub returns : goal.returns
 returns c =
-    let l = c.before in
-    let s = l.args in
-    let e : l.loop-i.i ≡ s.d * s.d = omega arith in
-    l.loop-i.invariant.1 ∙ ap (λ (n : ℕ). shared_exponent n (effect_at s.s.now s.at s.d)) e
+    let s = c.args in
+    let e : c.loop-i.i ≡ s.d * s.d = omega arith in
+    c.loop-i.invariant.1 ∙ ap (λ (n : ℕ). shared_exponent n (effect_at s.s.now s.at s.d)) e

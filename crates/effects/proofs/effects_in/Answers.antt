@@ -21,16 +21,16 @@ use Rattle.effects.proofs.effects_in.Tie as tie
 use Rattle.effects.proofs.effects_in.Goals as goal
 
 abbrev After-is_accepted : Type 0
-After-is_accepted = lts.After-is_accepted tie.the-claims reads.Pre reads.Post
+After-is_accepted = lts.After-is_accepted tie.the-claims reads.Pre reads.Post tie.handed_clauses
 
 abbrev Start : Type 0
-Start = lts.Start tie.the-claims reads.Pre reads.Post
+Start = lts.Start tie.the-claims reads.Pre reads.Post tie.handed_clauses
 
 abbrev Else-not-is_accepted : Type 0
-Else-not-is_accepted = lts.Else1 tie.the-claims reads.Pre reads.Post
+Else-not-is_accepted = lts.Else1 tie.the-claims reads.Pre reads.Post tie.handed_clauses
 
 abbrev After-stride-cols : Type 0
-After-stride-cols = lts.After-stride2 tie.the-claims reads.Pre reads.Post
+After-stride-cols = lts.After-stride2 tie.the-claims reads.Pre reads.Post tie.handed_clauses
 
 -- the channel, the result, and the answer on them
 module _ (k : After-is_accepted) where
@@ -86,23 +86,21 @@ module _ (c : After-stride-cols) where
 
 pub returns-then-not-is_accepted : goal.returns-then-not-is_accepted
 returns-then-not-is_accepted c =
-    let k = c.before in
-    (verdict_is k, ap (words_by k) (sym (sym (tested k) ∙ c.if-not-is_accepted.true)))
+    record { verdict = verdict_is c.before; words = ap (words_by c.before) (sym (sym (tested c.before) ∙ c.if-not-is_accepted.true)) }
 
 pub write_effects-requires : goal.write_effects-requires
-write_effects-requires c = let t = c.before in (able (left t), strides t)
+write_effects-requires c = (able (left c.before), strides c.before)
 
 pub returns : goal.returns
 returns c =
-    let w = c.before in
-    let t = w.before.before in
-    let e = left t in
+    let e = left c.before.before.before in
     let k = known e in
     let l = words k in
-    let d = (shape k).dim in (
-      verdict_is k,
-      w.write_effects.ensures ∙ (λ i. effects_words (strided_at (t.stride-rows.ensures i) (t.stride-cols.ensures i)) l (room k))
-          ∙ ap (λ (h : Shape). effects_words (strided_at (cond (not (textbook t)) h.dim 1) (cond (textbook t) h.dim 1)) l (room k)) (is e)
-          ∙ form-records (textbook t) l (dim_at l) (count_at l) _ (dim_of l (able e).form)
-          ∙ ap (words_by k) (sym (sym (tested k) ∙ e.if-not-is_accepted.false)),
-    )
+    let d = (shape k).dim in
+    record {
+      verdict = verdict_is k;
+      words = c.write_effects.ensures ∙ (λ i. effects_words (strided_at (c.stride-rows.ensures i) (c.stride-cols.ensures i)) l (room k))
+          ∙ ap (λ (h : Shape). effects_words (strided_at (cond (not (textbook c.before.before.before)) h.dim 1) (cond (textbook c.before.before.before) h.dim 1)) l (room k)) (is e)
+          ∙ form-records (textbook c.before.before.before) l (dim_at l) (count_at l) _ (dim_of l (able e).form)
+          ∙ ap (words_by k) (sym (sym (tested k) ∙ e.if-not-is_accepted.false));
+    }

@@ -56,8 +56,8 @@ module _ (a : After-sum_entry-a) where
   small : start.args.e ≤ max_exponent
   small = subst (λ (n : ℕ). n ≤ max_exponent) (sym start.requires.1.1) (exponent_small start.args.s.now start.args.at start.args.d start.requires.1.0)
 
-tested : (f : After-fits_over) → (let a = f.before.before in f.fits_over.result ≡ test (start a) (i a))
-tested f = let a = f.before.before in f.fits_over.ensures ∙ ap (λ (v : Scalar). within max_numerator (scaled (start a).args.e (value v))) (summed a)
+tested : (f : After-fits_over) → (f.fits_over.result ≡ test (start f.before.before) (i f.before.before))
+tested f = f.fits_over.ensures ∙ ap (λ (v : Scalar). within max_numerator (scaled (start f.before.before).args.e (value v))) (summed f.before.before)
 
 pub overflow_mul-n : goal.overflow_mul-n
 overflow_mul-n c = let q = dim_square c.requires.0.dim in omega arith
@@ -73,10 +73,8 @@ fits_over-requires c = (below c.before, small c.before)
 
 pub returns-then-not-fits_over : goal.returns-then-not-fits_over
 returns-then-not-fits_over c =
-    let f = c.before in
-    let a = f.before.before in
-    let s = start a in
-    sym (all_no (s.args.d * s.args.d) (i a) (test s) a.loop-i-test.true (sym (tested f) ∙ c.if-not-fits_over.true))
+    let s = start c.before.before.before in
+    sym (all_no (s.args.d * s.args.d) (i c.before.before.before) (test s) c.loop-i-test.true (sym (tested c.before) ∙ c.if-not-fits_over.true))
 
 pub overflow_add-i : goal.overflow_add-i
 overflow_add-i c = let q = dim_square (start c.before.before.before).requires.0.dim in omega arith
@@ -86,13 +84,9 @@ loop-i-smaller c = omega arith
 
 pub loop-i-preserved : goal.loop-i-preserved
 loop-i-preserved c =
-    let f = c.before in
-    let a = f.before.before in
-    (omega arith, all-step (i a) (test (start a)) a.loop-i.invariant.1 (sym (tested f) ∙ c.if-not-fits_over.false))
+    (omega arith, all-step (i c.before.before.before) (test (start c.before.before.before)) c.loop-i.invariant.1 (sym (tested c.before) ∙ c.if-not-fits_over.false))
 
 pub returns : goal.returns
 returns c =
-    let l = c.before in
-    let s = l.before in
-    let e : l.loop-i.i ≡ s.args.d * s.args.d = omega arith in
-    sym (ap (λ (m : ℕ). all_below m (test s)) (sym e) ∙ l.loop-i.invariant.1)
+    let e : c.loop-i.i ≡ c.args.d * c.args.d = omega arith in
+    sym (ap (λ (m : ℕ). all_below m (test c.before.before)) (sym e) ∙ c.loop-i.invariant.1)

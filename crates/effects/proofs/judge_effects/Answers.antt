@@ -93,15 +93,14 @@ room : (c : Else-res-n) → leb (effects_size (words (known c.before.before))) (
 room c = le-leb _ _ (subst (λ (n : ℕ). n ≤ length (start (known c.before.before)).args.res.now) (need_is c.before) c.if-res-n.false)
 
 sums : (c : After-sums_fit) → (let l = words (known c.before.before.before) in c.sums_fit.result ≡ sums_fit l (dim_at l) (count_at l))
-sums c = let e = c.before.before.before in c.sums_fit.ensures ∙ ap (λ (h : Shape). sums_fit (words (known e)) h.dim h.count) (is e)
+sums c = c.sums_fit.ensures ∙ ap (λ (h : Shape). sums_fit (words (known c.before.before.before)) h.dim h.count) (is c.before.before.before)
 
 pub returns-then-not-is_accepted : goal.returns-then-not-is_accepted
 returns-then-not-is_accepted c =
-    let k = c.before in
-    let s = (start k).args in
-    answered (words k) s.res.now (shape k) (form_verdict (words k))
-    (ap (λ (p : Bool). by (words k) p (leb (effects_size (words k)) (length s.res.now)) (sums_fit (words k) (dim_at (words k)) (count_at (words k)))) (sym (tested k) ∙ c.if-not-is_accepted.true))
-    k.judge-h.ensures
+    let s = (start c.before).args in
+    answered (words c.before) s.res.now (shape c.before) (form_verdict (words c.before))
+    (ap (λ (p : Bool). by (words c.before) p (leb (effects_size (words c.before)) (length s.res.now)) (sums_fit (words c.before) (dim_at (words c.before)) (count_at (words c.before)))) (sym (tested c.before) ∙ c.if-not-is_accepted.true))
+    c.judge-h.ensures
 
 pub record_size-size-requires : goal.record_size-size-requires
 record_size-size-requires c = let q = (dim c).small in omega arith
@@ -114,30 +113,22 @@ overflow_add-n c = let q = inside c in omega arith
 
 pub returns-then-res-n : goal.returns-then-res-n
 returns-then-res-n c =
-    let r = c.before.before in
-    let e = r.before in
-    let k = known e in
+    let k = known c.before.before.before in
     let s = (start k).args in
-    let short : leb (effects_size (words k)) (length s.res.now) ≡ false = lt-leb _ _ (subst (λ (n : ℕ). length s.res.now < n) (need_is r) c.if-res-n.true) in
-    answered (words k) s.res.now _ ShortBuffer (λ i. by (words k) (passed e i) (short i) (sums_fit (words k) (dim_at (words k)) (count_at (words k)))) c.no_shape.ensures
+    let short : leb (effects_size (words k)) (length s.res.now) ≡ false = lt-leb _ _ (subst (λ (n : ℕ). length s.res.now < n) (need_is c.before.before) c.if-res-n.true) in
+    answered (words k) s.res.now _ ShortBuffer (λ i. by (words k) (passed c.before.before.before i) (short i) (sums_fit (words k) (dim_at (words k)) (count_at (words k)))) c.no_shape.ensures
 
 pub sums_fit-requires : goal.sums_fit-requires
 sums_fit-requires c = records c.before.before
 
 pub returns-then-not-sums_fit : goal.returns-then-not-sums_fit
 returns-then-not-sums_fit c =
-    let f = c.before.before in
-    let t = f.before in
-    let e = t.before.before in
-    let k = known e in
+    let k = known c.before.before.before.before.before in
     let s = (start k).args in
-    answered (words k) s.res.now _ TooLarge (λ i. by (words k) (passed e i) (room t i) ((sym (sums f) ∙ c.if-not-sums_fit.true) i)) c.no_shape-then-not-sums_fit.ensures
+    answered (words k) s.res.now _ TooLarge (λ i. by (words k) (passed c.before.before.before.before.before i) (room c.before.before.before i) ((sym (sums c.before.before) ∙ c.if-not-sums_fit.true) i)) c.no_shape-then-not-sums_fit.ensures
 
 pub returns : goal.returns
 returns c =
-    let f = c.before in
-    let t = f.before in
-    let e = t.before.before in
-    let k = known e in
+    let k = known c.before.before.before.before in
     let s = (start k).args in
-    answered (words k) s.res.now (shape k) Accepted (λ i. by (words k) (passed e i) (room t i) ((sym (sums f) ∙ c.if-not-sums_fit.false) i)) (is e)
+    answered (words k) s.res.now (shape k) Accepted (λ i. by (words k) (passed c.before.before.before.before i) (room c.before.before i) ((sym (sums c.before) ∙ c.if-not-sums_fit.false) i)) (is c.before.before.before.before)

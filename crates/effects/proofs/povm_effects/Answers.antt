@@ -2,4 +2,4 @@
 use Rattle.effects.proofs.povm_effects.Goals as goal
 
 pub returns : goal.returns
-returns c = (c.effects_in.ensures.0, c.effects_in.ensures.1)
+returns c = record { verdict = c.effects_in.ensures.verdict; words = c.effects_in.ensures.words }

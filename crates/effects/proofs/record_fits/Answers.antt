@@ -33,6 +33,5 @@ entries_fit-requires c = (c.requires, (terms c.before, c.effect_exponent-e.ensur
 
 pub returns : goal.returns
 returns c =
-    let e = c.before in
-    let s = e.args in
-    c.entries_fit.ensures ∙ sym (fits_by s.s.now s.at s.d (terms e.before) _ e.effect_exponent-e.ensures)
+    let s = c.args in
+    c.entries_fit.ensures ∙ sym (fits_by s.s.now s.at s.d (terms c.before.before) _ c.effect_exponent-e.ensures)

@@ -26,23 +26,22 @@ abbrev After-record_size : Type 0
 After-record_size = lts.After-record_size2 tie.the-claims reads.Pre reads.Post
 
 starts : (c : Else-z-eq0) → T (non_neg c.args.z) × (header_size ≤ nat_abs c.args.z)
-starts c = let s = c.before in link_start s.args.d s.args.z s.ranges.z s.requires c.if-z-eq0.false
+starts c = link_start c.args.d c.args.z c.ranges.z c.requires c.if-z-eq0.false
 
 -- the matching index is no greater
 less : (c : After-record_size) → header_size + (nat_abs (to_z w64 (of_z w64 c.args.z)) - header_size) / c.record_size-size.result * c.record_size.result < 2 ^ 63
 less c =
-    let s = c.before.before.before in
-    let d = s.args.d in
-    let bound : nat_abs s.args.z < 2 ^ 63 = small s.args.z s.ranges.z (starts c.before.before).0 in
-    subst (λ (n : ℕ). n < 2 ^ 63) (sym (λ i. header_size + (nat_abs (to_z-of_z s.ranges.z i) - header_size) / c.record_size-size.ensures i * c.record_size.ensures i))
-    (lt_of_le_of_lt (link_less (nat_abs s.args.z) (record_size (channels d)) (record_size (effects d)) (record_less s.requires.dim) (starts c.before.before).1) bound)
+    let d = c.args.d in
+    let bound : nat_abs c.args.z < 2 ^ 63 = small c.args.z c.ranges.z (starts c.before.before).0 in
+    subst (λ (n : ℕ). n < 2 ^ 63) (sym (λ i. header_size + (nat_abs (to_z-of_z c.ranges.z i) - header_size) / c.record_size-size.ensures i * c.record_size.ensures i))
+    (lt_of_le_of_lt (link_less (nat_abs c.args.z) (record_size (channels d)) (record_size (effects d)) (record_less c.requires.dim) (starts c.before.before).1) bound)
   where
     small : (z : ℤ) → SFits w64 z → T (non_neg z) → nat_abs z < 2 ^ 63
     small (pos a) f t = f.sfits
     small (negsuc a) f t = absurd t
 
 pub returns-then-z-eq0 : goal.returns-then-z-eq0
-returns-then-z-eq0 c = let s = c.before in sym (ap (relink (channels s.args.d) (effects s.args.d)) (zero_word s.args.z s.ranges.z c.if-z-eq0.true))
+returns-then-z-eq0 c = sym (ap (relink (channels c.args.d) (effects c.args.d)) (zero_word c.args.z c.ranges.z c.if-z-eq0.true))
 
 pub overflow_mul-d : goal.overflow_mul-d
 overflow_mul-d c = let q = dim_square c.requires.dim in omega arith
@@ -51,10 +50,10 @@ pub record_size-size-requires : goal.record_size-size-requires
 record_size-size-requires c = dim_square c.requires.dim
 
 pub overflow_cast-place : goal.overflow_cast-place
-overflow_cast-place c = let s = c.before.before in let k = starts c.before in read s.ranges.z (Casts w64) (k.0, fits-abs s.args.z s.ranges.z k.0)
+overflow_cast-place c = let k = starts c.before in read c.ranges.z (Casts w64) (k.0, fits-abs c.args.z c.ranges.z k.0)
 
 pub overflow_sub-place : goal.overflow_sub-place
-overflow_sub-place c = let s = c.before.before in read s.ranges.z (λ (z : ℤ). header_size ≤ nat_abs z) (starts c.before).1
+overflow_sub-place c = read c.ranges.z (λ (z : ℤ). header_size ≤ nat_abs z) (starts c.before).1
 
 pub overflow_mul-to : goal.overflow_mul-to
 overflow_mul-to c = let q = less c in omega arith
@@ -67,7 +66,6 @@ overflow_cast-result c = record { sfits = less c }
 
 pub returns : goal.returns
 returns c =
-    let s = c.before.before.before in
     to_z_pos w64 (less c)
-    ∙ (λ i. pos (header_size + (nat_abs (to_z-of_z s.ranges.z i) - header_size) / c.record_size-size.ensures i * c.record_size.ensures i))
-    ∙ sym (relink-at s.args.d s.args.z (starts c.before.before).1)
+    ∙ (λ i. pos (header_size + (nat_abs (to_z-of_z c.ranges.z i) - header_size) / c.record_size-size.ensures i * c.record_size.ensures i))
+    ∙ sym (relink-at c.args.d c.args.z (starts c.before.before).1)

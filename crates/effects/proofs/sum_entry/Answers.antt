@@ -47,16 +47,14 @@ module _ (c : After-term_place-k) where
       let p = place_below start.args.d _ _ c.loop-o.o (row start) (col start) c.loop-o-test.true in
       subst (λ (k : ℕ). k < side start.args.d * side start.args.d) (sym c.term_place-k.ensures) p
 
-read : (a : After-add-a) → (let n = a.before.before.before in a.read_entry-x.result ≡ scalar_of (terms n n.loop-o.o))
+read : (a : After-add-a) → (a.read_entry-x.result ≡ scalar_of (terms a.before.before.before a.loop-o.o))
 read a =
-    let t = a.before.before in
-    a.read_entry-x.ensures ∙ ap (λ (k : ℕ). scalar_of (entry_at (channels (start t).args.d) (start t).args.s.now (start t).args.at k)) t.term_place-k.ensures
+    a.read_entry-x.ensures ∙ ap (λ (k : ℕ). scalar_of (entry_at (channels (start a.before.before).args.d) (start a.before.before).args.s.now (start a.before.before).args.at k)) a.term_place-k.ensures
 
-formed : (a : After-add-a) → (let n = a.before.before.before in well_formed (terms n n.loop-o.o) ≡ true)
+formed : (a : After-add-a) → (well_formed (terms a.before.before.before a.loop-o.o) ≡ true)
 formed a =
-    let t = a.before.before in
-    subst (λ (k : ℕ). well_formed (entry_at (channels (start t).args.d) (start t).args.s.now (start t).args.at k) ≡ true) t.term_place-k.ensures
-    (entry-formed (start t).args.s.now (start t).args.at (start t).args.d (start t).requires.0 t.term_place-k.result (below t))
+    subst (λ (k : ℕ). well_formed (entry_at (channels (start a.before.before).args.d) (start a.before.before).args.s.now (start a.before.before).args.at k) ≡ true) a.term_place-k.ensures
+    (entry-formed (start a.before.before).args.s.now (start a.before.before).args.at (start a.before.before).args.d (start a.before.before).requires.0 a.term_place-k.result (below a.before.before))
 
 pub nonzero_div-r : goal.nonzero_div-r
 nonzero_div-r c = let q = c.requires.0.dim.some in omega arith
@@ -68,7 +66,7 @@ pub loop-o-init : goal.loop-o-init
 loop-o-init c = record { count = omega arith; is = refl; fit = refl }
 
 pub term_place-k-requires : goal.term_place-k-requires
-term_place-k-requires c = let s = c.before.before in (s.requires.0.dim, (row s, (col s, c.loop-o-test.true)))
+term_place-k-requires c = (c.requires.0.dim, (row c.before.before, (col c.before.before, c.loop-o-test.true)))
 
 pub read_entry-x-requires : goal.read_entry-x-requires
 read_entry-x-requires c = let b = below c in entries_in (start c).args.s.now (start c).args.at (start c).args.d (start c).requires.0 (c.term_place-k.result + 1) (omega arith)
@@ -84,13 +82,10 @@ refused-requires c = tt
 
 pub returns-then-not-is_accepted : goal.returns-then-not-is_accepted
 returns-then-not-is_accepted c =
-    let v = c.before.before in
-    let a = v.before in
-    let n = a.before.before.before in
-    let s = n.args in
+    let s = c.args in
     c.refused.ensures
     ∙ ap (λ (b : Bool). cond b (accepted (effect_at s.s.now s.at s.d s.i)) (refused_with TooLarge))
-    (sym (stops (terms n) s.d n.loop-o.o n.loop-o.acc n.loop-o.invariant _ _ n.loop-o-test.true (formed a) (read a) a.add-a.ensures (sym v.is_accepted.ensures ∙ c.if-not-is_accepted.true)))
+    (sym (stops (terms c.before.before.before.before.before.before) s.d c.loop-o.o c.loop-o.acc c.loop-o.invariant _ _ c.loop-o-test.true (formed c.before.before.before) (read c.before.before.before) c.add-a.ensures (sym c.is_accepted.ensures ∙ c.if-not-is_accepted.true)))
 
 pub overflow_add-o : goal.overflow_add-o
 overflow_add-o c = omega arith
@@ -100,16 +95,11 @@ loop-o-smaller c = omega arith
 
 pub loop-o-preserved : goal.loop-o-preserved
 loop-o-preserved c =
-    let e = c.before in
-    let v = e.before in
-    let a = v.before in
-    let n = a.before.before.before in
-    let s = n.args in
-    goes_on (terms n) s.d n.loop-o.o n.loop-o.acc n.loop-o.invariant _ _ n.loop-o-test.true (formed a) (read a) a.add-a.ensures (sym v.is_accepted.ensures ∙ e.if-not-is_accepted.false)
+    let s = c.args in
+    goes_on (terms c.before.before.before.before.before.before) s.d c.loop-o.o c.loop-o.acc c.loop-o.invariant _ _ c.loop-o-test.true (formed c.before.before.before) (read c.before.before.before) c.add-a.ensures (sym c.is_accepted.ensures ∙ c.if-not-is_accepted.false)
 
 pub returns : goal.returns
 returns c =
-    let l = c.before in
-    let s = l.args in
-    let d = done (term s.s.now s.at s.d s.i) s.d l.loop-o.o l.loop-o.acc l.loop-o.invariant c.loop-o-test.false in
+    let s = c.args in
+    let d = done (term s.s.now s.at s.d s.i) s.d c.loop-o.o c.loop-o.acc c.loop-o.invariant c.loop-o-test.false in
     ap accepted_as d.1 ∙ ap (λ (b : Bool). cond b (accepted (effect_at s.s.now s.at s.d s.i)) (refused_with TooLarge)) (sym d.0)

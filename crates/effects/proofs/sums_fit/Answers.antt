@@ -57,10 +57,8 @@ record_fits-requires c = let s = start c in subst (λ (a : ℕ). Readable s.args
 
 pub returns-then-not-record_fits : goal.returns-then-not-record_fits
 returns-then-not-record_fits c =
-    let f = c.before in
-    let n = f.before in
-    let s = (start n).args in
-    sym (all_no s.n n.loop-j.j (λ (j : ℕ). record_fits s.s.now (record_at (channels s.d) j) s.d) n.loop-j-test.true (sym (tested f) ∙ c.if-not-record_fits.true))
+    let s = (start c.before.before).args in
+    sym (all_no s.n c.loop-j.j (λ (j : ℕ). record_fits s.s.now (record_at (channels s.d) j) s.d) c.loop-j-test.true (sym (tested c.before) ∙ c.if-not-record_fits.true))
 
 pub overflow_add-j-in-loop-j : goal.overflow_add-j-in-loop-j
 overflow_add-j-in-loop-j c = omega arith
@@ -70,13 +68,10 @@ loop-j-smaller c = omega arith
 
 pub loop-j-preserved : goal.loop-j-preserved
 loop-j-preserved c =
-    let f = c.before in
-    let l = f.before.before in
-    (omega arith, all-step l.loop-j.j _ l.loop-j.invariant.1 (sym (tested f) ∙ c.if-not-record_fits.false))
+    (omega arith, all-step c.loop-j.j _ c.loop-j.invariant.1 (sym (tested c.before) ∙ c.if-not-record_fits.false))
 
 pub returns : goal.returns
 returns c =
-    let l = c.before in
-    let s = l.args in
-    let e : l.loop-j.j ≡ s.n = omega arith in
-    sym (ap (sums_fit s.s.now s.d) (sym e) ∙ l.loop-j.invariant.1)
+    let s = c.args in
+    let e : c.loop-j.j ≡ s.n = omega arith in
+    sym (ap (sums_fit s.s.now s.d) (sym e) ∙ c.loop-j.invariant.1)

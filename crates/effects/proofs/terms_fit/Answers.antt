@@ -16,8 +16,8 @@ use Rattle.effects.proofs.terms_fit.Goals as goal
 abbrev After-is_accepted : Type 0
 After-is_accepted = lts.After-is_accepted tie.the-claims reads.Pre reads.Post goal.the-invariant-loop-i goal.the-decreases-loop-i
 
-tested : (v : After-is_accepted) → (let l = v.before.before.before in let s = l.args in v.is_accepted.result ≡ partials_fit s.d (term s.s.now s.at s.d l.loop-i.i))
-tested v = let l = v.before.before.before in let s = l.args in v.is_accepted.ensures ∙ answer_tests (term s.s.now s.at s.d l.loop-i.i) s.d _ v.sum_entry-a.ensures
+tested : (v : After-is_accepted) → (let s = v.args in v.is_accepted.result ≡ partials_fit s.d (term s.s.now s.at s.d v.loop-i.i))
+tested v = let s = v.args in v.is_accepted.ensures ∙ answer_tests (term s.s.now s.at s.d v.loop-i.i) s.d _ v.sum_entry-a.ensures
 
 pub overflow_mul-n : goal.overflow_mul-n
 overflow_mul-n c = let q = dim_square c.requires.dim in omega arith
@@ -33,10 +33,8 @@ is_accepted-requires c = tt
 
 pub returns-then-not-is_accepted : goal.returns-then-not-is_accepted
 returns-then-not-is_accepted c =
-    let v = c.before in
-    let l = v.before.before.before in
-    let s = l.args in
-    sym (all_no (s.d * s.d) l.loop-i.i (λ (k : ℕ). partials_fit s.d (term s.s.now s.at s.d k)) v.loop-i-test.true (sym (tested v) ∙ c.if-not-is_accepted.true))
+    let s = c.args in
+    sym (all_no (s.d * s.d) c.loop-i.i (λ (k : ℕ). partials_fit s.d (term s.s.now s.at s.d k)) c.loop-i-test.true (sym (tested c.before) ∙ c.if-not-is_accepted.true))
 
 pub overflow_add-i : goal.overflow_add-i
 overflow_add-i c = let q = dim_square c.requires.dim in omega arith
@@ -46,13 +44,10 @@ loop-i-smaller c = omega arith
 
 pub loop-i-preserved : goal.loop-i-preserved
 loop-i-preserved c =
-    let v = c.before in
-    let l = v.before.before.before in
-    (omega arith, all-step l.loop-i.i _ l.loop-i.invariant.1 (sym (tested v) ∙ c.if-not-is_accepted.false))
+    (omega arith, all-step c.loop-i.i _ c.loop-i.invariant.1 (sym (tested c.before) ∙ c.if-not-is_accepted.false))
 
 pub returns : goal.returns
 returns c =
-    let l = c.before in
-    let s = l.args in
-    let e : l.loop-i.i ≡ s.d * s.d = omega arith in
-    sym (ap (λ (m : ℕ). all_below m (λ (k : ℕ). partials_fit s.d (term s.s.now s.at s.d k))) (sym e) ∙ l.loop-i.invariant.1)
+    let s = c.args in
+    let e : c.loop-i.i ≡ s.d * s.d = omega arith in
+    sym (ap (λ (m : ℕ). all_below m (λ (k : ℕ). partials_fit s.d (term s.s.now s.at s.d k))) (sym e) ∙ c.loop-i.invariant.1)

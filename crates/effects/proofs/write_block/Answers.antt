@@ -49,10 +49,8 @@ shape_of-res c = ap length c.write_entries.ensures ∙ length-blocks 4 _ _ _ _ �
 
 pub returns : goal.returns
 returns c =
-    let w = c.before in
-    let e = w.before.before in
-    let s = (start e).args in
-    append_block s.res.now (pos e.effect_exponent-e.result ∷ []) (block_words (effects s.d) (numerators e)) s.out 1 refl
-    (ap (λ (z : ℤ). set s.res.now s.out z) (to_z_pos w64 (small e)))
-    (w.write_entries.ensures ∙ numbers-block s.d (numerators e) _ (s.out + 1))
-    ∙ ap (sets s.res.now s.out) (strided-words s.s.now s.at s.d s.rows s.cols _ (start e).requires.0.strides e.effect_exponent-e.ensures)
+    let s = (start c.before.before.before).args in
+    append_block s.res.now (pos c.effect_exponent-e.result ∷ []) (block_words (effects s.d) (numerators c.before.before.before)) s.out 1 refl
+    (ap (λ (z : ℤ). set s.res.now s.out z) (to_z_pos w64 (small c.before.before.before)))
+    (c.write_entries.ensures ∙ numbers-block s.d (numerators c.before.before.before) _ (s.out + 1))
+    ∙ ap (sets s.res.now s.out) (strided-words s.s.now s.at s.d s.rows s.cols _ (start c.before.before.before).requires.0.strides c.effect_exponent-e.ensures)

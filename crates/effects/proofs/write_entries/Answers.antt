@@ -40,9 +40,8 @@ terms s = terms_fit_lem s.args.s.now s.args.at s.args.d s.requires.0.fit
 -- the entry that is read is one of the effect's
 below : (c : After-strided-k) → (let s = c.args in c.strided-k.result < s.d * s.d)
 below c =
-    let s = c.before.before.before in
-    subst (λ (k : ℕ). k < s.args.d * s.args.d) (sym c.strided-k.ensures)
-    (strided_below s.args.d s.args.rows s.args.cols c.loop-i.i s.requires.0.strides c.loop-i-test.true)
+    subst (λ (k : ℕ). k < c.args.d * c.args.d) (sym c.strided-k.ensures)
+    (strided_below c.args.d c.args.rows c.args.cols c.loop-i.i c.requires.0.strides c.loop-i-test.true)
 
 module _ (a : After-sum_entry-a) where
   abbrev start : Start
@@ -97,24 +96,20 @@ overflow_add-out c = let q = room c.before in omega arith
 
 pub write_scaled-requires : goal.write_scaled-requires
 write_scaled-requires c =
-    let a = c.before in
-    let q = room a in
-    let e = long a.loop-i.invariant in
-    (omega arith, (lower a, (small a, fits a)))
+    let q = room c.before.before in
+    let e = long c.loop-i.invariant in
+    (omega arith, (lower c.before.before, (small c.before.before, fits c.before.before)))
 
 pub overflow_add-i : goal.overflow_add-i
-overflow_add-i c = let q = dim_square (start c.before.before.before).requires.0.block.dim in omega arith
+overflow_add-i c = let q = dim_square (start c.before.before.before.before).requires.0.block.dim in omega arith
 
 pub loop-i-smaller : goal.loop-i-smaller
 loop-i-smaller c = omega arith
 
 pub loop-i-preserved : goal.loop-i-preserved
 loop-i-preserved c =
-    let w = c.before in
-    let a = w.before.before in
-    let n = a.before.before in
-    again n.loop-i.invariant n.loop-i-test.true w.write_scaled.ensures
-    (ap (λ (v : Scalar). list_of (scaled (start a).args.e (value v))) (summed a) ∙ ap (λ (j : ℕ). list_of (scaled (start a).args.e (effect (start a) j))) a.strided-k.ensures)
+    again c.loop-i.invariant c.loop-i-test.true c.write_scaled.ensures
+    (ap (λ (v : Scalar). list_of (scaled (start c.before.before.before.before).args.e (value v))) (summed c.before.before.before.before) ∙ ap (λ (j : ℕ). list_of (scaled (start c.before.before.before.before).args.e (effect (start c.before.before.before.before) j))) c.strided-k.ensures)
 
 pub shape_of-res : goal.shape_of-res
 shape_of-res c = long c.loop-i.invariant

@@ -15,7 +15,7 @@ use Rattle.effects.proofs.write_record.Goals as goal
 
 pub write_block-requires : goal.write_block-requires
 write_block-requires c =
-    let e : length c.put_three.new.0 ≡ length c.args.res.now = ap length c.put_three.ensures ∙ simp length-set in
+    let e : length c.put_three.new.res ≡ length c.args.res.now = ap length c.put_three.ensures ∙ simp length-set in
     (c.requires.0, omega arith)
 
 pub returns : goal.returns

@@ -41,14 +41,14 @@ module _ (c : In-loop-j) where
   inside : header_size + j * c.record_size-from.result ≤ length start.args.s.now
   inside = subst (λ (a : ℕ). a ≤ length start.args.s.now) (sym at) (let q = (start.requires.0.each j c.loop-j-test.true).inside in omega arith)
 
-  fits : record_at (effects start.args.d) j + record_size (effects start.args.d) ≤ length c.loop-j.result
+  fits : record_at (effects start.args.d) j + record_size (effects start.args.d) ≤ length c.loop-j.res
   fits = by (record_size (effects start.args.d)) start.requires.1.1.1 (long c.loop-j.invariant)
     where
-      by : (r : ℕ) → header_size + start.args.n * r ≤ length start.args.res.now → length c.loop-j.result ≡ length start.args.res.now → header_size + j * r + r ≤ length c.loop-j.result
+      by : (r : ℕ) → header_size + start.args.n * r ≤ length start.args.res.now → length c.loop-j.res ≡ length start.args.res.now → header_size + j * r + r ≤ length c.loop-j.res
       by r p e = let q = block_in_lem c.loop-j-test.true r in omega arith
 
-  room_for : header_size + j * c.record_size-to.result + record_size (effects start.args.d) ≤ length c.loop-j.result
-  room_for = subst (λ (a : ℕ). a + record_size (effects start.args.d) ≤ length c.loop-j.result) (sym to) fits
+  room_for : header_size + j * c.record_size-to.result + record_size (effects start.args.d) ≤ length c.loop-j.res
+  room_for = subst (λ (a : ℕ). a + record_size (effects start.args.d) ≤ length c.loop-j.res) (sym to) fits
 
   room : header_size + j * c.record_size-to.result ≤ length start.args.res.now
   room = let e = long c.loop-j.invariant in omega arith
@@ -79,16 +79,15 @@ overflow_add-j-in-loop-j c = let q = room c.before in omega arith
 
 pub write_record-requires : goal.write_record-requires
 write_record-requires c =
-    let n = c.before in
-    let s = start n in
-    let j = n.loop-j.j in (
+    let s = start c.before in
+    let j = c.loop-j.j in (
       record {
-        block = subst (λ (a : ℕ). Readable s.args.s.now a s.args.d) (sym (at n)) (s.requires.0.each j n.loop-j-test.true);
+        block = subst (λ (a : ℕ). Readable s.args.s.now a s.args.d) (sym (at c.before)) (s.requires.0.each j c.loop-j-test.true);
         strides = s.requires.1.0;
-        fit = ap (λ (a : ℕ). record_fits s.args.s.now a s.args.d) (at n)
-            ∙ all-at s.args.n (λ (k : ℕ). record_fits s.args.s.now (record_at (channels s.args.d) k) s.args.d) s.requires.1.1.0 j n.loop-j-test.true;
+        fit = ap (λ (a : ℕ). record_fits s.args.s.now a s.args.d) (at c.before)
+            ∙ all-at s.args.n (λ (k : ℕ). record_fits s.args.s.now (record_at (channels s.args.d) k) s.args.d) s.requires.1.1.0 j c.loop-j-test.true;
       },
-      room_for n,
+      room_for c.before,
     )
 
 pub overflow_add-j-in-loop-j-2 : goal.overflow_add-j-in-loop-j-2
@@ -99,12 +98,10 @@ loop-j-smaller c = omega arith
 
 pub loop-j-preserved : goal.loop-j-preserved
 loop-j-preserved c =
-    let w = c.before in
-    let n = w.before.before in
-    let s = (start n).args in
+    let s = (start c.before.before.before).args in
     let recorded = effect_record (strided_at s.rows s.cols) s.s.now s.d in
-    let from = header_size + j n * n.record_size-from.result in
-    again n.loop-j.invariant n.loop-j-test.true (w.write_record.ensures ∙ ap (λ (a : ℕ). sets n.loop-j.result a (recorded from)) (to n)) (ap recorded (at n))
+    let from = header_size + j c.before.before.before * c.record_size-from.result in
+    again c.loop-j.invariant c.loop-j-test.true (c.write_record.ensures ∙ ap (λ (a : ℕ). sets c.loop-j.res a (recorded from)) (to c.before.before.before)) (ap recorded (at c.before.before.before))
 
 pub shape_of-res : goal.shape_of-res
 shape_of-res c = long c.loop-j.invariant

@@ -85,9 +85,8 @@ module _ (c : After-has_room) where
 
 pub returns-then-not-is_accepted : goal.returns-then-not-is_accepted
 returns-then-not-is_accepted c =
-    let h = c.before in
-    let bad = sym (tested h) ∙ c.if-not-is_accepted.true in
-    h.judge_form-h.ensures ∙ ap (λ (b : Bool). shape_by (verdict_by b false) (p h)) bad ∙ sym (ap (λ (b : Bool). shape_by (read_by b (room h)) (p h)) bad)
+    let bad = sym (tested c.before) ∙ c.if-not-is_accepted.true in
+    c.judge_form-h.ensures ∙ ap (λ (b : Bool). shape_by (verdict_by b false) (p c.before)) bad ∙ sym (ap (λ (b : Bool). shape_by (read_by b (room c.before)) (p c.before)) bad)
 
 pub overflow_mul-d : goal.overflow_mul-d
 overflow_mul-d c = let r = width c in omega arith
@@ -102,7 +101,7 @@ has_room-requires c = let a = k c.before in subst (λ (n : ℕ). 1 ≤ n) (sym c
     by b = omega arith
 
 pub returns-then-not-has_room : goal.returns-then-not-has_room
-returns-then-not-has_room c = let r = c.before.before in c.no_shape.ensures ∙ ap (λ (v : Verdict). shape_by v (p (k (e r)))) (verdict r false (c.if-not-has_room.true))
+returns-then-not-has_room c = c.no_shape.ensures ∙ ap (λ (v : Verdict). shape_by v (p (k (e c.before.before)))) (verdict c.before.before false (c.if-not-has_room.true))
 
 pub returns : goal.returns
-returns c = let r = c.before in is (e r) ∙ ap (λ (v : Verdict). shape_by v (p (k (e r)))) (verdict r true (c.if-not-has_room.false))
+returns c = is (e c.before) ∙ ap (λ (v : Verdict). shape_by v (p (k (e c.before)))) (verdict c.before true (c.if-not-has_room.false))

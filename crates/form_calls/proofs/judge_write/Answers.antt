@@ -123,10 +123,9 @@ refused-block l false i = refl
 
 pub returns-then-not-is_accepted : goal.returns-then-not-is_accepted
 returns-then-not-is_accepted c =
-    let h = c.before in
-    let no = sym h.is_accepted.ensures ∙ c.if-not-is_accepted.true in
-    shape_no (l h) (form_verdict (l h)) (shape h) h.judge-h.ensures no
-    ∙ refused-first (l h) (well_formed (l h)) (has_zero_block (l h)) (whole h) (room h) (f h).half (fault (f h) (l h)) (sym (shape_test (l h) (form_verdict (l h)) (shape h) h.judge-h.ensures) ∙ no)
+    let no = sym c.is_accepted.ensures ∙ c.if-not-is_accepted.true in
+    shape_no (l c.before) (form_verdict (l c.before)) (shape c.before) c.judge-h.ensures no
+    ∙ refused-first (l c.before) (well_formed (l c.before)) (has_zero_block (l c.before)) (whole c.before) (room c.before) (f c.before).half (fault (f c.before) (l c.before)) (sym (shape_test (l c.before) (form_verdict (l c.before)) (shape c.before) c.judge-h.ensures) ∙ no)
 
 pub overflow_mul-w : goal.overflow_mul-w
 overflow_mul-w c = let r = (chained c).width in omega arith
@@ -136,13 +135,10 @@ first_fault-i-requires c = chained c
 
 pub returns-then-i-n : goal.returns-then-i-n
 returns-then-i-n c =
-    let r = c.before in
-    let t = r.before in
-    let a = t.before in
-    let h = k (e a) in
+    let h = k (e c.before.before.before) in
     let i = fault (f h) (l h) in
-    c.no_shape.ensures ∙ ap no_shape (r.refusal.ensures ∙ ap (refusal (f h)) (found a)) ∙ refused-block (l h) (f h).half i
-    ∙ ap (answer h) (sym (known (e a) ∙ ap (λ (b : Bool). cond b (cond (room h) Accepted ShortBuffer) (refusal (f h) i)) (ne_eqb i (count_at (l h)) (λ u. t.if-i-n.true (found a ∙ u ∙ sym (counts a))))))
+    c.no_shape.ensures ∙ ap no_shape (c.refusal.ensures ∙ ap (refusal (f h)) (found c.before.before.before)) ∙ refused-block (l h) (f h).half i
+    ∙ ap (answer h) (sym (known (e c.before.before.before) ∙ ap (λ (b : Bool). cond b (cond (room h) Accepted ShortBuffer) (refusal (f h) i)) (ne_eqb i (count_at (l h)) (λ u. c.if-i-n.true (found c.before.before.before ∙ u ∙ sym (counts c.before.before.before))))))
 
 pub record_size-requires : goal.record_size-requires
 record_size-requires c = (chained c.before.before).width
@@ -154,7 +150,7 @@ has_room-requires c = let a = k (e c.before.before) in subst (λ (n : ℕ). 1 �
     by b = omega arith
 
 pub returns-then-not-has_room : goal.returns-then-not-has_room
-returns-then-not-has_room c = let r = c.before.before in c.no_shape-then-not-has_room.ensures ∙ ap (answer (h r)) (verdict r false (c.if-not-has_room.true))
+returns-then-not-has_room c = c.no_shape-then-not-has_room.ensures ∙ ap (answer (h c.before.before)) (verdict c.before.before false (c.if-not-has_room.true))
 
 pub returns : goal.returns
-returns c = let r = c.before in is (e (g r)) ∙ ap (answer (h r)) (verdict r true (c.if-not-has_room.false))
+returns c = is (e (g c.before)) ∙ ap (answer (h c.before)) (verdict c.before true (c.if-not-has_room.false))

@@ -20,13 +20,13 @@ use Rattle.form_calls.proofs.read_form.Tie as tie
 use Rattle.form_calls.proofs.read_form.Goals as goal
 
 abbrev After-is_accepted : Type 0
-After-is_accepted = lts.After-is_accepted tie.the-claims reads.Pre reads.Post
+After-is_accepted = lts.After-is_accepted tie.the-claims reads.Pre reads.Post tie.handed_clauses
 
 abbrev Start : Type 0
-Start = lts.Start tie.the-claims reads.Pre reads.Post
+Start = lts.Start tie.the-claims reads.Pre reads.Post tie.handed_clauses
 
 abbrev Else-not-is_accepted : Type 0
-Else-not-is_accepted = lts.Else1 tie.the-claims reads.Pre reads.Post
+Else-not-is_accepted = lts.Else1 tie.the-claims reads.Pre reads.Post tie.handed_clauses
 
 module _ (k : After-is_accepted) where
   abbrev start : Start
@@ -65,7 +65,8 @@ module _ (c : Else-not-is_accepted) where
   able = subst (λ (h : Shape). Ready (form_of (h.dim * h.dim) (f k)) (form_of (h.dim * h.dim) full) (l k) h.count (res k)) (sym both.1) (read_ready (f k) (l k) (res k) both.0)
 
 pub returns-then-not-is_accepted : goal.returns-then-not-is_accepted
-returns-then-not-is_accepted c = let h = c.before in (verdict_is h, ap (words_by h) (sym (sym (tested h) ∙ c.if-not-is_accepted.true)))
+returns-then-not-is_accepted c =
+    record { verdict = verdict_is c.before; words = ap (words_by c.before) (sym (sym (tested c.before) ∙ c.if-not-is_accepted.true)) }
 
 pub overflow_mul-d : goal.overflow_mul-d
 overflow_mul-d c = let r = (able c).width in omega arith
@@ -75,10 +76,9 @@ recast-requires c = able c.before
 
 pub returns : goal.returns
 returns c =
-    let w = c.before in
-    let e = w.before.before in
-    let h = k e in (
-      verdict_is h,
-      w.recast.ensures ∙ ap (λ (s : Shape). recast_into (form_of (s.dim * s.dim) (f h)) (form_of (s.dim * s.dim) full) (l h) (res h)) (both e).1
-          ∙ ap (words_by h) (sym (both e).0),
-    )
+    let h = k c.before.before.before in
+    record {
+      verdict = verdict_is h;
+      words = c.recast.ensures ∙ ap (λ (s : Shape). recast_into (form_of (s.dim * s.dim) (f h)) (form_of (s.dim * s.dim) full) (l h) (res h)) (both c.before.before.before).1
+          ∙ ap (words_by h) (sym (both c.before.before.before).0);
+    }

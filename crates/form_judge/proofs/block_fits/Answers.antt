@@ -25,15 +25,12 @@ pub loop-r-init : goal.loop-r-init
 loop-r-init c = (omega arith, refl)
 
 pub row_fits-requires : goal.row_fits-requires
-row_fits-requires c = let s = c.before.before in (s.requires, c.loop-r-test.true)
+row_fits-requires c = (c.requires, c.loop-r-test.true)
 
 pub returns-then-not-row_fits : goal.returns-then-not-row_fits
 returns-then-not-row_fits c =
-    let k = c.before in
-    let n = k.before in
-    let s = n.before.before in
-    sym (restores-cells s.args.w s.args.to.half s.args.to.plain (numbers_at (form_of s.args.w s.args.f) s.args.s.now s.args.at)
-    ∙ all_no s.args.w n.loop-r.r (test s) n.loop-r-test.true (sym k.row_fits.ensures ∙ c.if-not-row_fits.true))
+    sym (restores-cells c.args.w c.args.to.half c.args.to.plain (numbers_at (form_of c.args.w c.args.f) c.args.s.now c.args.at)
+    ∙ all_no c.args.w c.loop-r.r (test c.before.before.before.before) c.loop-r-test.true (sym c.row_fits.ensures ∙ c.if-not-row_fits.true))
 
 pub overflow_add-r : goal.overflow_add-r
 overflow_add-r c = omega arith
@@ -43,14 +40,9 @@ loop-r-smaller c = omega arith
 
 pub loop-r-preserved : goal.loop-r-preserved
 loop-r-preserved c =
-    let k = c.before in
-    let n = k.before in
-    let s = n.before.before in
-    (omega arith, all-step n.loop-r.r (test s) n.loop-r.invariant.1 (sym k.row_fits.ensures ∙ c.if-not-row_fits.false))
+    (omega arith, all-step c.loop-r.r (test c.before.before.before.before) c.loop-r.invariant.1 (sym c.row_fits.ensures ∙ c.if-not-row_fits.false))
 
 pub returns : goal.returns
 returns c =
-    let a = c.before in
-    let s = a.before in
-    let e : s.args.w ≡ a.loop-r.r = omega (arith, a.loop-r.invariant.0, c.loop-r-test.false) in
-    sym (restores-cells s.args.w s.args.to.half s.args.to.plain (numbers_at (form_of s.args.w s.args.f) s.args.s.now s.args.at) ∙ ap (λ (k : ℕ). all_below k (test s)) e ∙ a.loop-r.invariant.1)
+    let e : c.args.w ≡ c.loop-r.r = omega (arith, c.loop-r.invariant.0, c.loop-r-test.false) in
+    sym (restores-cells c.args.w c.args.to.half c.args.to.plain (numbers_at (form_of c.args.w c.args.f) c.args.s.now c.args.at) ∙ ap (λ (k : ℕ). all_below k (test c.before.before)) e ∙ c.loop-r.invariant.1)

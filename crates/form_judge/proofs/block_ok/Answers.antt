@@ -51,9 +51,8 @@ bounds-s-at c = let q = room c in omega arith
 
 pub returns-then-not-up_to : goal.returns-then-not-up_to
 returns-then-not-up_to c =
-    let u = c.before in
-    let s = (start u).args in
-    sym (pass_outside (form_of s.w s.f) s.s.now s.at (sym (tested u) ∙ c.if-not-up_to.true))
+    let s = (start c.before).args in
+    sym (pass_outside (form_of s.w s.f) s.s.now s.at (sym (tested c.before) ∙ c.if-not-up_to.true))
 
 pub overflow_add-at : goal.overflow_add-at
 overflow_add-at c = let q = room (start c.before) in omega arith
@@ -66,23 +65,16 @@ see-g-requires c = let q = room (start c.before.before) in omega (arith, c.block
 
 pub returns-then-not-g-e : goal.returns-then-not-g-e
 returns-then-not-g-e c =
-    let g = c.before.before.before in
-    let b = g.before in
-    let u = b.before.before in
-    let s = (start u).args in
-    sym (pass_bad (form_of s.w s.f) s.s.now s.at g.see-g.result b.block_size.result b.block_size.ensures g.see-g.ensures _ (eq_small 0 tt _ (fits u))
-    (sym (tested u) ∙ b.if-not-up_to.false) (c.if-not-g-e.true))
+    let s = (start c.before.before.before.before.before.before).args in
+    sym (pass_bad (form_of s.w s.f) s.s.now s.at c.see-g.result c.block_size.result c.block_size.ensures c.see-g.ensures _ (eq_small 0 tt _ (fits c.before.before.before.before.before.before))
+    (sym (tested c.before.before.before.before.before.before) ∙ c.if-not-up_to.false) (c.if-not-g-e.true))
 
 pub diagonal_ok-requires : goal.diagonal_ok-requires
 diagonal_ok-requires c = (start c.before.before.before.before.before.before).requires
 
 pub returns : goal.returns
 returns c =
-    let e = c.before in
-    let g = e.before.before.before in
-    let b = g.before in
-    let u = b.before.before in
-    let s = (start u).args in
+    let s = (start c.before.before.before.before.before.before.before).args in
     c.diagonal_ok.ensures
-    ∙ sym (pass_good (form_of s.w s.f) s.s.now s.at g.see-g.result b.block_size.result b.block_size.ensures g.see-g.ensures _ (eq_small 0 tt _ (fits u))
-    (sym (tested u) ∙ b.if-not-up_to.false) (e.if-not-g-e.false))
+    ∙ sym (pass_good (form_of s.w s.f) s.s.now s.at c.see-g.result c.block_size.result c.block_size.ensures c.see-g.ensures _ (eq_small 0 tt _ (fits c.before.before.before.before.before.before.before))
+    (sym (tested c.before.before.before.before.before.before.before) ∙ c.if-not-up_to.false) (c.if-not-g-e.false))

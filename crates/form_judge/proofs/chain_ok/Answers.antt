@@ -97,9 +97,7 @@ is_start-requires c = c.requires.width
 
 pub returns-then-not-is_start : goal.returns-then-not-is_start
 returns-then-not-is_start c =
-    let a = c.before in
-    let l = a.before.before in
-    sym (l.loop-left.invariant.1 ∙ no_start _ _ _ _ _ _ _ _ a.loop-left-test.true (sym a.is_start.ensures ∙ c.if-not-is_start.true))
+    sym (c.loop-left.invariant.1 ∙ no_start _ _ _ _ _ _ _ _ c.loop-left-test.true (sym c.is_start.ensures ∙ c.if-not-is_start.true))
 
 pub overflow_cast-at : goal.overflow_cast-at
 overflow_cast-at c = ((found c).0, record { fits = omega (arith, head c) })
@@ -109,9 +107,7 @@ record_ok-requires c = ((start c).requires.width, ((start c).requires.few, insid
 
 pub returns-then-not-record_ok : goal.returns-then-not-record_ok
 returns-then-not-record_ok c =
-    let j = c.before in
-    let e = j.before in
-    sym ((turn e).loop-left.invariant.1 ∙ no_record _ _ _ _ _ _ _ _ e.loop-left-test.true (tested e) (sym j.record_ok.ensures ∙ c.if-not-record_ok.true))
+    sym ((turn c.before.before).loop-left.invariant.1 ∙ no_record _ _ _ _ _ _ _ _ c.loop-left-test.true (tested c.before.before) (sym c.record_ok.ensures ∙ c.if-not-record_ok.true))
 
 pub offset_bounds-s-at : goal.offset_bounds-s-at
 offset_bounds-s-at c = omega (arith, head (next c))
@@ -120,7 +116,7 @@ pub bounds-s-at : goal.bounds-s-at
 bounds-s-at c = omega (arith, head (next c))
 
 pub read_store-prev-requires : goal.read_store-prev-requires
-read_store-prev-requires c = let e = c.before in (head (next e), words e)
+read_store-prev-requires c = (head (next c.before), words c.before)
 
 pub overflow_sub-left : goal.overflow_sub-left
 overflow_sub-left c = omega arith
@@ -130,13 +126,12 @@ loop-left-smaller c = omega arith
 
 pub loop-left-preserved : goal.loop-left-preserved
 loop-left-preserved c =
-    let g = c.before.before in
-    let e = next g in
+    let e = next c.before.before in
     let l = (turn e).loop-left in
     let s = (start e).args in
     let at = nat_abs (to_z w64 l.z) in (
       omega arith,
-      l.inv.1 ∙ goes_on _ _ _ _ l.left (to_z w64 l.z) l.first l.prev e.loop-left-test.true (tested e) (right g)
+      l.inv.1 ∙ goes_on _ _ _ _ l.left (to_z w64 l.z) l.first l.prev e.loop-left-test.true (tested e) (right c.before.before)
           ∙ (λ i. chain_ok (F e) s.s.now s.m s.count (l.left - 1) (sym (reads (word s.s.now at) c.z-in-loop-left-1.given) i) false (sym c.read_store-prev.ensures i)),
     )
 

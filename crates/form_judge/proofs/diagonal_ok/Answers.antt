@@ -57,14 +57,12 @@ room c = let s = start c.before in by _ _ _ _ _ (kept-inside (F s) (kept c.befor
     by a q e b n h k = omega arith
 
 -- the entry that was read
-found : (c : After-is_real) → (let n = c.before.before.before in c.is_real.result ≡ real (start n) n.loop-r.r)
+found : (c : After-is_real) → (c.is_real.result ≡ real (start c.before.before.before) c.loop-r.r)
 found c =
-    let k = c.before in
-    let n = k.before.before in
-    let s = start n in
-    let r = n.loop-r.r in
+    let s = start c.before.before.before in
+    let r = c.loop-r.r in
     c.is_real.ensures
-    ∙ ap is_real (ap number_of k.read_kept-x.ensures ∙ read_is (F s) s.args.s.now s.args.at r r _ k.place.ensures ∙ sym (number-kept (F s) s.args.s.now s.args.at r r (kept n).col (kept n).after))
+    ∙ ap is_real (ap number_of c.read_kept-x.ensures ∙ read_is (F s) s.args.s.now s.args.at r r _ c.place.ensures ∙ sym (number-kept (F s) s.args.s.now s.args.at r r (kept c.before.before.before).col (kept c.before.before.before).after))
 
 -- half is kept
 halved : (c : Else-not-f) → not c.args.f.half ≡ false
@@ -90,10 +88,8 @@ read_kept-x-requires c = room c
 
 pub returns-then-not-is_real : goal.returns-then-not-is_real
 returns-then-not-is_real c =
-    let k = c.before in
-    let n = k.before.before.before in
-    let s = start n in
-    sym (ap (test s) (halved n.before.before) ∙ all_no s.args.w n.loop-r.r (real s) n.loop-r-test.true (sym (found k) ∙ c.if-not-is_real.true))
+    let s = start c.before.before.before.before in
+    sym (ap (test s) (halved c.before.before.before.before.before.before) ∙ all_no s.args.w c.loop-r.r (real s) c.loop-r-test.true (sym (found c.before) ∙ c.if-not-is_real.true))
 
 pub overflow_add-r : goal.overflow_add-r
 overflow_add-r c = omega arith
@@ -103,14 +99,10 @@ loop-r-smaller c = omega arith
 
 pub loop-r-preserved : goal.loop-r-preserved
 loop-r-preserved c =
-    let k = c.before in
-    let n = k.before.before.before in
-    let s = start n in
-    (omega arith, all-step n.loop-r.r (real s) n.loop-r.invariant.1 (sym (found k) ∙ c.if-not-is_real.false))
+    let s = start c.before.before.before.before in
+    (omega arith, all-step c.loop-r.r (real s) c.loop-r.invariant.1 (sym (found c.before) ∙ c.if-not-is_real.false))
 
 pub returns : goal.returns
 returns c =
-    let a = c.before in
-    let s = a.before.before.before in
-    let e : s.args.w ≡ a.loop-r.r = omega (arith, a.loop-r.invariant.0, c.loop-r-test.false) in
-    sym (ap (test s) (halved a.before) ∙ ap (λ (k : ℕ). all_below k (real s)) e ∙ a.loop-r.invariant.1)
+    let e : c.args.w ≡ c.loop-r.r = omega (arith, c.loop-r.invariant.0, c.loop-r-test.false) in
+    sym (ap (test c.before.before.before.before) (halved c.before.before) ∙ ap (λ (k : ℕ). all_below k (real c.before.before.before.before)) e ∙ c.loop-r.invariant.1)

@@ -54,14 +54,13 @@ follow-at-requires c = let q = long_in (F c) c.args.s.now c.requires.right in (o
 
 pub loop-i-init : goal.loop-i-init
 loop-i-init c =
-    let s = c.before in
-    let l = s.args.s.now in
-    let z : s.args.count - 0 ≡ s.args.count = omega arith in
-    let e : s.args.count - 0 ≡ count_at l = z ∙ s.requires.counted in (
+    let l = c.args.s.now in
+    let z : c.args.count - 0 ≡ c.args.count = omega arith in
+    let e : c.args.count - 0 ≡ count_at l = z ∙ c.requires.counted in (
       omega arith,
       (
-        subst (λ (n : ℕ). OnwardIn (F s) l n c.follow-at.result) (sym e) (subst (OnwardIn (F s) l (count_at l)) (sym c.follow-at.ensures) (begin_in (F s) l s.requires.right)),
-        sym (zero-add (fault_from (F s) (G s) l (s.args.count - 0) c.follow-at.result) ∙ (λ i. fault_from (F s) (G s) l (e i) (c.follow-at.ensures i))),
+        subst (λ (n : ℕ). OnwardIn (F c.before) l n c.follow-at.result) (sym e) (subst (OnwardIn (F c.before) l (count_at l)) (sym c.follow-at.ensures) (begin_in (F c.before) l c.requires.right)),
+        sym (zero-add (fault_from (F c.before) (G c.before) l (c.args.count - 0) c.follow-at.result) ∙ (λ i. fault_from (F c.before) (G c.before) l (e i) (c.follow-at.ensures i))),
       ),
     )
 
@@ -70,14 +69,12 @@ block_fits-requires c = record { width = (start c).requires.width; inside = on-i
 
 pub returns-then-not-block_fits : goal.returns-then-not-block_fits
 returns-then-not-block_fits c =
-    let k = c.before in
-    let n = k.before in
-    let s = start n in
-    sym (n.loop-i.invariant.1.1 ∙ ap (λ (j : ℕ). n.loop-i.i + j) (fault-here (F s) (G s) s.args.s.now (left n) n.loop-i.at (some n) (sym k.block_fits.ensures ∙ c.if-not-block_fits.true))
-    ∙ add-zero n.loop-i.i)
+    let s = start c.before.before in
+    sym (c.loop-i.invariant.1.1 ∙ ap (λ (j : ℕ). c.loop-i.i + j) (fault-here (F s) (G s) s.args.s.now (left c.before.before) c.loop-i.at (some c.before.before) (sym c.block_fits.ensures ∙ c.if-not-block_fits.true))
+    ∙ add-zero c.loop-i.i)
 
 pub follow-at-requires-in-loop-i : goal.follow-at-requires-in-loop-i
-follow-at-requires-in-loop-i c = let n = c.before.before in (head n, on-index (walk n) (some n))
+follow-at-requires-in-loop-i c = (head c.before.before, on-index (walk c.before.before) (some c.before.before))
 
 pub overflow_add-i : goal.overflow_add-i
 overflow_add-i c = omega arith
@@ -87,19 +84,17 @@ loop-i-smaller c = omega arith
 
 pub loop-i-preserved : goal.loop-i-preserved
 loop-i-preserved c =
-    let k = c.before.before in
-    let n = k.before in
-    let s = start n in
+    let s = start c.before.before.before in
     let l = s.args.s.now in
-    let i = n.loop-i.i in
-    let at = n.loop-i.at in
-    let e : left n - 1 ≡ s.args.count - (i + 1) = omega arith in
+    let i = c.loop-i.i in
+    let at = c.loop-i.at in
+    let e : left c.before.before.before - 1 ≡ s.args.count - (i + 1) = omega arith in
     let rest = fault_from (F s) (G s) l in (
       omega arith,
       (
-        subst (λ (m : ℕ). OnwardIn (F s) l m c.follow-at-in-loop-i.result) e (subst (OnwardIn (F s) l (left n - 1)) (sym c.follow-at-in-loop-i.ensures) (on-next (walk n) (some n))),
-        n.loop-i.invariant.1.1 ∙ ap (λ (j : ℕ). i + j) (fault-on (F s) (G s) l (left n) at (some n) (sym k.block_fits.ensures ∙ c.if-not-block_fits.false))
-            ∙ one i (rest (left n - 1) (nat_abs (word l at))) ∙ (λ j. i + 1 + rest (e j) (sym c.follow-at-in-loop-i.ensures j)),
+        subst (λ (m : ℕ). OnwardIn (F s) l m c.follow-at-in-loop-i.result) e (subst (OnwardIn (F s) l (left c.before.before.before - 1)) (sym c.follow-at-in-loop-i.ensures) (on-next (walk c.before.before.before) (some c.before.before.before))),
+        c.loop-i.invariant.1.1 ∙ ap (λ (j : ℕ). i + j) (fault-on (F s) (G s) l (left c.before.before.before) at (some c.before.before.before) (sym c.block_fits.ensures ∙ c.if-not-block_fits.false))
+            ∙ one i (rest (left c.before.before.before - 1) (nat_abs (word l at))) ∙ (λ j. i + 1 + rest (e j) (sym c.follow-at-in-loop-i.ensures j)),
       ),
     )
   where
@@ -108,8 +103,6 @@ loop-i-preserved c =
 
 pub returns : goal.returns
 returns c =
-    let a = c.before in
-    let s = a.before.before in
-    let i = a.loop-i.i in
-    let e : i ≡ s.args.count = omega (arith, a.loop-i.invariant.0, c.loop-i-test.false) in
-    sym (a.loop-i.invariant.1.1 ∙ ap (λ (j : ℕ). i + j) (fault-end (F s) (G s) s.args.s.now (s.args.count - i) a.loop-i.at (omega (arith, c.loop-i-test.false))) ∙ add-zero i ∙ e)
+    let i = c.loop-i.i in
+    let e : i ≡ c.args.count = omega (arith, c.loop-i.invariant.0, c.loop-i-test.false) in
+    sym (c.loop-i.invariant.1.1 ∙ ap (λ (j : ℕ). i + j) (fault-end (F c.before.before.before) (G c.before.before.before) c.args.s.now (c.args.count - i) c.loop-i.at (omega (arith, c.loop-i-test.false))) ∙ add-zero i ∙ e)

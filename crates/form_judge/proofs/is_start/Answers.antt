@@ -26,14 +26,13 @@ pub returns-then-z : goal.returns-then-z
 returns-then-z c = low-start (form_of c.args.w c.args.f) c.args.count c.args.z (unread c.ranges.z (λ (z : ℤ). lt_z z (pos header_size) ≡ true) c.if-z.true)
 
 pub overflow_cast-a : goal.overflow_cast-a
-overflow_cast-a c = let s = c.before.before in read s.ranges.z (Casts w64) (casts header_size _ s.ranges.z (high c.before))
+overflow_cast-a c = read c.ranges.z (Casts w64) (casts header_size _ c.ranges.z (high c.before))
 
 pub overflow_sub-a : goal.overflow_sub-a
-overflow_sub-a c = let s = c.before.before in read s.ranges.z (λ (z : ℤ). header_size ≤ nat_abs z) (natural header_size s.args.z (high c.before)).1
+overflow_sub-a c = read c.ranges.z (λ (z : ℤ). header_size ≤ nat_abs z) (natural header_size c.args.z (high c.before)).1
 
 pub returns : goal.returns
 returns c =
-    let s = c.before.before in
-    ap (λ (m : ℕ). eqb (m % c.record_size-size.result) 0 && ltb (m / c.record_size-size.result) s.args.count) (read s.ranges.z (λ (z : ℤ). nat_abs z - header_size ≡ nat_abs s.args.z - header_size) refl)
-    ∙ ap (λ (n : ℕ). eqb ((nat_abs s.args.z - header_size) % n) 0 && ltb ((nat_abs s.args.z - header_size) / n) s.args.count) c.record_size-size.ensures
-    ∙ high_start (form_of s.args.w s.args.f) s.args.count s.args.z (high c.before)
+    ap (λ (m : ℕ). eqb (m % c.record_size-size.result) 0 && ltb (m / c.record_size-size.result) c.args.count) (read c.ranges.z (λ (z : ℤ). nat_abs z - header_size ≡ nat_abs c.args.z - header_size) refl)
+    ∙ ap (λ (n : ℕ). eqb ((nat_abs c.args.z - header_size) % n) 0 && ltb ((nat_abs c.args.z - header_size) / n) c.args.count) c.record_size-size.ensures
+    ∙ high_start (form_of c.args.w c.args.f) c.args.count c.args.z (high c.before)

@@ -68,18 +68,16 @@ module _ (c : Else-not-is_accepted) where
   room = subst (λ (h : Shape). Room (form_of (h.dim * h.dim) (start k).args.f) (words k) h.bits h.count) (sym is) (room_in (start k).args.f (words k) right)
 
 -- the chain decides
-decided : (c : After-chain_ok) → (let e = c.before in (b : Bool) → c.chain_ok.result ≡ b → well_formed_in (F (k e)) (words (k e)) ≡ b)
+decided : (c : After-chain_ok) → ((b : Bool) → c.chain_ok.result ≡ b → well_formed_in (F (k c.before)) (words (k c.before)) ≡ b)
 decided c b t =
-    let e = c.before in
-    let l = words (k e) in
-    well_formed_lem (F (k e)) l b (right e)
-    (sym (c.chain_ok.ensures ∙ ap (λ (h : Shape). chain_ok (form_of (h.dim * h.dim) (start (k e)).args.f) l h.bits h.count h.count (word l 3) true 0) (is e)) ∙ t)
+    let l = words (k c.before) in
+    well_formed_lem (F (k c.before)) l b (right c.before)
+    (sym (c.chain_ok.ensures ∙ ap (λ (h : Shape). chain_ok (form_of (h.dim * h.dim) (start (k c.before)).args.f) l h.bits h.count h.count (word l 3) true 0) (is c.before)) ∙ t)
 
 pub returns-then-not-is_accepted : goal.returns-then-not-is_accepted
 returns-then-not-is_accepted c =
-    let h = c.before in
-    let bad = sym (tested h) ∙ c.if-not-is_accepted.true in
-    h.header-h.ensures ∙ ap (answer h) (bad ∙ sym (bad_in (F h) (words h) bad))
+    let bad = sym (tested c.before) ∙ c.if-not-is_accepted.true in
+    c.header-h.ensures ∙ ap (answer c.before) (bad ∙ sym (bad_in (F c.before) (words c.before) bad))
 
 pub overflow_mul-d : goal.overflow_mul-d
 overflow_mul-d c = let r = (room c).width in omega arith
@@ -89,10 +87,8 @@ chain_ok-requires c = room c
 
 pub returns-then-not-chain_ok : goal.returns-then-not-chain_ok
 returns-then-not-chain_ok c =
-    let j = c.before.before in
-    c.no_shape.ensures ∙ ap (answer (k j.before)) (sym (decided j false (c.if-not-chain_ok.true)))
+    c.no_shape.ensures ∙ ap (answer (k c.before.before.before)) (sym (decided c.before.before false (c.if-not-chain_ok.true)))
 
 pub returns : goal.returns
 returns c =
-    let j = c.before in
-    is j.before ∙ ap (answer (k j.before)) (sym (decided j true (c.if-not-chain_ok.false)))
+    is c.before.before ∙ ap (answer (k c.before.before)) (sym (decided c.before true (c.if-not-chain_ok.false)))

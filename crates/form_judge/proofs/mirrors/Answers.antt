@@ -24,23 +24,19 @@ module _ (s : Start) where
   test b = b || is_conjugate (z (s.args.r * s.args.w + s.args.c)) (z (s.args.c * s.args.w + s.args.r))
 
 pub returns-then-not-half : goal.returns-then-not-half
-returns-then-not-half c = sym (ap (test c.before) c.if-not-half.true)
+returns-then-not-half c = sym (ap (test c.before) c.if-not-half.true-raw)
 
 pub read_number-x-requires : goal.read_number-x-requires
 read_number-x-requires c = c.requires
 
 pub read_number-y-requires : goal.read_number-y-requires
-read_number-y-requires c = let s = c.before.before in (s.requires.0, (s.requires.1.1, s.requires.1.0))
+read_number-y-requires c = (c.requires.0, (c.requires.1.1, c.requires.1.0))
 
 pub are_conjugate-requires : goal.are_conjugate-requires
 are_conjugate-requires c =
-    let s = c.before.before.before in
     subst (Within max_numerator) (sym (ap number_of c.read_number-y.ensures))
-    (in_range_lem (form_of s.args.w s.args.f) s.args.s.now s.args.at s.requires.0 s.args.c s.args.r s.requires.1.1 s.requires.1.0)
+    (in_range_lem (form_of c.args.w c.args.f) c.args.s.now c.args.at c.requires.0 c.args.c c.args.r c.requires.1.1 c.requires.1.0)
 
 pub returns : goal.returns
 returns c =
-    let y = c.before in
-    let x = y.before in
-    let e = x.before in
-    c.are_conjugate.ensures ∙ (λ i. is_conjugate (number_of (x.read_number-x.ensures i)) (number_of (y.read_number-y.ensures i))) ∙ sym (ap (test e.before) e.if-not-half.false-raw)
+    c.are_conjugate.ensures ∙ (λ i. is_conjugate (number_of (c.read_number-x.ensures i)) (number_of (c.read_number-y.ensures i))) ∙ sym (ap (test c.before.before.before.before) c.if-not-half.false-raw)

@@ -20,13 +20,11 @@ abbrev test : Start → Bool → Bool
 test s b = b || not (has_root (numbers_at (form_of s.args.w s.args.f) s.args.s.now s.args.at (s.args.r * s.args.w + s.args.c)))
 
 pub returns-then-not-plain : goal.returns-then-not-plain
-returns-then-not-plain c = sym (ap (test c.before) c.if-not-plain.true)
+returns-then-not-plain c = sym (ap (test c.before) c.if-not-plain.true-raw)
 
 pub read_number-x-requires : goal.read_number-x-requires
 read_number-x-requires c = c.requires
 
 pub returns : goal.returns
 returns c =
-    let x = c.before in
-    let e = x.before in
-    c.is_plain.ensures ∙ ap (λ (y : List ℤ). not (has_root (number_of y))) x.read_number-x.ensures ∙ sym (ap (test e.before) e.if-not-plain.false-raw)
+    c.is_plain.ensures ∙ ap (λ (y : List ℤ). not (has_root (number_of y))) c.read_number-x.ensures ∙ sym (ap (test c.before.before.before) c.if-not-plain.false-raw)

@@ -55,27 +55,18 @@ store_ok-requires c = (head c, c.requires.1.0)
 
 pub returns-then-not-store_ok : goal.returns-then-not-store_ok
 returns-then-not-store_ok c =
-    let k = c.before in
-    let s = k.before in
-    sym (ap (λ (b : Bool). b && (in_order s && in_block s)) (sym k.store_ok.ensures ∙ c.if-not-store_ok.true))
+    sym (ap (λ (b : Bool). b && (in_order c.before.before && in_block c.before.before)) (sym c.store_ok.ensures ∙ c.if-not-store_ok.true))
 
 pub read_store-requires : goal.read_store-requires
 read_store-requires c = (head c.before.before, words c)
 
 pub returns-then-not-first-comes_before : goal.returns-then-not-first-comes_before
 returns-then-not-first-comes_before c =
-    let k = c.before in
-    let e = k.before.before in
-    let s = e.before.before in
-    sym (λ i. stored e i && ((sym (ordered k) ∙ c.if-not-first-comes_before.true) i && in_block s))
+    sym (λ i. stored c.before.before.before i && ((sym (ordered c.before) ∙ c.if-not-first-comes_before.true) i && in_block c.before.before.before.before.before))
 
 pub block_ok-requires : goal.block_ok-requires
-block_ok-requires c = let s = c.before.before.before.before.before in (s.requires.0, s.requires.1.1)
+block_ok-requires c = (c.requires.0, c.requires.1.1)
 
 pub returns : goal.returns
 returns c =
-    let g = c.before in
-    let k = g.before in
-    let e = k.before.before in
-    let s = e.before.before in
-    c.block_ok.ensures ∙ sym (λ i. stored e i && ((sym (ordered k) ∙ g.if-not-first-comes_before.false) i && in_block s))
+    c.block_ok.ensures ∙ sym (λ i. stored c.before.before.before.before i && ((sym (ordered c.before.before) ∙ c.if-not-first-comes_before.false) i && in_block c.before.before.before.before.before.before))

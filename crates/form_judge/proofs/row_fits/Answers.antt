@@ -24,14 +24,11 @@ pub loop-c-init : goal.loop-c-init
 loop-c-init c = (omega arith, refl)
 
 pub cell_fits-requires : goal.cell_fits-requires
-cell_fits-requires c = let s = c.before.before in (s.requires.0, (s.requires.1, c.loop-c-test.true))
+cell_fits-requires c = (c.requires.0, (c.requires.1, c.loop-c-test.true))
 
 pub returns-then-not-cell_fits : goal.returns-then-not-cell_fits
 returns-then-not-cell_fits c =
-    let k = c.before in
-    let n = k.before in
-    let s = n.before.before in
-    sym (all_no s.args.w n.loop-c.c (test s) n.loop-c-test.true (sym k.cell_fits.ensures ∙ c.if-not-cell_fits.true))
+    sym (all_no c.args.w c.loop-c.c (test c.before.before.before.before) c.loop-c-test.true (sym c.cell_fits.ensures ∙ c.if-not-cell_fits.true))
 
 pub overflow_add-c : goal.overflow_add-c
 overflow_add-c c = omega arith
@@ -41,14 +38,9 @@ loop-c-smaller c = omega arith
 
 pub loop-c-preserved : goal.loop-c-preserved
 loop-c-preserved c =
-    let k = c.before in
-    let n = k.before in
-    let s = n.before.before in
-    (omega arith, all-step n.loop-c.c (test s) n.loop-c.invariant.1 (sym k.cell_fits.ensures ∙ c.if-not-cell_fits.false))
+    (omega arith, all-step c.loop-c.c (test c.before.before.before.before) c.loop-c.invariant.1 (sym c.cell_fits.ensures ∙ c.if-not-cell_fits.false))
 
 pub returns : goal.returns
 returns c =
-    let a = c.before in
-    let s = a.before in
-    let e : s.args.w ≡ a.loop-c.c = omega (arith, a.loop-c.invariant.0, c.loop-c-test.false) in
-    sym (ap (λ (k : ℕ). all_below k (test s)) e ∙ a.loop-c.invariant.1)
+    let e : c.args.w ≡ c.loop-c.c = omega (arith, c.loop-c.invariant.0, c.loop-c-test.false) in
+    sym (ap (λ (k : ℕ). all_below k (test c.before.before)) e ∙ c.loop-c.invariant.1)

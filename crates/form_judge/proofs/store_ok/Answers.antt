@@ -51,17 +51,13 @@ ranges c = and_split _ _ (sym (both c.before) ∙ c.if-not-up_to.false)
 
 pub returns-then-not-up_to : goal.returns-then-not-up_to
 returns-then-not-up_to c =
-    let b = c.before in
-    sym (ap (λ (t : Bool). t && ltb (store_from (low b) (high b)) (2 ^ (start b).args.m)) (sym (both b) ∙ c.if-not-up_to.true))
+    sym (ap (λ (t : Bool). t && ltb (store_from (low c.before) (high c.before)) (2 ^ (start c.before).args.m)) (sym (both c.before) ∙ c.if-not-up_to.true))
 
 pub join-requires : goal.join-requires
 join-requires c =
-    let b = c.before in
-    (read (lows b) (λ (z : ℤ). up_to max_word z ≡ true) (ranges c).0, read (highs b) (λ (z : ℤ). up_to max_word z ≡ true) (ranges c).1)
+    (read (lows c.before) (λ (z : ℤ). up_to max_word z ≡ true) (ranges c).0, read (highs c.before) (λ (z : ℤ). up_to max_word z ≡ true) (ranges c).1)
 
 pub returns : goal.returns
 returns c =
-    let e = c.before.before in
-    let b = e.before in
-    c.fits_bits.ensures ∙ ap (λ (n : ℕ). ltb n (2 ^ (start b).args.m)) (c.join.ensures ∙ (λ i. store_from (to_z-of_z (lows b) i) (to_z-of_z (highs b) i)))
-    ∙ (λ i. (sym (ranges e).0 i && sym (ranges e).1 i) && ltb (store_from (low b) (high b)) (2 ^ (start b).args.m))
+    c.fits_bits.ensures ∙ ap (λ (n : ℕ). ltb n (2 ^ (start c.before.before.before).args.m)) (c.join.ensures ∙ (λ i. store_from (to_z-of_z (lows c.before.before.before) i) (to_z-of_z (highs c.before.before.before) i)))
+    ∙ (λ i. (sym (ranges c.before.before).0 i && sym (ranges c.before.before).1 i) && ltb (store_from (low c.before.before.before) (high c.before.before.before)) (2 ^ (start c.before.before.before).args.m))

@@ -20,11 +20,10 @@ abbrev After-at_most : Type 0
 After-at_most = lts.After-at_most tie.the-claims reads.Pre reads.Post goal.the-invariant-loop-i goal.the-decreases-loop-i
 
 -- the word's test
-tested : (c : After-at_most) → (let l = c.before.before.before in let s = l.args in c.at_most.result ≡ leb (nat_abs (get_or s.s.now (s.at + l.loop-i.i) (pos 0))) max_numerator)
+tested : (c : After-at_most) → (let s = c.args in c.at_most.result ≡ leb (nat_abs (get_or s.s.now (s.at + c.loop-i.i) (pos 0))) max_numerator)
 tested c =
-    let l = c.before.before.before in
-    let s = l.args in
-    c.at_most.ensures ∙ ap (λ (x : ℤ). leb (nat_abs x) max_numerator) (reads (get_or s.s.now (s.at + l.loop-i.i) (pos 0)) c.at_most-arg-1.given)
+    let s = c.args in
+    c.at_most.ensures ∙ ap (λ (x : ℤ). leb (nat_abs x) max_numerator) (reads (get_or s.s.now (s.at + c.loop-i.i) (pos 0)) c.at_most-arg-1.given)
 
 pub loop-i-init : goal.loop-i-init
 loop-i-init c = (omega arith, refl)
@@ -43,11 +42,8 @@ at_most-requires c = refl
 
 pub returns-then-not-at_most : goal.returns-then-not-at_most
 returns-then-not-at_most c =
-    let a = c.before in
-    let t = a.before.before in
-    let l = t.before in
-    let s = l.args in
-    sym (all_no s.n l.loop-i.i _ t.loop-i-test.true (sym (tested a) ∙ c.if-not-at_most.true))
+    let s = c.args in
+    sym (all_no s.n c.loop-i.i _ c.loop-i-test.true (sym (tested c.before) ∙ c.if-not-at_most.true))
 
 pub overflow_add-i : goal.overflow_add-i
 overflow_add-i c = omega arith
@@ -57,14 +53,11 @@ loop-i-smaller c = omega arith
 
 pub loop-i-preserved : goal.loop-i-preserved
 loop-i-preserved c =
-    let a = c.before in
-    let l = a.before.before.before in
-    let s = l.args in
-    (omega arith, all-step l.loop-i.i (λ (i : ℕ). leb (nat_abs (get_or s.s.now (s.at + i) (pos 0))) max_numerator) l.loop-i.invariant.1 (sym (tested a) ∙ c.if-not-at_most.false))
+    let s = c.args in
+    (omega arith, all-step c.loop-i.i (λ (i : ℕ). leb (nat_abs (get_or s.s.now (s.at + i) (pos 0))) max_numerator) c.loop-i.invariant.1 (sym (tested c.before) ∙ c.if-not-at_most.false))
 
 pub returns : goal.returns
 returns c =
-    let l = c.before in
-    let s = l.args in
-    let e : l.loop-i.i ≡ s.n = omega arith in
-    sym (ap (all_in_range s.s.now s.at) (sym e) ∙ l.loop-i.invariant.1)
+    let s = c.args in
+    let e : c.loop-i.i ≡ s.n = omega arith in
+    sym (ap (all_in_range s.s.now s.at) (sym e) ∙ c.loop-i.invariant.1)

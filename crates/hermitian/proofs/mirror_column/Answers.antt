@@ -40,16 +40,13 @@ loop-c-init c = begin (λ k. le_refl 4)
 
 pub write_conj-requires : goal.write_conj-requires
 write_conj-requires c =
-    let t = c.before in
-    let s = start t in
-    (omega (arith, from_in t, long t.loop-c.invariant), (omega (arith, to_in t, long t.loop-c.invariant), column-small s.requires.block s.requires.inside t.loop-c.invariant t.loop-c-test.true))
+    let s = start c.before in
+    (omega (arith, from_in c.before, long c.loop-c.invariant), (omega (arith, to_in c.before, long c.loop-c.invariant), column-small s.requires.block s.requires.inside c.loop-c.invariant c.loop-c-test.true))
 
 pub loop-c-preserved : goal.loop-c-preserved
 loop-c-preserved c =
-    let a = c.before in
-    let t = a.before.before in
-    let s = start t in
-    again t.loop-c.invariant t.loop-c-test.true a.write_conj.ensures (ap (λ (z : Number). list_of (conjugate root2 z)) (column_is s.requires.block s.requires.inside t.loop-c.invariant t.loop-c-test.true))
+    let s = start c.before.before.before in
+    again c.loop-c.invariant c.loop-c-test.true c.write_conj.ensures (ap (λ (z : Number). list_of (conjugate root2 z)) (column_is s.requires.block s.requires.inside c.loop-c.invariant c.loop-c-test.true))
 
 pub returns : goal.returns
 returns c = done c.loop-c.invariant c.loop-c-test.false

@@ -14,7 +14,7 @@ use Rattle.hermitian.proofs.or_row.Tie as tie
 use Rattle.hermitian.proofs.or_row.Goals as goal
 
 abbrev Start : Type 0
-Start = lts.Start tie.the-claims reads.Pre reads.Post
+Start = lts.Start tie.the-claims reads.Pre reads.Post tie.handed_clauses
 
 inside : (s : Start) → s.args.at + (s.args.r * s.args.w * 4 + s.args.w * 4) ≤ length s.args.s.now
 inside s = omega (arith, s.requires.0.inside, s.requires.0.room, block_in_lem s.requires.0.inside s.args.w)
@@ -25,9 +25,8 @@ back s = of_z-to_z {w = w64} (Fits-of_z {w = w64} {z = s.args.g} s.ranges.g)
 
 pub returns-then-is_zero_row : goal.returns-then-is_zero_row
 returns-then-is_zero_row c =
-    let s = c.before.before in
     let z = sym c.is_zero_row.ensures ∙ c.if-is_zero_row.true in
-    (back s ∙ s.requires.1 ∙ row-bits s.requires.0 z, row_fits s.requires.0 z)
+    record { bits = back c.before.before ∙ c.requires.1 ∙ row-bits c.requires.0 z; fit = row_fits c.requires.0 z }
 
 pub overflow_mul-r : goal.overflow_mul-r
 overflow_mul-r c = omega (arith, inside c.before.before)

@@ -15,7 +15,7 @@ use Rattle.hermitian.proofs.or_rows.Tie as tie
 use Rattle.hermitian.proofs.or_rows.Goals as goal
 
 abbrev After-or_row-g : Type 0
-After-or_row-g = lts.After-or_row tie.the-claims reads.Pre reads.Post goal.the-invariant-loop-r goal.the-decreases-loop-r
+After-or_row-g = lts.After-or_row tie.the-claims reads.Pre reads.Post goal.the-invariant-loop-r goal.the-decreases-loop-r tie.handed_clauses
 
 pub loop-r-init : goal.loop-r-init
 loop-r-init c =
@@ -35,32 +35,29 @@ loop-r-smaller c = omega arith
 
 pub loop-r-preserved : goal.loop-r-preserved
 loop-r-preserved c =
-    let l = c.before.before in
-    let n = l.args in
-    let r = l.loop-r.r in
+    let n = c.args in
+    let r = c.loop-r.r in
     let more : r * n.w * 4 + n.w * 4 ≡ (r + 1) * n.w * 4 = omega arith in (
       omega arith,
       (
         (Fits-of_z {w = w64} {z = c.or_row-g.result} (record { sfits = c.or_row-g.type_inv })).fits,
         (
-          c.or_row-g.ensures.0 ∙ ap (or_words n.s.now n.at) more,
+          c.or_row-g.ensures.bits ∙ ap (or_words n.s.now n.at) more,
           λ i h. fit c i (dec_lt i (r * n.w * 4)) (omega arith),
         ),
       ),
     )
   where
     fit : (c : After-or_row-g) (i : ℕ)
-        → let l = c.before.before in
-        let n = l.args in
-        Dec (i < l.loop-r.r * n.w * 4) → i < l.loop-r.r * n.w * 4 + n.w * 4 → SFits w64 (get_or n.s.now (n.at + i) (pos 0))
+        → let n = c.args in
+        Dec (i < c.loop-r.r * n.w * 4) → i < c.loop-r.r * n.w * 4 + n.w * 4 → SFits w64 (get_or n.s.now (n.at + i) (pos 0))
     fit c i (yes p) h = c.loop-r.invariant.1.1.1 i p
-    fit c i (no p) h = c.or_row-g.ensures.1 i (omega arith) h
+    fit c i (no p) h = c.or_row-g.ensures.fit i (omega arith) h
 
 pub returns : goal.returns
 returns c =
-    let l = c.before in
-    let n = l.args in
-    let v = l.loop-r.invariant.1 in
-    let q : l.loop-r.r ≡ n.w = omega (arith, l.loop-r.invariant.0) in
+    let n = c.args in
+    let v = c.loop-r.invariant.1 in
+    let q : c.loop-r.r ≡ n.w = omega (arith, c.loop-r.invariant.0) in
     let e = ap (λ (k : ℕ). k * n.w * 4) q in
-    (of_z-to_z {w = w64} (record { fits = v.0 }) ∙ v.1.0 ∙ ap (or_words n.s.now n.at) e, λ i h. v.1.1 i (omega (arith, e)))
+    record { bits = of_z-to_z {w = w64} (record { fits = v.0 }) ∙ v.1.0 ∙ ap (or_words n.s.now n.at) e; fit = λ i h. v.1.1 i (omega (arith, e)) }

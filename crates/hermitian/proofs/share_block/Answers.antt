@@ -22,13 +22,13 @@ use Rattle.hermitian.proofs.share_block.Tie as tie
 use Rattle.hermitian.proofs.share_block.Goals as goal
 
 abbrev After-least-t : Type 0
-After-least-t = lts.After-least tie.the-claims reads.Pre reads.Post
+After-least-t = lts.After-least tie.the-claims reads.Pre reads.Post tie.handed_clauses
 
 abbrev After-common_zeros : Type 0
-After-common_zeros = lts.After-common_zeros tie.the-claims reads.Pre reads.Post
+After-common_zeros = lts.After-common_zeros tie.the-claims reads.Pre reads.Post tie.handed_clauses
 
 abbrev Start : Type 0
-Start = lts.Start tie.the-claims reads.Pre reads.Post
+Start = lts.Start tie.the-claims reads.Pre reads.Post tie.handed_clauses
 
 module _ (c : After-least-t) where
   abbrev z : After-common_zeros
@@ -44,17 +44,17 @@ module _ (c : After-least-t) where
   least = min z.common_zeros.result start.args.e
 
   bits : of_z w64 z.or_rows-g.result ≡ or_words start.args.s.now start.args.at (n * 4)
-  bits = z.or_rows-g.ensures.0
+  bits = z.or_rows-g.ensures.bits
 
   -- the argument is read back from its bits
   back : of_z w64 (to_z w64 (of_z w64 z.or_rows-g.result)) ≡ of_z w64 z.or_rows-g.result
-  back = of_z-to_z {w = w64} (record { fits = subst (λ (m : ℕ). m < 2 ^ 64) (sym bits) (or_small start.args.s.now start.args.at (n * 4) z.or_rows-g.ensures.1) })
+  back = of_z-to_z {w = w64} (record { fits = subst (λ (m : ℕ). m < 2 ^ 64) (sym bits) (or_small start.args.s.now start.args.at (n * 4) z.or_rows-g.ensures.fit) })
 
   count : z.common_zeros.result ≡ count_trailing_zeros 64 (or_words start.args.s.now start.args.at (n * 4) % 2 ^ 63)
   count = z.common_zeros.ensures ∙ ap (λ (m : ℕ). count_trailing_zeros 64 (m % 2 ^ 63)) (ap (λ (k : ℕ). bit_or (bit_or k 0) (bit_or 0 0)) back ∙ alone (of_z w64 z.or_rows-g.result) ∙ bits)
 
   alike : Alike n (frac (λ (k : ℕ). shifted (number_at start.args.s.now start.args.at k) least) (start.args.e - least)) (shared_from start.args.s.now start.args.at n start.args.e)
-  alike = share_is start.args.s.now start.args.at n start.args.e z.common_zeros.result z.or_rows-g.ensures.1 start.requires.1 count
+  alike = share_is start.args.s.now start.args.at n start.args.e z.common_zeros.result z.or_rows-g.ensures.fit start.requires.1 count
 
   shift_small : c.least-t.result ≤ 63
   shift_small = let q = start.requires.1 in omega (arith, c.least-t.ensures)
@@ -70,11 +70,11 @@ overflow_sub-result c = omega (arith, c.least-t.ensures)
 
 pub returns : goal.returns
 returns c =
-    let l = c.before.before.before in
-    let s = (start l).args in (
-      ap (λ (j : ℕ). s.e - j) l.least-t.ensures ∙ (alike l).exp,
-      c.shift_rows.ensures
-          ∙ ap (λ (j : ℕ). fill_words s.s.now s.at (n l * 4) (λ (i : ℕ). shr_z (get_or s.s.now (s.at + i) (pos 0)) (2 ^ j))) l.least-t.ensures
-          ∙ shifts_are s.s.now s.at (n l) (least l)
-          ∙ numerators_are s.s.now s.at (n l) s.e (least l) (alike l),
-    )
+    let s = (start c.before.before.before).args in
+    record {
+      exponent = ap (λ (j : ℕ). s.e - j) c.least-t.ensures ∙ (alike c.before.before.before).exp;
+      numerators = c.shift_rows.ensures
+          ∙ ap (λ (j : ℕ). fill_words s.s.now s.at (n c.before.before.before * 4) (λ (i : ℕ). shr_z (get_or s.s.now (s.at + i) (pos 0)) (2 ^ j))) c.least-t.ensures
+          ∙ shifts_are s.s.now s.at (n c.before.before.before) (least c.before.before.before)
+          ∙ numerators_are s.s.now s.at (n c.before.before.before) s.e (least c.before.before.before) (alike c.before.before.before);
+    }

@@ -24,9 +24,7 @@ start c = c.before.before.before.before
 
 pub returns-then-is_zero_row : goal.returns-then-is_zero_row
 returns-then-is_zero_row c =
-    let z = c.before in
-    let s = z.before.before in
-    row-shifted s.requires.0 (sym z.is_zero_row.ensures ∙ c.if-is_zero_row.true) s.args.t
+    row-shifted c.requires.0 (sym c.is_zero_row.ensures ∙ c.if-is_zero_row.true) c.args.t
 
 pub overflow_mul-r : goal.overflow_mul-r
 overflow_mul-r c = omega (arith, inside (start c))

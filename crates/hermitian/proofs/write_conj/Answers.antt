@@ -24,25 +24,19 @@ size r = subst (λ (l : List ℤ). Within room_numerator (number_of l)) (sym r.r
 
 pub overflow_sub-y : goal.overflow_sub-y
 overflow_sub-y c =
-    let r = c.before.before.before in
-    neg_fits (get_or r.read_number-x.result 2 (pos 0)) (omega (arith, (size r).w2))
+    neg_fits (get_or c.read_number-x.result 2 (pos 0)) (omega (arith, (size c.before.before.before).w2))
 
 pub overflow_sub-y-2 : goal.overflow_sub-y-2
 overflow_sub-y-2 c =
-    let r = c.before.before.before.before in
-    neg_fits (get_or r.read_number-x.result 3 (pos 0)) (omega (arith, (size r).w3))
+    neg_fits (get_or c.read_number-x.result 3 (pos 0)) (omega (arith, (size c.before.before.before.before).w3))
 
 pub returns : goal.returns
 returns c =
-    let w = c.before in
-    let t = w.before.before in
-    let r = t.before.before.before.before in
-    let s = r.before.before in
-    let v = r.read_number-x.result in
-    let p0 = reads (get_or v 0 (pos 0)) t.y-1.given in
-    let p1 = reads (get_or v 1 (pos 0)) t.y-2-1.given in
-    let p2 = neg_back (get_or v 2 (pos 0)) (omega (arith, (size r).w2)) in
-    let p3 = neg_back (get_or v 3 (pos 0)) (omega (arith, (size r).w3)) in
-    w.write_number.ensures
-    ∙ (λ i. sets s.args.s.now s.args.at (p0 i ∷ p1 i ∷ p2 i ∷ p3 i ∷ []))
-    ∙ ap (λ (l : List ℤ). sets s.args.s.now s.args.at (list_of (conjugate root2 (number_of l)))) r.read_number-x.ensures
+    let v = c.read_number-x.result in
+    let p0 = reads (get_or v 0 (pos 0)) c.y-1.given in
+    let p1 = reads (get_or v 1 (pos 0)) c.y-2-1.given in
+    let p2 = neg_back (get_or v 2 (pos 0)) (omega (arith, (size c.before.before.before.before.before.before.before).w2)) in
+    let p3 = neg_back (get_or v 3 (pos 0)) (omega (arith, (size c.before.before.before.before.before.before.before).w3)) in
+    c.write_number.ensures
+    ∙ (λ i. sets c.args.s.now c.args.at (p0 i ∷ p1 i ∷ p2 i ∷ p3 i ∷ []))
+    ∙ ap (λ (l : List ℤ). sets c.args.s.now c.args.at (list_of (conjugate root2 (number_of l)))) c.read_number-x.ensures

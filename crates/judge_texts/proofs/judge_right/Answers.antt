@@ -11,7 +11,7 @@ returns-then-is_accepted c =
     compared-right a.l a.first.now a.right.now a.store.now a.limits a.gates.now a.second.now a.work.now a.out.now e.0
     c.compare-d.result c.put_compared-n.result
     (sym c.is_accepted.ensures ∙ c.if-is_accepted.true) e.1.1.1.0 c.compare-d.ensures c.put_compared-n.ensures.is in
-    (reply, (text, (e.1.1.0, (e.1.1.1.0, e.1.1.1.1))))
+    record { reply = reply; text = text; gates = e.1.1.0; second = e.1.1.1.0; work = e.1.1.1.1 }
 
 pub returns : goal.returns
 returns c =
@@ -20,5 +20,5 @@ returns c =
     let (reply, text) =
     refused-right a.l a.first.now a.right.now a.store.now a.limits a.gates.now a.second.now a.work.now a.out.now e.0
     c.without_entry.result
-    (sym c.is_accepted.ensures ∙ c.if-is_accepted.false) e.1.1.0 c.without_entry.ensures c.refuse-d.ensures.0 c.refuse-d.ensures.1 in
-    (reply, (text, (e.1.1.0, (e.1.1.1.0, e.1.1.1.1))))
+    (sym c.is_accepted.ensures ∙ c.if-is_accepted.false) e.1.1.0 c.without_entry.ensures c.refuse-d.ensures.refusal c.refuse-d.ensures.text in
+    record { reply = reply; text = text; gates = e.1.1.0; second = e.1.1.1.0; work = e.1.1.1.1 }

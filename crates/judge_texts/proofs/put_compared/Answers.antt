@@ -22,18 +22,12 @@ returns-in-Refused c = text (told c.before.before.before.before c.in-Refused.is)
 
 pub returns-in-Same : goal.returns-in-Same
 returns-in-Same c =
-    let p = c.before.before.before in
-    let e = p.before.before in
-    text (told e.before.before.before e.in-Same.is) p.put_same.ensures
+    text (told c.before.before.before.before.before.before.before.before c.in-Same.is) c.put_same.ensures
 
 pub returns-in-Dimensions : goal.returns-in-Dimensions
 returns-in-Dimensions c =
-    let p = c.before.before.before in
-    let e = p.before.before in
-    text (told e.before.before.before e.in-Dimensions.is) p.put_dimensions.ensures
+    text (told c.before.before.before.before.before.before.before.before c.in-Dimensions.is) c.put_dimensions.ensures
 
 pub returns-in-Entry : goal.returns-in-Entry
 returns-in-Entry c =
-    let p = c.before.before.before in
-    let f = p.before.before.before in
-    text (told f.before.before.before f.in-Entry.is) p.put_different.ensures
+    text (told c.before.before.before.before.before.before.before.before.before.before.before c.in-Entry.is) c.put_different.ensures

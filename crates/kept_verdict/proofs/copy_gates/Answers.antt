@@ -21,16 +21,16 @@ use Rattle.kept_verdict.proofs.copy_gates.Tie as tie
 use Rattle.kept_verdict.proofs.copy_gates.Goals as goal
 
 abbrev Then-is_sound : Type 0
-Then-is_sound = lts.Then1 tie.the-claims reads.Pre reads.Post
+Then-is_sound = lts.Then1 tie.the-claims reads.Pre reads.Post tie.handed_clauses
 
 abbrev Start : Type 0
-Start = lts.Start tie.the-claims reads.Pre reads.Post
+Start = lts.Start tie.the-claims reads.Pre reads.Post tie.handed_clauses
 
 abbrev After-follow-count : Type 0
-After-follow-count = lts.After-follow tie.the-claims reads.Pre reads.Post
+After-follow-count = lts.After-follow tie.the-claims reads.Pre reads.Post tie.handed_clauses
 
 abbrev After-are_up_to : Type 0
-After-are_up_to = lts.After-are_up_to tie.the-claims reads.Pre reads.Post
+After-are_up_to = lts.After-are_up_to tie.the-claims reads.Pre reads.Post tie.handed_clauses
 
 -- the counts are sound
 module _ (c : Then-is_sound) where
@@ -64,43 +64,28 @@ up c = sym (c.are_up_to.ensures ∙ ap (λ (n : ℕ). all_up_to (l c.before.befo
 
 pub copy_words-requires : goal.copy_words-requires
 copy_words-requires c =
-    let r = c.before in
-    let u = r.before in
-    let a = u.before in
-    let f = a.before in
-    let t = f.before in
-    (size f, (omega (arith, size f, fits t), (sym a.are_up_to.ensures ∙ u.if-are_up_to.true, r.if-n-out.true)))
+    (size c.before.before.before.before, (omega (arith, size c.before.before.before.before, fits c.before.before.before.before.before), (sym c.are_up_to.ensures ∙ c.if-are_up_to.true, c.if-n-out.true)))
 
 pub returns-then-n-out : goal.returns-then-n-out
 returns-then-n-out c =
-    let p = c.before.before.before in
-    let r = p.before.before in
-    let u = r.before in
-    let a = u.before in
-    let t = a.before.before in
-    let e = copy_answers (l t) (o t) (sound-true t) (up a ∙ u.if-are_up_to.true) (le-leb (copy_size (l t)) (length (o t)) (omega (arith, size a.before, r.if-n-out.true))) in
-    (e, p.copy_words.ensures ∙ ap (λ (v : Verdict). cond (accepted v) (sets (o t) 0 (copied (l t))) (o t)) e)
+    let e = copy_answers (l c.before.before.before.before.before.before.before.before.before) (o c.before.before.before.before.before.before.before.before.before) (sound-true c.before.before.before.before.before.before.before.before.before) (up c.before.before.before.before.before.before.before ∙ c.if-are_up_to.true) (le-leb (copy_size (l c.before.before.before.before.before.before.before.before.before)) (length (o c.before.before.before.before.before.before.before.before.before)) (omega (arith, size c.before.before.before.before.before.before.before.before, c.if-n-out.true))) in
+    record { value = e; out_after = c.copy_words.ensures ∙ ap (λ (v : Verdict). cond (accepted v) (sets (o c.before.before.before.before.before.before.before.before.before) 0 (copied (l c.before.before.before.before.before.before.before.before.before))) (o c.before.before.before.before.before.before.before.before.before)) e }
 
 pub returns-then-are_up_to : goal.returns-then-are_up_to
 returns-then-are_up_to c =
-    let u = c.before.before in
-    let a = u.before in
-    let t = a.before.before in
-    let e = copy_answers (l t) (o t) (sound-true t) (up a ∙ u.if-are_up_to.true) (lt-leb (copy_size (l t)) (length (o t)) (omega (arith, size a.before, c.if-n-out.false))) in
-    (e, ap (λ (v : Verdict). cond (accepted v) (sets (o t) 0 (copied (l t))) (o t)) e)
+    let e = copy_answers (l c.before.before.before.before.before) (o c.before.before.before.before.before) (sound-true c.before.before.before.before.before) (up c.before.before.before ∙ c.if-are_up_to.true) (lt-leb (copy_size (l c.before.before.before.before.before)) (length (o c.before.before.before.before.before)) (omega (arith, size c.before.before.before.before, c.if-n-out.false))) in
+    record { value = e; out_after = ap (λ (v : Verdict). cond (accepted v) (sets (o c.before.before.before.before.before) 0 (copied (l c.before.before.before.before.before))) (o c.before.before.before.before.before)) e }
 
 pub returns-else-are_up_to : goal.returns-else-are_up_to
 returns-else-are_up_to c =
-    let a = c.before.before in
-    let t = a.before.before in
-    let e = copy_answers (l t) (o t) (sound-true t) (up a ∙ c.if-are_up_to.false) refl in
-    (e, ap (λ (v : Verdict). cond (accepted v) (sets (o t) 0 (copied (l t))) (o t)) e)
+    let e = copy_answers (l c.before.before.before.before) (o c.before.before.before.before) (sound-true c.before.before.before.before) (up c.before.before ∙ c.if-are_up_to.false) refl in
+    record { value = e; out_after = ap (λ (v : Verdict). cond (accepted v) (sets (o c.before.before.before.before) 0 (copied (l c.before.before.before.before))) (o c.before.before.before.before)) e }
 
 pub returns-else-is_sound : goal.returns-else-is_sound
 returns-else-is_sound c =
     let s = c.args in
     let e = copy_answers s.words.now s.out.now (sym c.is_sound.ensures ∙ c.if-is_sound.false) refl refl in
-    (e, ap (λ (v : Verdict). cond (accepted v) (sets s.out.now 0 (copied s.words.now)) s.out.now) e)
+    record { value = e; out_after = ap (λ (v : Verdict). cond (accepted v) (sets s.out.now 0 (copied s.words.now)) s.out.now) e }
 
 pub overflow_mul-n : goal.overflow_mul-n
 overflow_mul-n c = omega (arith, size c.before, fits c.before.before)

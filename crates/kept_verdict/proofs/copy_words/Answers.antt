@@ -61,17 +61,14 @@ overflow_cast-out c = record { fits = omega (arith, c.follow-x.ensures, (is c.be
 
 pub loop-k-preserved : goal.loop-k-preserved
 loop-k-preserved c =
-    let t = c.before in
-    (omega (arith, below t), copy_more (l t) (fits t) (s t).args.out.now t.loop-k.out (k t) c.follow-x.result t.loop-k.invariant.1 (omega (arith, below t, (s t).requires.0)) c.follow-x.ensures)
+    (omega (arith, below c.before), copy_more (l c.before) (fits c.before) (s c.before).args.out.now c.loop-k.out (k c.before) c.follow-x.result c.loop-k.invariant.1 (omega (arith, below c.before, (s c.before).requires.0)) c.follow-x.ensures)
 
 pub shape_of-out : goal.shape_of-out
-shape_of-out c = let o = c.before in ap length o.loop-k.invariant.1 ∙ length-sets o.args.out.now 0 (take o.loop-k.k (copied o.args.words.now))
+shape_of-out c = ap length c.loop-k.invariant.1 ∙ length-sets c.args.out.now 0 (take c.loop-k.k (copied c.args.words.now))
 
 pub returns : goal.returns
 returns c =
-    let o = c.before in
-    let b = o.before.before in
-    copy_all b.args.words.now (omega (arith, b.requires.0, b.requires.1.0)) b.args.out.now o.loop-k.out o.loop-k.k o.loop-k.invariant.1 (omega (arith, c.loop-k-test.false, b.requires.0))
+    copy_all c.args.words.now (omega (arith, c.requires.0, c.requires.1.0)) c.args.out.now c.loop-k.out c.loop-k.k c.loop-k.invariant.1 (omega (arith, c.loop-k-test.false, c.requires.0))
 
 pub bounds-out-k : goal.bounds-out-k
 bounds-out-k c = room c.before

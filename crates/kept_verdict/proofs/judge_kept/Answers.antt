@@ -96,20 +96,17 @@ overflow_cast-bits c =
 
 pub judge_numbers-requires : goal.judge_numbers-requires
 judge_numbers-requires c =
-    let r = c.before.before.before in
-    let b = begun r.before in
-    (low b ∙ r.if-matrix-branch.true, r.if-f-l.true)
+    let b = begun c.before.before.before.before in
+    (low b ∙ c.if-matrix-branch.true, c.if-f-l.true)
 
 pub returns-then-f-l : goal.returns-then-f-l
 returns-then-f-l c =
-    let k = c.before.before in
-    let r = k.before.before in
-    let b = begun r.before in
+    let b = begun c.before.before.before.before.before in
     let w = t b in
     let a = (s w).args in
     c.judge_numbers.ensures
-    ∙ (λ i. first_no (number_questions ((f b).footprint_of-f.ensures i) (k.follow-qubits.ensures i) (k.follow-bits.ensures i) a.store.now a.l a.res a.work))
-    ∙ answered w (low b ∙ r.if-matrix-branch.true) (le-leb (gates_of (l w)) a.l.max_operations (omega (arith, gates_is b, r.if-f-l.true)))
+    ∙ (λ i. first_no (number_questions ((f b).footprint_of-f.ensures i) (c.follow-qubits.ensures i) (c.follow-bits.ensures i) a.store.now a.l a.res a.work))
+    ∙ answered w (low b ∙ c.if-matrix-branch.true) (le-leb (gates_of (l w)) a.l.max_operations (omega (arith, gates_is b, c.if-f-l.true)))
 
 pub returns-then-matrix-branch : goal.returns-then-matrix-branch
 returns-then-matrix-branch c =
@@ -118,7 +115,7 @@ returns-then-matrix-branch c =
     answered w (low b ∙ c.if-matrix-branch.true) (lt-leb (gates_of (l w)) (lim w).max_operations (omega (arith, gates_is b, c.if-f-l.false)))
 
 pub returns-then-is_sound : goal.returns-then-is_sound
-returns-then-is_sound c = let b = c.before.before in answered (t b) (low b ∙ c.if-matrix-branch.false) refl
+returns-then-is_sound c = answered (t c.before.before) (low c.before.before ∙ c.if-matrix-branch.false) refl
 
 pub returns : goal.returns
 returns c =

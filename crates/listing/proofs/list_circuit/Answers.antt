@@ -20,13 +20,13 @@ use Rattle.listing.proofs.list_circuit.Tie as tie
 use Rattle.listing.proofs.list_circuit.Goals as goal
 
 abbrev After-circuit_channel-v : Type 0
-After-circuit_channel-v = lts.After-circuit_channel tie.the-claims reads.Pre reads.Post
+After-circuit_channel-v = lts.After-circuit_channel tie.the-claims reads.Pre reads.Post tie.handed_clauses
 
 abbrev After-defaults-limits : Type 0
-After-defaults-limits = lts.After-defaults tie.the-claims reads.Pre reads.Post
+After-defaults-limits = lts.After-defaults tie.the-claims reads.Pre reads.Post tie.handed_clauses
 
 abbrev Start : Type 0
-Start = lts.Start tie.the-claims reads.Pre reads.Post
+Start = lts.Start tie.the-claims reads.Pre reads.Post tie.handed_clauses
 
 module _ (j : After-circuit_channel-v) where
   abbrev known : After-defaults-limits
@@ -62,40 +62,35 @@ module _ (j : After-circuit_channel-v) where
   left = j.circuit_channel-v.last.1.1.1.1.1.0
 
   is : lines_for j.circuit_channel-v.result left ≡ lines_of qubits bits store gates result work
-  is = lines_is qubits bits store gates result work known.defaults-limits.ensures j.circuit_channel-v.ensures.0 j.circuit_channel-v.ensures.1.0
+  is = lines_is qubits bits store gates result work known.defaults-limits.ensures j.circuit_channel-v.ensures.value j.circuit_channel-v.ensures.res_after
 
   result_is : left ≡ result_after qubits bits store ceilings gates result work
-  result_is = j.circuit_channel-v.ensures.1.0 ∙ ap (λ (x : Limits). result_after qubits bits store x gates result work) known.defaults-limits.ensures
+  result_is = j.circuit_channel-v.ensures.res_after ∙ ap (λ (x : Limits). result_after qubits bits store x gates result work) known.defaults-limits.ensures
 
   work_is : j.circuit_channel-v.last.1.1.1.1.1.1.0 ≡ work_after qubits bits store ceilings gates result work
-  work_is = j.circuit_channel-v.ensures.1.1 ∙ ap (λ (x : Limits). work_after qubits bits store x gates result work) known.defaults-limits.ensures
+  work_is = j.circuit_channel-v.ensures.work_after ∙ ap (λ (x : Limits). work_after qubits bits store x gates result work) known.defaults-limits.ensures
 
   -- an accepted call leaves a channel
   formed : accepted j.circuit_channel-v.result ≡ true → well_formed left ≡ true
   formed e =
-      subst (λ (q : List ℤ). well_formed q ≡ true) (sym j.circuit_channel-v.ensures.1.0)
-      (demand2 qubits bits store known.defaults-limits.result gates result work (ap accepted (sym j.circuit_channel-v.ensures.0) ∙ e)).formed
+      subst (λ (q : List ℤ). well_formed q ≡ true) (sym j.circuit_channel-v.ensures.res_after)
+      (demand2 qubits bits store known.defaults-limits.result gates result work (ap accepted (sym j.circuit_channel-v.ensures.value) ∙ e)).formed
 
 pub put_channel-requires : goal.put_channel-requires
-put_channel-requires c = let t = c.before.before.before in formed t.before.before.before.before (sym t.is_accepted.ensures ∙ t.if-is_accepted.true)
+put_channel-requires c = formed c.before.before.before.before.before.before (sym c.is_accepted.ensures ∙ c.if-is_accepted.true)
 
 pub returns-then-is_accepted : goal.returns-then-is_accepted
 returns-then-is_accepted c =
-    let l = c.before.before.before in
-    let t = l.before.before.before in
-    let j = t.before.before.before.before in
-    let e = sym t.is_accepted.ensures ∙ t.if-is_accepted.true in
-    (l.put_channel.ensures.is ∙ ap (write (blank j)) (listed j.circuit_channel-v.result (left j) e ∙ is j), (result_is j, work_is j))
+    let e = sym c.is_accepted.ensures ∙ c.if-is_accepted.true in
+    record { lines = c.put_channel.ensures.is ∙ ap (write (blank c.before.before.before.before.before.before.before.before.before)) (listed c.circuit_channel-v.result (left c.before.before.before.before.before.before.before.before.before) e ∙ is c.before.before.before.before.before.before.before.before.before); res = result_is c.before.before.before.before.before.before.before.before.before; work = work_is c.before.before.before.before.before.before.before.before.before }
 
 pub returns : goal.returns
 returns c =
-    let f = c.before.before.before in
-    let i = f.before in
-    let t = i.before.before.before in
-    let j = t.before.before.before.before in
-    let e = sym t.is_accepted.ensures ∙ t.if-is_accepted.false in (
-      f.write_refusal.ensures
-          ∙ (λ k. write (blank j) (refusal_line (i.number.ensures k) (i.index.ensures k)))
-          ∙ ap (write (blank j)) (refused j.circuit_channel-v.result (left j) e ∙ is j),
-      (result_is j, work_is j),
-    )
+    let e = sym c.is_accepted.ensures ∙ c.if-is_accepted.false in
+    record {
+      lines = c.write_refusal.ensures
+          ∙ (λ k. write (blank c.before.before.before.before.before.before.before.before.before.before.before) (refusal_line (c.number.ensures k) (c.index.ensures k)))
+          ∙ ap (write (blank c.before.before.before.before.before.before.before.before.before.before.before)) (refused c.circuit_channel-v.result (left c.before.before.before.before.before.before.before.before.before.before.before) e ∙ is c.before.before.before.before.before.before.before.before.before.before.before);
+      res = result_is c.before.before.before.before.before.before.before.before.before.before.before;
+      work = work_is c.before.before.before.before.before.before.before.before.before.before.before;
+    }

@@ -36,38 +36,26 @@ zero_at-requires c = c.requires.factor.factor.room
 
 pub returns-then-zero_at : goal.returns-then-zero_at
 returns-then-zero_at c =
-    let z = c.before in
-    let s = z.before in
-    let n = s.args in
-    sym (ap (λ (v : Number). sets n.res.now n.at (list_of v)) (right-none n.res.now n.at n.work.now n.e n.q (number_of n.x) (sym z.zero_at.ensures ∙ c.if-zero_at.true)) ∙ number-there n.res.now n.at)
+    let n = c.args in
+    sym (ap (λ (v : Number). sets n.res.now n.at (list_of v)) (right-none n.res.now n.at n.work.now n.e n.q (number_of n.x) (sym c.zero_at.ensures ∙ c.if-zero_at.true)) ∙ number-there n.res.now n.at)
 
 pub read_scaled-y-requires : goal.read_scaled-y-requires
 read_scaled-y-requires c = c.requires.factor
 
 pub conj_product-p-requires : goal.conj_product-p-requires
 conj_product-p-requires c =
-    let s = c.before.before.before in
-    (x-size s, subst (λ (l : List ℤ). Within narrow_numerator (number_of l)) (sym c.read_scaled-y.ensures) (y-size s))
+    (x-size c.before.before.before, subst (λ (l : List ℤ). Within narrow_numerator (number_of l)) (sym c.read_scaled-y.ensures) (y-size c.before.before.before))
 
 pub sum4-v-requires : goal.sum4-v-requires
-sum4-v-requires c =
-    let p = c.before.before in
-    let r = p.before in
-    let s = r.before.before.before in (
-      subst (λ (l : List ℤ). Within room_numerator (number_of l)) (sym c.read_number-acc.ensures) (roomy (number_in s.args.res.now s.args.at) s.requires.sum),
-      subst (λ (l : List ℤ). Within max_numerator (number_of l)) (sym p.conj_product-p.ensures)
-          (subst (λ (l : List ℤ). Within max_numerator (numbers.◌⊗◌ (number_of s.args.x) (conjugate root2 (number_of l)))) (sym r.read_scaled-y.ensures) (term-size s)),
-    )
+sum4-v-requires c = (
+  subst (λ (l : List ℤ). Within room_numerator (number_of l)) (sym c.read_number-acc.ensures) (roomy (number_in c.args.res.now c.args.at) c.requires.sum),
+  subst (λ (l : List ℤ). Within max_numerator (number_of l)) (sym c.conj_product-p.ensures)
+      (subst (λ (l : List ℤ). Within max_numerator (numbers.◌⊗◌ (number_of c.args.x) (conjugate root2 (number_of l)))) (sym c.read_scaled-y.ensures) (term-size c.before.before.before.before.before)),
+)
 
 pub returns : goal.returns
 returns c =
-    let w = c.before in
-    let f = w.before.before in
-    let a = f.before in
-    let p = a.before.before in
-    let r = p.before in
-    let s = r.before.before.before in
-    w.write_number.ensures
-    ∙ ap (λ (l : List ℤ). sets s.args.res.now s.args.at (list_of (number_of l))) f.sum4-v.ensures
-    ∙ (λ i. sets s.args.res.now s.args.at (list_of (numbers.◌⊕◌ (number_of (a.read_number-acc.ensures i)) (number_of (p.conj_product-p.ensures i)))))
-    ∙ (λ i. sets s.args.res.now s.args.at (list_of (numbers.◌⊕◌ (number_in s.args.res.now s.args.at) (numbers.◌⊗◌ (number_of s.args.x) (conjugate root2 (number_of (r.read_scaled-y.ensures i)))))))
+    c.write_number.ensures
+    ∙ ap (λ (l : List ℤ). sets c.args.res.now c.args.at (list_of (number_of l))) c.sum4-v.ensures
+    ∙ (λ i. sets c.args.res.now c.args.at (list_of (numbers.◌⊕◌ (number_of (c.read_number-acc.ensures i)) (number_of (c.conj_product-p.ensures i)))))
+    ∙ (λ i. sets c.args.res.now c.args.at (list_of (numbers.◌⊕◌ (number_in c.args.res.now c.args.at) (numbers.◌⊗◌ (number_of c.args.x) (conjugate root2 (number_of (c.read_scaled-y.ensures i)))))))

@@ -30,7 +30,7 @@ module _ (t : In-loop-c) where
   q_in : s.args.k + t.loop-c.c * cell_size + cell_size ≤ length s.args.work.now
   q_in = (s.requires.factors t.loop-c.c t.loop-c-test.true).factor.room
 
-  own : Same t.loop-c.result s.args.res.now (s.args.to + t.loop-c.c * 4) 4
+  own : Same t.loop-c.res s.args.res.now (s.args.to + t.loop-c.c * 4) 4
   own = rest t.loop-c.invariant (s.args.to + t.loop-c.c * 4) 4 (le_refl _)
 
   scale : number_of t.read_scaled-x.result ≡ raised_at s.args.e s.args.work.now s.args.p
@@ -41,9 +41,8 @@ zero_at-requires c = c.requires.scale.factor.room
 
 pub returns-then-zero_at : goal.returns-then-zero_at
 returns-then-zero_at c =
-    let z = c.before in
-    let n = z.args in
-    sym (numbers-there n.res.now n.to n.n _ (λ i h. left-none n.res.now (n.to + i * 4) n.work.now n.e (n.k + i * cell_size) n.p (sym z.zero_at.ensures ∙ c.if-zero_at.true)))
+    let n = c.args in
+    sym (numbers-there n.res.now n.to n.n _ (λ i h. left-none n.res.now (n.to + i * 4) n.work.now n.e (n.k + i * cell_size) n.p (sym c.zero_at.ensures ∙ c.if-zero_at.true)))
 
 pub read_scaled-x-requires : goal.read_scaled-x-requires
 read_scaled-x-requires c = c.requires.scale
@@ -53,24 +52,21 @@ loop-c-init c = begin (λ k. le_refl 4)
 
 pub add_number-requires : goal.add_number-requires
 add_number-requires c =
-    let t = c.before in
-    let i = t.loop-c.c in
-    let h = t.loop-c-test.true in
-    let n = (s t).args in
+    let i = c.loop-c.c in
+    let h = c.loop-c-test.true in
+    let n = (s c.before).args in
     record {
-      room = omega (arith, (s t).requires.room, long t.loop-c.invariant);
-      sum = subst (λ (z : Number). Within max_numerator z) (sym (number_same (own t))) ((s t).requires.sums i h);
-      scale = subst (λ (z : Number). Within (1 * 2 ^ n.e) z) (sym (scale t)) (raised-within n.work.now n.p n.e (s t).requires.scale);
-      factor = (s t).requires.factors i h;
+      room = omega (arith, (s c.before).requires.room, long c.loop-c.invariant);
+      sum = subst (λ (z : Number). Within max_numerator z) (sym (number_same (own c.before))) ((s c.before).requires.sums i h);
+      scale = subst (λ (z : Number). Within (1 * 2 ^ n.e) z) (sym (scale c.before)) (raised-within n.work.now n.p n.e (s c.before).requires.scale);
+      factor = (s c.before).requires.factors i h;
     }
 
 pub loop-c-preserved : goal.loop-c-preserved
 loop-c-preserved c =
-    let a = c.before in
-    let t = a.before.before in
-    let n = (s t).args in
-    again t.loop-c.invariant t.loop-c-test.true a.add_number.ensures
-    (ap list_of (λ i. numbers.◌⊕◌ (number_same (own t) i) (numbers.◌⊗◌ (scale t i) (conjugate root2 (raised_at n.e n.work.now (n.k + t.loop-c.c * cell_size))))))
+    let n = (s c.before.before.before).args in
+    again c.loop-c.invariant c.loop-c-test.true c.add_number.ensures
+    (ap list_of (λ i. numbers.◌⊕◌ (number_same (own c.before.before.before) i) (numbers.◌⊗◌ (scale c.before.before.before i) (conjugate root2 (raised_at n.e n.work.now (n.k + c.loop-c.c * cell_size))))))
 
 pub returns : goal.returns
 returns c = done c.loop-c.invariant c.loop-c-test.false

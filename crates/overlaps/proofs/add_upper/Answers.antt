@@ -33,14 +33,11 @@ loop-r-init c = let s = c.args in (omega arith, no_rows s.res.now s.out s.w _)
 
 pub add_row-requires : goal.add_row-requires
 add_row-requires c =
-    let t = c.before in
-    row_asks (s t).requires t.loop-r-test.true t.loop-r.invariant.1
+    row_asks (s c.before).requires c.loop-r-test.true c.loop-r.invariant.1
 
 pub loop-r-preserved : goal.loop-r-preserved
 loop-r-preserved c =
-    let a = c.before in
-    let t = a.before.before in
-    (omega arith, row_more (s t).requires t.loop-r-test.true t.loop-r.invariant.1 a.add_row.ensures)
+    (omega arith, row_more (s c.before.before.before).requires c.loop-r-test.true c.loop-r.invariant.1 c.add_row.ensures)
 
 pub returns : goal.returns
 returns c =

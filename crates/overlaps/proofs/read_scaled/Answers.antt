@@ -38,9 +38,8 @@ pub overflow_sub-e : goal.overflow_sub-e
 overflow_sub-e c = omega (arith, below c.before.before)
 
 pub scaled4-requires : goal.scaled4-requires
-scaled4-requires c = let r = c.before.before in (omega (arith, (s r).requires.small), size r)
+scaled4-requires c = (omega (arith, (s c.before.before).requires.small), size c.before.before)
 
 pub returns : goal.returns
 returns c =
-    let r = c.before.before.before in
-    c.scaled4.ensures ∙ ap (λ (v : Scalar). list_of (scaled (value v).num ((s r).args.e - v.e))) r.read_cell-v.ensures
+    c.scaled4.ensures ∙ ap (λ (v : Scalar). list_of (scaled (value v).num ((s c.before.before.before).args.e - v.e))) c.read_cell-v.ensures

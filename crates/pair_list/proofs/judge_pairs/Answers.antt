@@ -16,13 +16,13 @@ abbrev Else-not-is_framed : Type 0
 Else-not-is_framed = lts.Else1 tie.the-claims reads.Pre reads.Post goal.the-invariant-loop-i goal.the-decreases-loop-i
 
 -- a pair that is there
-is-there : (c : Else-not-is_framed) → let l = c.before.before.before in let a = l.args in
-    framed a.words.now a.stores.now l.loop-i.at l.loop-i.from ≡ true
+is-there : (c : Else-not-is_framed) → let a = c.args in
+    framed a.words.now a.stores.now c.loop-i.at c.loop-i.from ≡ true
 is-there c = sym c.is_framed.ensures ∙ c.if-not-is_framed.false
 
-there : (c : Else-not-is_framed) → let l = c.before.before.before in let a = l.args in
-    Framed a.words.now a.stores.now l.loop-i.at l.loop-i.from
-there c = let l = c.before.before.before in let a = l.args in framed-room a.words.now a.stores.now l.loop-i.at l.loop-i.from (is-there c)
+there : (c : Else-not-is_framed) → let a = c.args in
+    Framed a.words.now a.stores.now c.loop-i.at c.loop-i.from
+there c = let a = c.args in framed-room a.words.now a.stores.now c.loop-i.at c.loop-i.from (is-there c)
 
 pub loop-i-init : goal.loop-i-init
 loop-i-init c = let a = c.args in walk_none a.words.now a.stores.now a.count
@@ -32,9 +32,8 @@ is_framed-requires c = (c.loop-i.invariant.words, c.loop-i.invariant.bytes)
 
 pub returns-then-not-is_framed : goal.returns-then-not-is_framed
 returns-then-not-is_framed c =
-    let t = c.before.before.before in
-    let a = t.args in
-    walk_stop a.words.now a.stores.now t.loop-i.invariant t.loop-i-test.true (sym c.is_framed.ensures ∙ c.if-not-is_framed.true)
+    let a = c.args in
+    walk_stop a.words.now a.stores.now c.loop-i.invariant c.loop-i-test.true (sym c.is_framed.ensures ∙ c.if-not-is_framed.true)
 
 pub pair_bytes-from-requires : goal.pair_bytes-from-requires
 pair_bytes-from-requires c = (there c.before).head
@@ -56,19 +55,15 @@ loop-i-smaller c = omega arith
 
 pub loop-i-preserved : goal.loop-i-preserved
 loop-i-preserved c =
-    let e = c.before.before.before in
-    let t = e.before.before in
-    let a = t.args in
-    walk_more a.words.now a.stores.now t.loop-i.invariant t.loop-i-test.true (is-there e) c.pair_words-at.ensures c.pair_bytes-from.ensures
+    let a = c.args in
+    walk_more a.words.now a.stores.now c.loop-i.invariant c.loop-i-test.true (is-there c.before.before.before) c.pair_words-at.ensures c.pair_bytes-from.ensures
 
 pub returns-then-at-words : goal.returns-then-at-words
 returns-then-at-words c =
-    let l = c.before.before.before in
-    let a = l.args in
-    sym (walk_end a.words.now a.stores.now l.loop-i.invariant c.loop-i-test.false c.if-at-words.true)
+    let a = c.args in
+    sym (walk_end a.words.now a.stores.now c.loop-i.invariant c.loop-i-test.false c.if-at-words.true)
 
 pub returns : goal.returns
 returns c =
-    let l = c.before.before.before in
-    let a = l.args in
-    sym (walk_end a.words.now a.stores.now l.loop-i.invariant c.loop-i-test.false c.if-at-words.false)
+    let a = c.args in
+    sym (walk_end a.words.now a.stores.now c.loop-i.invariant c.loop-i-test.false c.if-at-words.false)

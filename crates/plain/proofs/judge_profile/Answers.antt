@@ -31,16 +31,14 @@ tested c =
 
 pub returns-then-i-words : goal.returns-then-i-words
 returns-then-i-words c =
-    let x = c.before.before in
-    let a = x.args in
+    let a = c.args in
     sym (words-settled a.n a.bits a.l a.words.now
-    ∙ ap (λ (b : Bool). cond b (NotPlainAt (first_outside a.words.now)) (first_no (word_questions a.n a.bits a.l a.words.now))) (tested x ∙ c.if-i-words.true)
-    ∙ ap NotPlainAt (sym x.first_outside-i.ensures))
+    ∙ ap (λ (b : Bool). cond b (NotPlainAt (first_outside a.words.now)) (first_no (word_questions a.n a.bits a.l a.words.now))) (tested c.before.before ∙ c.if-i-words.true)
+    ∙ ap NotPlainAt (sym c.first_outside-i.ensures))
 
 pub returns : goal.returns
 returns c =
-    let x = c.before.before in
-    let a = x.args in
-    x.judge_words-v.ensures
+    let a = c.args in
+    c.judge_words-v.ensures
     ∙ sym (words-settled a.n a.bits a.l a.words.now
-    ∙ ap (λ (b : Bool). cond b (NotPlainAt (first_outside a.words.now)) (first_no (word_questions a.n a.bits a.l a.words.now))) (tested x ∙ c.if-i-words.false))
+    ∙ ap (λ (b : Bool). cond b (NotPlainAt (first_outside a.words.now)) (first_no (word_questions a.n a.bits a.l a.words.now))) (tested c.before.before ∙ c.if-i-words.false))

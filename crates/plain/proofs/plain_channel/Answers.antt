@@ -18,43 +18,29 @@ use Rattle.plain.proofs.plain_channel.Tie as tie
 use Rattle.plain.proofs.plain_channel.Goals as goal
 
 abbrev Then-is_accepted : Type 0
-Then-is_accepted = lts.Then1 tie.the-claims reads.Pre reads.Post
+Then-is_accepted = lts.Then1 tie.the-claims reads.Pre reads.Post tie.handed_clauses
 
 -- the words pass: the verdict is that of circuit_channel
 passed : (c : Then-is_accepted) → let a = c.args in
     plain_verdict_of a.qubits a.bits a.store.now a.limits a.gates.now a.res.now a.work.now
     ≡ verdict_of a.qubits a.bits a.store.now a.limits a.gates.now a.res.now a.work.now
 passed c =
-    let j = c.before.before in
-    let a = j.args in
+    let a = c.args in
     as_channel a.qubits a.bits a.limits a.gates.now a.store.now (length a.res.now) (length a.work.now)
-    (sym (ap accepted j.judge_profile-v.ensures) ∙ sym c.is_accepted.ensures ∙ c.if-is_accepted.true)
+    (sym (ap accepted c.judge_profile-v.ensures) ∙ sym c.is_accepted.ensures ∙ c.if-is_accepted.true)
 
 pub returns-then-is_accepted : goal.returns-then-is_accepted
 returns-then-is_accepted c =
-    let d = c.before.before.before in
-    let t = d.before.before.before in
-    let a = t.args in (
-      d.circuit_channel.ensures.0 ∙ sym (passed t),
-      (
-        d.circuit_channel.ensures.1.0 ∙ sym (same_result a.qubits a.bits a.store.now a.limits a.gates.now a.res.now a.work.now (passed t)),
-        d.circuit_channel.ensures.1.1 ∙ sym (same_work a.qubits a.bits a.store.now a.limits a.gates.now a.res.now a.work.now (passed t)),
-      ),
-    )
+    let a = c.args in
+    record { value = c.circuit_channel.ensures.value ∙ sym (passed c.before.before.before.before.before.before); res_after = c.circuit_channel.ensures.res_after ∙ sym (same_result a.qubits a.bits a.store.now a.limits a.gates.now a.res.now a.work.now (passed c.before.before.before.before.before.before)); work_after = c.circuit_channel.ensures.work_after ∙ sym (same_work a.qubits a.bits a.store.now a.limits a.gates.now a.res.now a.work.now (passed c.before.before.before.before.before.before)) }
 
 pub returns : goal.returns
 returns c =
-    let j = c.before.before.before in
-    let a = j.args in
-    let no : accepted j.judge_profile-v.result ≡ false = sym c.is_accepted.ensures ∙ c.if-is_accepted.false in
+    let a = c.args in
+    let no : accepted c.judge_profile-v.result ≡ false = sym c.is_accepted.ensures ∙ c.if-is_accepted.false in
     let v = after_no (plain_word_questions a.qubits a.bits a.limits a.gates.now)
     (number_questions (footprint_of a.bits (gates_of a.gates.now)) a.qubits a.bits a.store.now a.limits (length a.res.now) (length a.work.now))
-    (plain-words_refuse a.qubits a.bits a.limits a.gates.now) j.judge_profile-v.ensures no in
+    (plain-words_refuse a.qubits a.bits a.limits a.gates.now) c.judge_profile-v.ensures no in
     let q = result_after a.qubits a.bits a.store.now a.limits a.gates.now a.res.now a.work.now in
-    let x = work_after a.qubits a.bits a.store.now a.limits a.gates.now a.res.now a.work.now in (
-      v,
-      (
-        sym (ap (λ (b : Bool). cond b q a.res.now) (sym (ap accepted v) ∙ no)),
-        sym (ap (λ (b : Bool). cond b x a.work.now) (sym (ap accepted v) ∙ no)),
-      ),
-    )
+    let x = work_after a.qubits a.bits a.store.now a.limits a.gates.now a.res.now a.work.now in
+    record { value = v; res_after = sym (ap (λ (b : Bool). cond b q a.res.now) (sym (ap accepted v) ∙ no)); work_after = sym (ap (λ (b : Bool). cond b x a.work.now) (sym (ap accepted v) ∙ no)) }

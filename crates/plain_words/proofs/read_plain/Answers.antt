@@ -2,4 +2,4 @@
 use Rattle.plain_words.proofs.read_plain.Goals as goal
 
 pub returns : goal.returns
-returns c = (c.read_form.ensures.0, c.read_form.ensures.1)
+returns c = record { verdict = c.read_form.ensures.verdict; words = c.read_form.ensures.words }

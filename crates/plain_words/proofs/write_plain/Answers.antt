@@ -2,4 +2,4 @@
 use Rattle.plain_words.proofs.write_plain.Goals as goal
 
 pub returns : goal.returns
-returns c = (c.write_form.ensures.0, c.write_form.ensures.1)
+returns c = record { verdict = c.write_form.ensures.verdict; words = c.write_form.ensures.words }

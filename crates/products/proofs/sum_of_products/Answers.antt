@@ -50,36 +50,32 @@ product-v-requires c = let s = start c.before in (factor_within (value s.args.y)
 
 pub aligned_sum-requires : goal.aligned_sum-requires
 aligned_sum-requires c =
-    let m = c.before in
-    let a = (s m).args in
+    let a = (s c.before).args in
     let e = a.x.e + a.p.e in
     let f = a.y.e + a.q.e in
-    (omega arith, (omega (arith, right-low m), (roomy _ (small f _ (right-low m) (raised 8 e f _ (omega arith) (left m))), small f _ (right-low m) (right m))))
+    (omega arith, (omega (arith, right-low c.before), (roomy _ (small f _ (right-low c.before) (raised 8 e f _ (omega arith) (left c.before))), small f _ (right-low c.before) (right c.before))))
 
 pub aligned_sum-requires-else-e-f : goal.aligned_sum-requires-else-e-f
 aligned_sum-requires-else-e-f c =
-    let m = c.before in
-    let a = (s m).args in
+    let a = (s c.before).args in
     let e = a.x.e + a.p.e in
     let f = a.y.e + a.q.e in
-    (omega arith, (omega (arith, left-low m), (roomy _ (small e _ (left-low m) (raised 8 f e _ (omega arith) (right m))), small e _ (left-low m) (left m))))
+    (omega arith, (omega (arith, left-low c.before), (roomy _ (small e _ (left-low c.before) (raised 8 f e _ (omega arith) (right c.before))), small e _ (left-low c.before) (left c.before))))
 
 pub returns-then-e-f : goal.returns-then-e-f
 returns-then-e-f c =
-    let m = c.before.before in
-    let a = (s m).args in
+    let a = (s c.before.before).args in
     let u = by numbers (value a.x) (value a.p) in
     let v = by numbers (value a.y) (value a.q) in
     c.aligned_sum.ensures
-    ∙ (λ i. scalar_of (exact.◌⊕◌ (frac (number_of (m.product-u.ensures i)) u.exp) (frac (number_of (m.product-v.ensures i)) v.exp)))
+    ∙ (λ i. scalar_of (exact.◌⊕◌ (frac (number_of (c.product-u.ensures i)) u.exp) (frac (number_of (c.product-v.ensures i)) v.exp)))
     ∙ ap scalar_of (sym (fused_both (value a.x) (value a.p) (value a.y) (value a.q)))
 
 pub returns-else-e-f : goal.returns-else-e-f
 returns-else-e-f c =
-    let m = c.before.before in
-    let a = (s m).args in
+    let a = (s c.before.before).args in
     let u = by numbers (value a.x) (value a.p) in
     let v = by numbers (value a.y) (value a.q) in
     c.aligned_sum-else-e-f.ensures
-    ∙ (λ i. scalar_of (exact.◌⊕◌ (frac (number_of (m.product-v.ensures i)) v.exp) (frac (number_of (m.product-u.ensures i)) u.exp)))
+    ∙ (λ i. scalar_of (exact.◌⊕◌ (frac (number_of (c.product-v.ensures i)) v.exp) (frac (number_of (c.product-u.ensures i)) u.exp)))
     ∙ ap scalar_of (exacts.add_comm v u ∙ sym (fused_both (value a.x) (value a.p) (value a.y) (value a.q)))

@@ -26,9 +26,8 @@ product-z-requires c = let s = start c in (factor_within (value s.args.x) s.requ
 
 pub returns : goal.returns
 returns c =
-    let m = c.before in
-    let a = (start m.before).args in
-    c.reduce.ensures ∙ ap (λ (l : List ℤ). scalar_of (lowest (number_of l) (a.x.e + a.y.e))) m.product-z.ensures
+    let a = (start c.before.before).args in
+    c.reduce.ensures ∙ ap (λ (l : List ℤ). scalar_of (lowest (number_of l) (a.x.e + a.y.e))) c.product-z.ensures
 
 pub reduce-requires : goal.reduce-requires
 reduce-requires c = let s = start c.before in omega (arith, s.requires.0.exponent, s.requires.1.exponent)

@@ -12,7 +12,7 @@ abbrev After-entry_size : Type 0
 After-entry_size = lts.After-entry_size tie.the-claims reads.Pre reads.Post
 
 small : (c : After-entry_size) → c.row_start.result * c.entry_size.result ≤ 262144
-small c = let s = c.before.before in subst (λ (k : ℕ). k ≤ 262144) (sym (λ i. c.row_start.ensures i * c.entry_size.ensures i)) (words_small s.args.w s.args.f.half s.args.f.plain s.requires)
+small c = subst (λ (k : ℕ). k ≤ 262144) (sym (λ i. c.row_start.ensures i * c.entry_size.ensures i)) (words_small c.args.w c.args.f.half c.args.f.plain c.requires)
 
 pub overflow_mul-result : goal.overflow_mul-result
 overflow_mul-result c = let q = small c in omega arith

@@ -45,15 +45,15 @@ module _ (c : After-first_column-skipped) where
   place : start.args.out + c.row_start-start.result * size ≡ start.args.out + row_start G r * entry_size start.args.to.plain
   place = λ i. start.args.out + c.row_start-start.ensures i * turn.entry_size-size.ensures i
 
-  same : length turn.loop-r.result ≡ length start.args.res.now
+  same : length turn.loop-r.res ≡ length start.args.res.now
   same = rows_long G (numbers_at (form_of start.args.w start.args.f) start.args.s.now start.args.at) turn.loop-r.invariant
 
-  room : start.args.out + c.row_start-start.result * size + (start.args.w - c.first_column-skipped.result) * entry_size start.args.to.plain ≤ length turn.loop-r.result
+  room : start.args.out + c.row_start-start.result * size + (start.args.w - c.first_column-skipped.result) * entry_size start.args.to.plain ≤ length turn.loop-r.res
   room =
-      subst (λ (n : ℕ). n ≤ length turn.loop-r.result) (sym (λ i. place i + (start.args.w - c.first_column-skipped.ensures i) * entry_size start.args.to.plain))
+      subst (λ (n : ℕ). n ≤ length turn.loop-r.res) (sym (λ i. place i + (start.args.w - c.first_column-skipped.ensures i) * entry_size start.args.to.plain))
       (by (row_start G r * entry_size start.args.to.plain) ((start.args.w - from G r) * entry_size start.args.to.plain) (block_size G) (row_room G r row start.requires.0.width) start.requires.1 same)
     where
-      by : (a b n : ℕ) → a + b ≤ n → start.args.out + n ≤ length start.args.res.now → length turn.loop-r.result ≡ length start.args.res.now → start.args.out + a + b ≤ length turn.loop-r.result
+      by : (a b n : ℕ) → a + b ≤ n → start.args.out + n ≤ length start.args.res.now → length turn.loop-r.res ≡ length start.args.res.now → start.args.out + a + b ≤ length turn.loop-r.res
       by a b n p q e = omega arith
 
   skips : c.first_column-skipped.result ≤ start.args.w
@@ -76,7 +76,7 @@ pub overflow_add-out : goal.overflow_add-out
 overflow_add-out c = let q = room c.before in let e = same c.before in omega arith
 
 pub copy_row-requires : goal.copy_row-requires
-copy_row-requires c = let k = c.before in ((start k).requires.0, (row k, (skips k, room k)))
+copy_row-requires c = ((start c.before).requires.0, (row c.before, (skips c.before, room c.before)))
 
 pub overflow_add-r : goal.overflow_add-r
 overflow_add-r c = let q = row c.before.before.before in omega arith
@@ -86,13 +86,11 @@ loop-r-smaller c = let q = row c.before.before.before in omega arith
 
 pub loop-r-preserved : goal.loop-r-preserved
 loop-r-preserved c =
-    let w = c.before in
-    let k = w.before.before in
-    let s = (start k).args in
-    rows_again (form_of s.w s.to) (numbers_at (form_of s.w s.f) s.s.now s.at) (turn k).loop-r.invariant (row k)
-    (w.copy_row.ensures
-    ∙ (λ i. blocks (entry_size s.to.plain) (turn k).loop-r.result (place k i) (s.w - k.first_column-skipped.ensures i)
-    (λ (j : ℕ). entry_words s.to.plain (numbers_at (form_of s.w s.f) s.s.now s.at (r k * s.w + (k.first_column-skipped.ensures i + j))))))
+    let s = (start c.before.before.before).args in
+    rows_again (form_of s.w s.to) (numbers_at (form_of s.w s.f) s.s.now s.at) (turn c.before.before.before).loop-r.invariant (row c.before.before.before)
+    (c.copy_row.ensures
+    ∙ (λ i. blocks (entry_size s.to.plain) (turn c.before.before.before).loop-r.res (place c.before.before.before i) (s.w - c.first_column-skipped.ensures i)
+    (λ (j : ℕ). entry_words s.to.plain (numbers_at (form_of s.w s.f) s.s.now s.at (r c.before.before.before * s.w + (c.first_column-skipped.ensures i + j))))))
 
 pub shape_of-res : goal.shape_of-res
 shape_of-res c = let s = c.args in rows_long (form_of s.w s.to) (numbers_at (form_of s.w s.f) s.s.now s.at) c.loop-r.invariant

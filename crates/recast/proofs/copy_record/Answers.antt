@@ -24,16 +24,12 @@ start c = c.before.before.before.before
 
 pub returns : goal.returns
 returns c =
-    let b = c.before in
-    let p = b.before.before.before in
-    let k = p.before in
-    let x = k.before.before in
-    let s = (start x).args in
+    let s = (start c.before.before.before.before.before.before.before).args in
     let l = s.s.now in
     let F = form_of s.w s.f in
     let G = form_of s.w s.to in
-    let four = p.put_four.ensures
+    let four = c.put_four.ensures
     ∙ (λ i. sets s.res.now s.out
-    ((reads k.relinked.result k.relinked.type_inv ∙ k.relinked.ensures ∙ ap (relink F G) (reads (word l s.at) x.next-1.given)) i
-    ∷ reads (word l (s.at + 1)) x.low-1.given i ∷ reads (word l (s.at + 2)) x.high-1.given i ∷ reads (word l (s.at + 3)) x.exponent-1.given i ∷ [])) in
-    append_block s.res.now (relink F G (word l s.at) ∷ word l (s.at + 1) ∷ word l (s.at + 2) ∷ word l (s.at + 3) ∷ []) (block_words G (numbers_at F l s.at)) s.out 4 refl four b.copy_block.ensures
+    ((reads c.relinked.result c.relinked.type_inv ∙ c.relinked.ensures ∙ ap (relink F G) (reads (word l s.at) c.next-1.given)) i
+    ∷ reads (word l (s.at + 1)) c.low-1.given i ∷ reads (word l (s.at + 2)) c.high-1.given i ∷ reads (word l (s.at + 3)) c.exponent-1.given i ∷ [])) in
+    append_block s.res.now (relink F G (word l s.at) ∷ word l (s.at + 1) ∷ word l (s.at + 2) ∷ word l (s.at + 3) ∷ []) (block_words G (numbers_at F l s.at)) s.out 4 refl four c.copy_block.ensures

@@ -81,12 +81,11 @@ overflow_add-j-in-loop-j c = let q = room c.before in omega arith
 
 pub copy_record-requires : goal.copy_record-requires
 copy_record-requires c =
-    let n = c.before in
-    let s = start n in (
-      subst (Readable (F n) s.args.s.now) (sym (at n)) (readable n),
+    let s = start c.before in (
+      subst (Readable (F c.before) s.args.s.now) (sym (at c.before)) (readable c.before),
       (
-        subst (λ (a : ℕ). Linked (F n) (G n) (word s.args.s.now a)) (sym (at n)) (s.requires.0.next (j n) n.loop-j-test.true),
-        subst (λ (k : ℕ). header_size + j n * n.record_size-there.result + record_size (G n) ≤ k) (sym (long n.loop-j.invariant)) (room n),
+        subst (λ (a : ℕ). Linked (F c.before) (G c.before) (word s.args.s.now a)) (sym (at c.before)) (s.requires.0.next (j c.before) c.loop-j-test.true),
+        subst (λ (k : ℕ). header_size + j c.before * c.record_size-there.result + record_size (G c.before) ≤ k) (sym (long c.loop-j.invariant)) (room c.before),
       ),
     )
 
@@ -98,12 +97,10 @@ loop-j-smaller c = omega arith
 
 pub loop-j-preserved : goal.loop-j-preserved
 loop-j-preserved c =
-    let w = c.before in
-    let n = w.before.before in
-    let s = (start n).args in
-    let recorded = recast_record (F n) (G n) s.s.now in
-    let from = header_size + j n * n.record_size-here.result in
-    again n.loop-j.invariant n.loop-j-test.true (w.copy_record.ensures ∙ ap (λ (a : ℕ). sets n.loop-j.result a (recorded from)) (to n)) (ap recorded (at n))
+    let s = (start c.before.before.before).args in
+    let recorded = recast_record (F c.before.before.before) (G c.before.before.before) s.s.now in
+    let from = header_size + j c.before.before.before * c.record_size-here.result in
+    again c.loop-j.invariant c.loop-j-test.true (c.copy_record.ensures ∙ ap (λ (a : ℕ). sets c.loop-j.res a (recorded from)) (to c.before.before.before)) (ap recorded (at c.before.before.before))
 
 pub shape_of-res : goal.shape_of-res
 shape_of-res c = long c.loop-j.invariant

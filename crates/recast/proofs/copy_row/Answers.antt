@@ -36,11 +36,11 @@ module _ (c : In-loop-j) where
   column : start.args.skipped + j < start.args.w
   column = let t : j < start.args.w - start.args.skipped = c.loop-j-test.true in omega (arith, start.requires.1.1.0)
 
-  room : start.args.out + j * size + entry_size start.args.plain ≤ length c.loop-j.result
-  room = subst (λ (k : ℕ). start.args.out + j * k + entry_size start.args.plain ≤ length c.loop-j.result) (sym c.entry_size-size.ensures)
+  room : start.args.out + j * size + entry_size start.args.plain ≤ length c.loop-j.res
+  room = subst (λ (k : ℕ). start.args.out + j * k + entry_size start.args.plain ≤ length c.loop-j.res) (sym c.entry_size-size.ensures)
       (by (entry_size start.args.plain) (start.args.w - start.args.skipped) (block_in_lem c.loop-j-test.true (entry_size start.args.plain)) start.requires.1.1.1 (long c.loop-j.invariant))
     where
-      by : (k n : ℕ) → j * k + k ≤ n * k → start.args.out + n * k ≤ length start.args.res.now → length c.loop-j.result ≡ length start.args.res.now → start.args.out + j * k + k ≤ length c.loop-j.result
+      by : (k n : ℕ) → j * k + k ≤ n * k → start.args.out + n * k ≤ length start.args.res.now → length c.loop-j.res ≡ length start.args.res.now → start.args.out + j * k + k ≤ length c.loop-j.res
       by k n p q e = omega arith
 
 pub overflow_sub-n : goal.overflow_sub-n
@@ -72,13 +72,10 @@ loop-j-smaller c = omega arith
 
 pub loop-j-preserved : goal.loop-j-preserved
 loop-j-preserved c =
-    let w = c.before in
-    let x = w.before.before in
-    let n = x.before in
-    let s = (start n).args in
-    again n.loop-j.invariant n.loop-j-test.true
-    (w.write_number.ensures ∙ ap (λ (k : ℕ). sets n.loop-j.result (s.out + j n * k) (entry_words s.plain (number_of x.read_number-x.result))) n.entry_size-size.ensures)
-    (ap (λ (y : List ℤ). entry_words s.plain (number_of y)) x.read_number-x.ensures)
+    let s = (start c.before.before.before.before).args in
+    again c.loop-j.invariant c.loop-j-test.true
+    (c.write_number.ensures ∙ ap (λ (k : ℕ). sets c.loop-j.res (s.out + j c.before.before.before.before * k) (entry_words s.plain (number_of c.read_number-x.result))) c.entry_size-size.ensures)
+    (ap (λ (y : List ℤ). entry_words s.plain (number_of y)) c.read_number-x.ensures)
 
 pub shape_of-res : goal.shape_of-res
 shape_of-res c = long c.loop-j.invariant

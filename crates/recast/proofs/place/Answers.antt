@@ -31,13 +31,12 @@ module _ (c : After-entry_size-size) where
   size_small = subst (λ (k : ℕ). k ≤ 4) (sym c.entry_size-size.ensures) (entry-most start.args.f.plain)
 
 pub overflow_add-result : goal.overflow_add-result
-overflow_add-result c = let q = start_small c in let s = c.before.before.before in omega (arith, s.requires.col, s.requires.width)
+overflow_add-result c = let q = start_small c in omega (arith, c.requires.col, c.requires.width)
 
 pub overflow_mul-result : goal.overflow_mul-result
 overflow_mul-result c = let q = cells-small c in let p = size_small c in omega (arith, mul-le-mul q p)
 
 pub returns : goal.returns
 returns c =
-    let k = c.before in
-    let s = k.args in
-    λ i. (k.row_start-start.ensures i + (s.c - k.first_column-skipped.ensures i)) * c.entry_size-size.ensures i
+    let s = c.args in
+    λ i. (c.row_start-start.ensures i + (s.c - c.first_column-skipped.ensures i)) * c.entry_size-size.ensures i

@@ -18,22 +18,21 @@ use Rattle.recast.proofs.read_kept.Goals as goal
 abbrev Else-plain : Type 0
 Else-plain = lts.Else1 reads.Pre reads.Post
 
-four : (c : Else-plain) → (let s = c.before.before.before in s.args.p + 4 ≤ length s.args.s.now)
-four c = let s = c.before.before.before in subst (λ (q : Bool). s.args.p + entry_size q ≤ length s.args.s.now) c.if-plain.false s.requires
+four : (c : Else-plain) → (c.args.p + 4 ≤ length c.args.s.now)
+four c = subst (λ (q : Bool). c.args.p + entry_size q ≤ length c.args.s.now) c.if-plain.false c.requires
 
 pub bounds-s-p : goal.bounds-s-p
 bounds-s-p c = omega (arith, entry-least c.args.plain, c.requires)
 
 pub bounds-s-p-2 : goal.bounds-s-p-2
-bounds-s-p-2 c = let s = c.before in omega (arith, entry-least s.args.plain, s.requires)
+bounds-s-p-2 c = omega (arith, entry-least c.args.plain, c.requires)
 
 pub returns-then-plain : goal.returns-then-plain
 returns-then-plain c =
-    let b = c.before in
-    let l = b.args.s.now in
-    let p = b.args.p in
-    let p0 = reads (word l p) b.a-1.given ∙ ap (word l) (sym (add-zero p)) in
-    let p1 = reads (word l (p + 1)) b.b-1.given in
+    let l = c.args.s.now in
+    let p = c.args.p in
+    let p0 = reads (word l p) c.a-1.given ∙ ap (word l) (sym (add-zero p)) in
+    let p1 = reads (word l (p + 1)) c.b-1.given in
     (λ i. p0 i ∷ pos 0 ∷ p1 i ∷ pos 0 ∷ []) ∙ sym (ap (λ (q : Bool). list_of (entry_from q (λ (i : ℕ). word l (p + i)))) c.if-plain.true)
 
 pub bounds-s-p-3 : goal.bounds-s-p-3
@@ -44,12 +43,10 @@ bounds-s-p-4 c = let q = four c.before in omega arith
 
 pub returns : goal.returns
 returns c =
-    let e = c.before.before in
-    let b = e.before in
-    let l = b.args.s.now in
-    let p = b.args.p in
-    let p0 = reads (word l p) b.a-1.given ∙ ap (word l) (sym (add-zero p)) in
-    let p1 = reads (word l (p + 1)) b.b-1.given in
+    let l = c.args.s.now in
+    let p = c.args.p in
+    let p0 = reads (word l p) c.a-1.given ∙ ap (word l) (sym (add-zero p)) in
+    let p1 = reads (word l (p + 1)) c.b-1.given in
     let p2 = reads (word l (p + 2)) c.c-1.given in
     let p3 = reads (word l (p + 3)) c.d-1.given in
-    (λ i. p0 i ∷ p1 i ∷ p2 i ∷ p3 i ∷ []) ∙ sym (ap (λ (q : Bool). list_of (entry_from q (λ (i : ℕ). word l (p + i)))) e.if-plain.false)
+    (λ i. p0 i ∷ p1 i ∷ p2 i ∷ p3 i ∷ []) ∙ sym (ap (λ (q : Bool). list_of (entry_from q (λ (i : ℕ). word l (p + i)))) c.if-plain.false)

@@ -56,19 +56,17 @@ room c = let s = start c.before in inside _ _ _ _ _ (kept-inside (form_of s.args
 
 value : (c : After-read_kept-x) → (let s = (start c.before.before).args in number_of c.read_kept-x.result ≡ numbers_at (form_of s.w s.f) s.s.now s.at (s.c * s.w + s.r))
 value c =
-    let t = c.before.before in
-    let s = start t in
+    let s = start c.before.before in
     let a = s.args in
     ap number_of c.read_kept-x.ensures ∙ read_is (form_of a.w a.f) a.s.now a.at a.c a.r _ c.place-q.ensures
-    ∙ sym (number-kept (form_of a.w a.f) a.s.now a.at a.c a.r s.requires.1.0 (mirrored t).after)
+    ∙ sym (number-kept (form_of a.w a.f) a.s.now a.at a.c a.r s.requires.1.0 (mirrored c.before.before).after)
 
 direct : (c : Else-c-first_column) → (let s = c.args in Kept (form_of s.w s.f) s.r s.c)
 direct c =
-    let s = c.before.before in
-    record { width = s.requires.0.width; row = s.requires.1.0; col = s.requires.1.1; after = subst (λ (k : ℕ). k ≤ s.args.c) c.first_column.ensures c.if-c-first_column.false }
+    record { width = c.requires.0.width; row = c.requires.1.0; col = c.requires.1.1; after = subst (λ (k : ℕ). k ≤ c.args.c) c.first_column.ensures c.if-c-first_column.false }
 
 room-2 : (c : After-place-p) → (let s = c.args in s.at + record_head + c.place-p.result + entry_size s.f.plain ≤ length s.s.now)
-room-2 c = let s = c.before.before.before in inside _ _ _ _ _ (kept-inside (form_of s.args.w s.args.f) (direct c.before) _ c.place-p.ensures) s.requires.0.inside
+room-2 c = inside _ _ _ _ _ (kept-inside (form_of c.args.w c.args.f) (direct c.before) _ c.place-p.ensures) c.requires.0.inside
 
 pub place-q-requires : goal.place-q-requires
 place-q-requires c = mirrored c
@@ -84,12 +82,9 @@ conj4-requires c = subst (Within max_numerator) (sym (value c)) (range c.before.
 
 pub returns-then-c-first_column : goal.returns-then-c-first_column
 returns-then-c-first_column c =
-    let k = c.before in
-    let t = k.before.before in
-    let s = t.before.before in
-    let a = s.args in
-    c.conj4.ensures ∙ ap (λ (z : Number). list_of (conjugate root2 z)) (value k ∙ number-kept (form_of a.w a.f) a.s.now a.at a.c a.r s.requires.1.0 (mirrored t).after)
-    ∙ ap list_of (sym (number_lost (form_of a.w a.f) a.s.now a.at a.r a.c s.requires.1.1 (under t)))
+    let a = c.args in
+    c.conj4.ensures ∙ ap (λ (z : Number). list_of (conjugate root2 z)) (value c.before ∙ number-kept (form_of a.w a.f) a.s.now a.at a.c a.r c.requires.1.0 (mirrored c.before.before.before).after)
+    ∙ ap list_of (sym (number_lost (form_of a.w a.f) a.s.now a.at a.r a.c c.requires.1.1 (under c.before.before.before)))
 
 pub place-p-requires : goal.place-p-requires
 place-p-requires c = direct c
@@ -102,8 +97,6 @@ read_kept-requires c = room-2 c
 
 pub returns : goal.returns
 returns c =
-    let k = c.before in
-    let s = k.before.before.before in
-    let a = s.args in
+    let a = c.args in
     c.read_kept.ensures
-    ∙ ap list_of (read_is (form_of a.w a.f) a.s.now a.at a.r a.c _ k.place-p.ensures ∙ sym (number-kept (form_of a.w a.f) a.s.now a.at a.r a.c s.requires.1.1 (direct k.before).after))
+    ∙ ap list_of (read_is (form_of a.w a.f) a.s.now a.at a.r a.c _ c.place-p.ensures ∙ sym (number-kept (form_of a.w a.f) a.s.now a.at a.r a.c c.requires.1.1 (direct c.before.before).after))

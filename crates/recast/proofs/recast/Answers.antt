@@ -54,34 +54,24 @@ bounds-s-3 c = let q = header c.before.before.before in omega arith
 
 pub relinked-requires : goal.relinked-requires
 relinked-requires c =
-    let x = c.before in
-    let s = x.before.before.before.before in
-    let f : SFits w64 (word s.args.s.now 3) = record { sfits = x.first-1.given } in
-    read f (Linked (F s) (G s)) (first-linked (F s) (G s) s.args.s.now s.args.n s.args.res.now s.requires (big s))
+    let f : SFits w64 (word c.args.s.now 3) = record { sfits = c.first-1.given } in
+    read f (Linked (F c.before.before.before.before.before) (G c.before.before.before.before.before)) (first-linked (F c.before.before.before.before.before) (G c.before.before.before.before.before) c.args.s.now c.args.n c.args.res.now c.requires (big c.before.before.before.before.before))
 
 pub put_four-requires : goal.put_four-requires
 put_four-requires c = let q = room c.before.before.before.before.before.before in omega arith
 
 pub copy_records-requires : goal.copy_records-requires
 copy_records-requires c =
-    let p = c.before.before in
-    let x = p.before.before.before in
-    let s = x.before.before.before.before in
-    let e : length p.put_four.new.0 ≡ length s.args.res.now = ap length p.put_four.ensures ∙ simp length-set in
-    (records-of (F s) (G s) s.args.s.now s.args.n s.args.res.now s.requires (big s), subst (λ (k : ℕ). record_at (G s) s.args.n ≤ k) (sym e) (room s))
+    let e : length c.put_four.new.res ≡ length c.args.res.now = ap length c.put_four.ensures ∙ simp length-set in
+    (records-of (F c.before.before.before.before.before.before.before.before.before) (G c.before.before.before.before.before.before.before.before.before) c.args.s.now c.args.n c.args.res.now c.requires (big c.before.before.before.before.before.before.before.before.before), subst (λ (k : ℕ). record_at (G c.before.before.before.before.before.before.before.before.before) c.args.n ≤ k) (sym e) (room c.before.before.before.before.before.before.before.before.before))
 
 pub returns : goal.returns
 returns c =
-    let b = c.before in
-    let p = b.before.before.before in
-    let k = p.before in
-    let x = k.before.before in
-    let s = x.before.before.before.before in
-    let a = s.args in
+    let a = c.args in
     let l = a.s.now in
-    whole_is (F s) (G s) l a.res.now _ _ a.n s.requires.count
-    (p.put_four.ensures
+    whole_is (F c.before.before.before.before.before.before.before.before.before.before.before) (G c.before.before.before.before.before.before.before.before.before.before.before) l a.res.now _ _ a.n c.requires.count
+    (c.put_four.ensures
     ∙ (λ i. sets a.res.now 0
-    (reads (word l 0) x.dim-1.given i ∷ reads (word l 1) x.bits-1.given i ∷ reads (word l 2) x.count-1.given i
-    ∷ (reads k.relinked.result k.relinked.type_inv ∙ k.relinked.ensures ∙ ap (relink (F s) (G s)) (reads (word l 3) x.first-1.given)) i ∷ [])))
-    b.copy_records.ensures
+    (reads (word l 0) c.dim-1.given i ∷ reads (word l 1) c.bits-1.given i ∷ reads (word l 2) c.count-1.given i
+    ∷ (reads c.relinked.result c.relinked.type_inv ∙ c.relinked.ensures ∙ ap (relink (F c.before.before.before.before.before.before.before.before.before.before.before) (G c.before.before.before.before.before.before.before.before.before.before.before)) (reads (word l 3) c.first-1.given)) i ∷ [])))
+    c.copy_records.ensures

@@ -29,17 +29,16 @@ starts c = link_start c.requires c.if-z-eq0.false
 
 less : (c : After-record_size) → header_size + (nat_abs (to_z w64 (of_z w64 c.args.z)) - header_size) / c.record_size-size.result * c.record_size.result < 2 ^ 63
 less c =
-    let s = c.before.before.before in
-    subst (λ (n : ℕ). n < 2 ^ 63) (sym (λ i. header_size + (nat_abs (to_z-of_z s.ranges.z i) - header_size) / c.record_size-size.ensures i * c.record_size.ensures i)) s.requires.small
+    subst (λ (n : ℕ). n < 2 ^ 63) (sym (λ i. header_size + (nat_abs (to_z-of_z c.ranges.z i) - header_size) / c.record_size-size.ensures i * c.record_size.ensures i)) c.requires.small
 
 pub returns-then-z-eq0 : goal.returns-then-z-eq0
-returns-then-z-eq0 c = let s = c.before in sym (ap (relink (form_of s.args.w s.args.f) (form_of s.args.w s.args.to)) (zero_word s.args.z s.ranges.z c.if-z-eq0.true))
+returns-then-z-eq0 c = sym (ap (relink (form_of c.args.w c.args.f) (form_of c.args.w c.args.to)) (zero_word c.args.z c.ranges.z c.if-z-eq0.true))
 
 pub overflow_cast-j : goal.overflow_cast-j
-overflow_cast-j c = let s = c.before.before in let k = starts c.before in read s.ranges.z (Casts w64) (k.0, fits-abs s.args.z s.ranges.z k.0)
+overflow_cast-j c = let k = starts c.before in read c.ranges.z (Casts w64) (k.0, fits-abs c.args.z c.ranges.z k.0)
 
 pub overflow_sub-j : goal.overflow_sub-j
-overflow_sub-j c = let s = c.before.before in read s.ranges.z (λ (z : ℤ). header_size ≤ nat_abs z) (starts c.before).1
+overflow_sub-j c = read c.ranges.z (λ (z : ℤ). header_size ≤ nat_abs z) (starts c.before).1
 
 pub overflow_mul-at : goal.overflow_mul-at
 overflow_mul-at c = let q = less c in omega arith
@@ -52,7 +51,6 @@ overflow_cast-result c = record { sfits = less c }
 
 pub returns : goal.returns
 returns c =
-    let s = c.before.before.before in
     to_z_pos w64 (less c)
-    ∙ (λ i. pos (header_size + (nat_abs (to_z-of_z s.ranges.z i) - header_size) / c.record_size-size.ensures i * c.record_size.ensures i))
-    ∙ sym (relink-at (form_of s.args.w s.args.f) (form_of s.args.w s.args.to) s.args.z (starts c.before.before).1)
+    ∙ (λ i. pos (header_size + (nat_abs (to_z-of_z c.ranges.z i) - header_size) / c.record_size-size.ensures i * c.record_size.ensures i))
+    ∙ sym (relink-at (form_of c.args.w c.args.f) (form_of c.args.w c.args.to) c.args.z (starts c.before.before).1)

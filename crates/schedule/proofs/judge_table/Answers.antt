@@ -37,9 +37,8 @@ is_sound-requires c = let s = sizes c.before.before.before in (omega (arith, s.0
 
 pub returns-then-not-is_sound : goal.returns-then-not-is_sound
 returns-then-not-is_sound c =
-    let o = c.before.before.before.before in
-    let a = o.args in
-    position_no (gates_of a.old.now) (gates_of a.new.now) a.table.now (same o.before) o.loop-i.i o.loop-i.invariant (omega (arith, c.loop-i-test.true, (sizes o.before).1))
+    let a = c.args in
+    position_no (gates_of a.old.now) (gates_of a.new.now) a.table.now (same c.before.before.before.before.before) c.loop-i.i c.loop-i.invariant (omega (arith, c.loop-i-test.true, (sizes c.before.before.before.before.before).1))
     (sym c.is_sound.ensures ∙ c.if-not-is_sound.true)
 
 pub overflow_add-i : goal.overflow_add-i
@@ -50,15 +49,13 @@ loop-i-smaller c = omega arith
 
 pub loop-i-preserved : goal.loop-i-preserved
 loop-i-preserved c =
-    let o = c.before.before.before.before in
-    let a = o.args in
-    all-step o.loop-i.i (sound (gates_of a.old.now) (gates_of a.new.now) a.table.now) o.loop-i.invariant (sym c.is_sound.ensures ∙ c.if-not-is_sound.false)
+    let a = c.args in
+    all-step c.loop-i.i (sound (gates_of a.old.now) (gates_of a.new.now) a.table.now) c.loop-i.invariant (sym c.is_sound.ensures ∙ c.if-not-is_sound.false)
 
 pub returns-then-new-count : goal.returns-then-new-count
 returns-then-new-count c =
-    let o = c.before.before in
-    let a = o.args in
-    positions_yes (gates_of a.old.now) (gates_of a.new.now) a.table.now (same o.before) o.loop-i.i o.loop-i.invariant (omega (arith, c.loop-i-test.false, (sizes o.before).1))
+    let a = c.args in
+    positions_yes (gates_of a.old.now) (gates_of a.new.now) a.table.now (same c.before.before.before) c.loop-i.i c.loop-i.invariant (omega (arith, c.loop-i-test.false, (sizes c.before.before.before).1))
 
 pub returns : goal.returns
 returns c =

@@ -66,4 +66,4 @@ returns c =
     let s = c.args in
     let v = c.loop-i.invariant.1 in
     let e : c.loop-i.i ≡ s.k + s.n = omega (arith, v.0) in
-    (of_z-to_z {w = w64} (record { fits = v.1.0 }) ∙ v.1.1.0 ∙ ap (or_words s.s.now s.at) e, λ j p h. v.1.1.1 j p (omega arith))
+    record { bits = of_z-to_z {w = w64} (record { fits = v.1.0 }) ∙ v.1.1.0 ∙ ap (or_words s.s.now s.at) e; fit = λ j p h. v.1.1.1 j p (omega arith) }

@@ -13,13 +13,13 @@ use Rattle.statements.proofs.find_gate.Tie as tie
 use Rattle.statements.proofs.find_gate.Goals as goal
 
 abbrev After-blanks_end-blanks : Type 0
-After-blanks_end-blanks = lts.After-blanks_end tie.the-claims reads.Pre reads.Post goal.the-invariant-loop-begin goal.the-decreases-loop-begin
+After-blanks_end-blanks = lts.After-blanks_end tie.the-claims reads.Pre reads.Post goal.the-invariant-loop-begin goal.the-decreases-loop-begin tie.handed_clauses
 
 abbrev After-token_end-end : Type 0
-After-token_end-end = lts.After-token_end tie.the-claims reads.Pre reads.Post goal.the-invariant-loop-begin goal.the-decreases-loop-begin
+After-token_end-end = lts.After-token_end tie.the-claims reads.Pre reads.Post goal.the-invariant-loop-begin goal.the-decreases-loop-begin tie.handed_clauses
 
 abbrev Start : Type 0
-Start = lts.Start tie.the-claims reads.Pre reads.Post goal.the-invariant-loop-begin goal.the-decreases-loop-begin
+Start = lts.Start tie.the-claims reads.Pre reads.Post goal.the-invariant-loop-begin goal.the-decreases-loop-begin tie.handed_clauses
 
 blanks-inside : (c : After-blanks_end-blanks) → c.blanks_end-blanks.result ≤ length c.args.text.now
 blanks-inside c = omega (arith, c.blanks_end-blanks.ensures, run-most is_blank (drop 0 c.args.text.now))
@@ -32,39 +32,28 @@ inside c = token-inside (start c).args.text.now c.loop-begin.begin c.loop-begin-
 
 pub returns-then-size-blanks-lt-HEADER : goal.returns-then-size-blanks-lt-HEADER
 returns-then-size-blanks-lt-HEADER c =
-    let b = c.before.before in
-    let a = b.args in
-    counting_none a.text.now a.index b.blanks_end-blanks.ensures (omega (arith, c.if-size-blanks-lt-HEADER.true))
+    let a = c.args in
+    let all = counting_none a.text.now a.index c.blanks_end-blanks.ensures (omega (arith, c.if-size-blanks-lt-HEADER.true)) in record { position = all.0; before = all.1 }
 
 pub loop-begin-init : goal.loop-begin-init
 loop-begin-init c =
-    let b = c.before.before.before in
-    let a = b.args in
-    counting_top a.text.now a.index b.blanks_end-blanks.ensures c.gap_end-begin.ensures
+    let a = c.args in
+    counting_top a.text.now a.index c.blanks_end-blanks.ensures c.gap_end-begin.ensures
 
 pub returns-then-before-index : goal.returns-then-before-index
 returns-then-before-index c =
-    let d = c.before.before.before in
-    let k = d.before.before in
-    let l = k.before.before in
-    let a = l.args in
-    counting_found a.text.now a.index l.loop-begin.invariant k.loop-begin-test.true k.token_end-end.ensures d.is_declaration.ensures c.if-opening-is_declaration.true c.if-before-index.true
+    let a = c.args in
+    let all = counting_found a.text.now a.index c.loop-begin.invariant c.loop-begin-test.true c.token_end-end.ensures c.is_declaration.ensures c.if-opening-is_declaration.true c.if-before-index.true in record { position = all.0; before = all.1 }
 
 pub loop-begin-preserved : goal.loop-begin-preserved
 loop-begin-preserved c =
-    let s = c.before.before in
-    let j = s.before.before.before in
-    let d = j.before in
-    let k = d.before.before in
-    let l = k.before.before in
-    let a = l.args in
+    let a = c.args in
     ⊎_elim
-    (λ m. counting_more a.text.now a.index l.loop-begin.invariant k.loop-begin-test.true k.token_end-end.ensures d.is_declaration.ensures c.gap_end-begin-in-loop-begin.ensures s.is_same-opening.ensures m.0.true m.1.left m.2)
-    (λ m. counting_same a.text.now a.index l.loop-begin.invariant k.loop-begin-test.true k.token_end-end.ensures d.is_declaration.ensures c.gap_end-begin-in-loop-begin.ensures s.is_same-opening.ensures m.0.left m.1)
-    j.if-opening-is_declaration.branch
+    (λ m. counting_more a.text.now a.index c.loop-begin.invariant c.loop-begin-test.true c.token_end-end.ensures c.is_declaration.ensures c.gap_end-begin-in-loop-begin.ensures c.is_same-opening.ensures m.0.true m.1.left m.2)
+    (λ m. counting_same a.text.now a.index c.loop-begin.invariant c.loop-begin-test.true c.token_end-end.ensures c.is_declaration.ensures c.gap_end-begin-in-loop-begin.ensures c.is_same-opening.ensures m.0.left m.1)
+    c.if-opening-is_declaration.branch
 
 pub returns : goal.returns
 returns c =
-    let l = c.before.before in
-    let a = l.args in
-    counting_end a.text.now a.index l.loop-begin.invariant c.loop-begin-test.false
+    let a = c.args in
+    let all = counting_end a.text.now a.index c.loop-begin.invariant c.loop-begin-test.false in record { position = all.0; before = all.1 }

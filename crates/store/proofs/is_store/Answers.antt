@@ -41,8 +41,7 @@ bounds-store-i c = omega arith
 
 pub returns-then-store-i-gt1 : goal.returns-then-store-i-gt1
 returns-then-store-i-gt1 c =
-    let s = c.before.before.before.before.before in
-    simp (eq-eqb (length s.args.store.now) s.args.bits s.if-store-bits.false) (sym (more c.before.before _ (lt-leb _ 1 c.if-store-i-gt1.true)))
+    simp (eq-eqb (length c.args.store.now) c.args.bits c.if-store-bits.false) (sym (more c.before.before _ (lt-leb _ 1 c.if-store-i-gt1.true)))
 
 pub overflow_add-i : goal.overflow_add-i
 overflow_add-i c = omega arith
@@ -55,6 +54,5 @@ loop-i-preserved c = more c.before.before _ (le-leb _ 1 c.if-store-i-gt1.false)
 
 pub returns : goal.returns
 returns c =
-    let s = c.before.before in
-    simp (eq-eqb (length s.args.store.now) s.args.bits s.if-store-bits.false)
-    (sym (c.loop-i.invariant ∙ every-none good s.args.store.now c.loop-i.i c.loop-i-test.false))
+    simp (eq-eqb (length c.args.store.now) c.args.bits c.if-store-bits.false)
+    (sym (c.loop-i.invariant ∙ every-none good c.args.store.now c.loop-i.i c.loop-i-test.false))

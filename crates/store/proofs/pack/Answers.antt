@@ -22,7 +22,7 @@ abbrev Start : Type 0
 Start = lts.Start tie.the-claims reads.Pre reads.Post goal.the-invariant-loop-i goal.the-decreases-loop-i
 
 pub loop-i-init : goal.loop-i-init
-loop-i-init c = let s = c.before.before in (s.requires.0, (le_refl _, sym (packed_none s.args.store.now s.args.to s.requires.1.0)))
+loop-i-init c = (c.requires.0, (le_refl _, sym (packed_none c.args.store.now c.args.to c.requires.1.0)))
 
 pub overflow_sub-i : goal.overflow_sub-i
 overflow_sub-i c = omega arith
@@ -54,20 +54,17 @@ pub wide-requires : goal.wide-requires
 wide-requires c = tt
 
 pub overflow_add-x : goal.overflow_add-x
-overflow_add-x c = let b = c.before.before.before in omega (arith, next b, below b, c.wide.ensures)
+overflow_add-x c = omega (arith, next c.before.before.before, below c.before.before.before, c.wide.ensures)
 
 pub loop-i-smaller : goal.loop-i-smaller
 loop-i-smaller c = omega arith
 
 pub loop-i-preserved : goal.loop-i-preserved
 loop-i-preserved c =
-    let b = c.before.before.before in
-    let l = b.loop-i-test.true in
-    (omega arith, (omega arith, ap (λ (v : ℕ). (now b).loop-i.x * 2 + v) c.wide.ensures ∙ sym (next b)))
+    let l = c.loop-i-test.true in
+    (omega arith, (omega arith, ap (λ (v : ℕ). (now c.before.before.before).loop-i.x * 2 + v) c.wide.ensures ∙ sym (next c.before.before.before)))
 
 pub returns : goal.returns
 returns c =
-    let a = c.before.before in
-    let s = a.before.before in
-    let e : a.loop-i.i ≡ s.args.from = omega (arith, c.loop-i-test.false) in
-    a.loop-i.invariant.1.1 ∙ ap (λ (k : ℕ). from_bits (drop k (take s.args.to s.args.store.now))) e
+    let e : c.loop-i.i ≡ c.args.from = omega (arith, c.loop-i-test.false) in
+    c.loop-i.invariant.1.1 ∙ ap (λ (k : ℕ). from_bits (drop k (take c.args.to c.args.store.now))) e

@@ -8,7 +8,7 @@ use Rattle.text_sides.proofs.run_circuit.Goals as goal
 pub returns-then-all-given : goal.returns-then-all-given
 returns-then-all-given c =
     let a = c.args in
-    ran a.qubits a.bits a.limits a.gates.now a.res.now a.work.now (as_given a.store.now a.bits c.least-all.ensures c.if-all-given.true) _ _ _ c.circuit_channel.ensures
+    let all = ran a.qubits a.bits a.limits a.gates.now a.res.now a.work.now (as_given a.store.now a.bits c.least-all.ensures c.if-all-given.true) _ _ _ (c.circuit_channel.ensures.value, (c.circuit_channel.ensures.res_after, c.circuit_channel.ensures.work_after)) in record { value = all.0; res_after = all.1.0; work_after = all.1.1 }
 
 pub slice_bounds-circuit_channel-end : goal.slice_bounds-circuit_channel-end
 slice_bounds-circuit_channel-end c = sym (length-take-le _ _ (slice_bounds-padded-end c))
@@ -16,4 +16,4 @@ slice_bounds-circuit_channel-end c = sym (length-take-le _ _ (slice_bounds-padde
 pub returns : goal.returns
 returns c =
     let a = c.args in
-    ran a.qubits a.bits a.limits a.gates.now a.res.now a.work.now (filled-up a.store.now a.bits c.least-all.ensures c.if-all-given.false c.copy.ensures) _ _ _ c.circuit_channel-2.ensures
+    let all = ran a.qubits a.bits a.limits a.gates.now a.res.now a.work.now (filled-up a.store.now a.bits c.least-all.ensures c.if-all-given.false c.copy.ensures) _ _ _ (c.circuit_channel-2.ensures.value, (c.circuit_channel-2.ensures.res_after, c.circuit_channel-2.ensures.work_after)) in record { value = all.0; res_after = all.1.0; work_after = all.1.1 }

@@ -11,14 +11,10 @@ run_unitary-requires c =
     (ap accepted (sym c.judge_unitary-v.ensures) ∙ sym c.is_accepted.ensures ∙ c.if-is_accepted.true)
 
 pub returns-then-is_accepted : goal.returns-then-is_accepted
-returns-then-is_accepted c = (
-  c.judge_unitary-v.ensures,
-  after-yes c.args.qubits c.args.limits c.args.gates.now c.args.res.now c.args.work.now
-      (ap accepted (sym c.judge_unitary-v.ensures) ∙ sym c.is_accepted.ensures ∙ c.if-is_accepted.true) c.run_unitary.ensures.0 c.run_unitary.ensures.1,
-)
+returns-then-is_accepted c =
+    let all = after-yes c.args.qubits c.args.limits c.args.gates.now c.args.res.now c.args.work.now
+    (ap accepted (sym c.judge_unitary-v.ensures) ∙ sym c.is_accepted.ensures ∙ c.if-is_accepted.true) c.run_unitary.ensures.0 c.run_unitary.ensures.1 in record { value = c.judge_unitary-v.ensures; res_after = all.0; work_after = all.1 }
 
 pub returns-else-is_accepted : goal.returns-else-is_accepted
-returns-else-is_accepted c = (
-  c.judge_unitary-v.ensures,
-  after_no c.args.qubits c.args.limits c.args.gates.now c.args.res.now c.args.work.now (ap accepted (sym c.judge_unitary-v.ensures) ∙ sym c.is_accepted.ensures ∙ c.if-is_accepted.false),
-)
+returns-else-is_accepted c =
+    let all = after_no c.args.qubits c.args.limits c.args.gates.now c.args.res.now c.args.work.now (ap accepted (sym c.judge_unitary-v.ensures) ∙ sym c.is_accepted.ensures ∙ c.if-is_accepted.false) in record { value = c.judge_unitary-v.ensures; res_after = all.0; work_after = all.1 }

@@ -33,52 +33,44 @@ small p =
 
 pub run_gates-at-requires : goal.run_gates-at-requires
 run_gates-at-requires c =
-    let p = c.before.before.before.before in
-    let s = start_of p in
-    runs s.args.qubits p.power-d.result s.args.gates.now s.args.res.now s.args.work.now s.requires p.power-d.ensures _ refl
+    let s = start_of c.before.before.before in
+    runs s.args.qubits c.power-d.result s.args.gates.now s.args.res.now s.args.work.now s.requires c.power-d.ensures _ refl
 
 pub overflow_mul-d : goal.overflow_mul-d
-overflow_mul-d c = let p = power-of c.before.before.before.before in omega (arith, square_small p.power-d.result (small p))
+overflow_mul-d c = let p = power-of c.before.before.before in omega (arith, square_small p.power-d.result (small p))
 
 pub overflow_mul-d-2 : goal.overflow_mul-d-2
-overflow_mul-d-2 c = let p = power-of c.before.before.before.before in omega (arith, square_small p.power-d.result (small p))
+overflow_mul-d-2 c = let p = power-of c.before.before.before in omega (arith, square_small p.power-d.result (small p))
 
 pub copy_out-requires : goal.copy_out-requires
 copy_out-requires c =
-    let x = c.before.before.before.before in
-    let p = power-of x in
+    let p = power-of c.before.before.before in
     let s = start_of p in (
-      (work_room s.args.qubits p.power-d.result s.args.gates.now s.args.res.now s.args.work.now s.requires p.power-d.ensures _ refl _ x.run_gates-at.result x.run_gates-at.ensures).0,
+      (work_room s.args.qubits p.power-d.result s.args.gates.now s.args.res.now s.args.work.now s.requires p.power-d.ensures _ refl _ c.run_gates-at.result c.run_gates-at.ensures).0,
       copy_room s.args.qubits p.power-d.result s.args.gates.now s.args.res.now s.args.work.now s.requires p.power-d.ensures,
     )
 
 pub branch_size-requires : goal.branch_size-requires
-branch_size-requires c = small (power-of c.before.before.before.before.before.before.before)
+branch_size-requires c = small (power-of c.before.before.before.before.before.before)
 
 pub overflow_mul-branch_size : goal.overflow_mul-branch_size
 overflow_mul-branch_size c =
-    let e = c.before.before in
-    let p = power-of e.before.before.before.before.before.before in
+    let p = power-of c.before.before.before.before.before.before.before in
     omega (arith, c.branch_size.ensures, square_small p.power-d.result (small p))
 
 pub clear-requires : goal.clear-requires
 clear-requires c =
-    let e = c.before.before in
-    let x = e.before.before.before.before.before.before in
-    let p = power-of x in
+    let p = power-of c.before.before.before.before.before.before.before in
     let s = start_of p in
-    let room = work_room s.args.qubits p.power-d.result s.args.gates.now s.args.res.now s.args.work.now s.requires p.power-d.ensures _ refl _ x.run_gates-at.result x.run_gates-at.ensures in
+    let room = work_room s.args.qubits p.power-d.result s.args.gates.now s.args.res.now s.args.work.now s.requires p.power-d.ensures _ refl _ c.run_gates-at.result c.run_gates-at.ensures in
     omega (arith, c.branch_size.ensures, room.1)
 
 pub returns : goal.returns
 returns c =
-    let b = c.before.before.before in
-    let e = b.before in
-    let x = e.before.before.before.before.before.before in
-    let p = power-of x in
+    let p = power-of c.before.before.before.before.before.before.before.before.before in
     let s = start_of p in (
-      written s.args.qubits p.power-d.result s.args.gates.now s.args.res.now s.args.work.now s.requires p.power-d.ensures _ refl _ x.run_gates-at.result x.run_gates-at.ensures
-          e.copy_out.ensures,
-      zeroed s.args.qubits p.power-d.result s.args.gates.now s.args.res.now s.args.work.now s.requires p.power-d.ensures _ refl _ x.run_gates-at.result x.run_gates-at.ensures
-          (4 * b.branch_size.result) (ap (λ (k : ℕ). 4 * k) b.branch_size.ensures) c.clear.ensures,
+      written s.args.qubits p.power-d.result s.args.gates.now s.args.res.now s.args.work.now s.requires p.power-d.ensures _ refl _ c.run_gates-at.result c.run_gates-at.ensures
+          c.copy_out.ensures,
+      zeroed s.args.qubits p.power-d.result s.args.gates.now s.args.res.now s.args.work.now s.requires p.power-d.ensures _ refl _ c.run_gates-at.result c.run_gates-at.ensures
+          (4 * c.branch_size.result) (ap (λ (k : ℕ). 4 * k) c.branch_size.ensures) c.clear.ensures,
     )

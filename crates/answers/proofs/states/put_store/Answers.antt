@@ -13,11 +13,11 @@ loop-left-init c = left-all _ _
 
 pub loop-left-preserved : goal.loop-left-preserved
 loop-left-preserved c =
-    left_less (left_is (bits-more c.loop-left.false c.loop-left.rest c.loop-left-test.true) c.loop-left.invariant) c.put-p.ensures
+    left_less (left_is (bits-more c.loop-left.left c.loop-left.rest c.loop-left-test.true) c.loop-left.invariant) c.put-p.ensures
 
 pub returns : goal.returns
 returns c =
-    text (bits-some c.args.m c.args.store c.if-m-eq0.false) (left-none (left_is (bits-end c.loop-left.false c.loop-left.rest c.loop-left-test.false) c.loop-left.invariant))
+    text (bits-some c.args.m c.args.store c.if-m-eq0.false) (left-none (left_is (bits-end c.loop-left.left c.loop-left.rest c.loop-left-test.false) c.loop-left.invariant))
 
 pub shape_of-out : goal.shape_of-out
 shape_of-out c = c.loop-left.invariant.same

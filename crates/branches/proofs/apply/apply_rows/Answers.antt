@@ -89,39 +89,38 @@ pub overflow_add-b : goal.overflow_add-b
 overflow_add-b c = omega (arith, entries_in c)
 
 pub read_cell-x-requires : goal.read_cell-x-requires
-read_cell-x-requires c = let t = c.before in (omega (arith, entries_in t, same_size t), exponent_same (own_same (s t).requires (taken t) (inv t)) ∙ ((s t).requires.own (r t) (taken t)).exponent)
+read_cell-x-requires c = (omega (arith, entries_in c, same_size c), exponent_same (own_same (s c).requires (taken c) (inv c)) ∙ ((s c).requires.own (r c) (taken c)).exponent)
 
 pub read_cell-y-requires : goal.read_cell-y-requires
 read_cell-y-requires c =
-    let t = c.before.before.before in
-    (omega (arith, entries_in t, same_size t), exponent_same (other-same (s t).requires (taken t) (inv t)) ∙ ((s t).requires.other (r t) (taken t)).exponent)
+    (omega (arith, entries_in c.before, same_size c.before), exponent_same (other-same (s c.before).requires (taken c.before) (inv c.before)) ∙ ((s c.before).requires.other (r c.before) (taken c.before)).exponent)
 
 pub overflow_mul-p : goal.overflow_mul-p
-overflow_mul-p c = let t = c.before.before.before.before in omega (arith, row_in t (r t) (taken t))
+overflow_mul-p c = omega (arith, row_in c.before.before (r c.before.before) (taken c.before.before))
 
 pub overflow_mul-p-in-loop-r : goal.overflow_mul-p-in-loop-r
-overflow_mul-p-in-loop-r c = let t = c.before.before.before.before in omega (arith, row_in t (r t) (taken t))
+overflow_mul-p-in-loop-r c = omega (arith, row_in c.before.before (r c.before.before) (taken c.before.before))
 
 pub overflow_add-p : goal.overflow_add-p
-overflow_add-p c = let t = c.before.before.before.before in omega (arith, row_in t (r t) (taken t))
+overflow_add-p c = omega (arith, row_in c.before.before (r c.before.before) (taken c.before.before))
 
 pub overflow_mul-q : goal.overflow_mul-q
-overflow_mul-q c = let t = c.before.before.before.before in omega (arith, row_in t (other t) (other_lt t))
+overflow_mul-q c = omega (arith, row_in c.before.before (other c.before.before) (other_lt c.before.before))
 
 pub overflow_mul-q-in-loop-r : goal.overflow_mul-q-in-loop-r
-overflow_mul-q-in-loop-r c = let t = c.before.before.before.before in omega (arith, row_in t (other t) (other_lt t))
+overflow_mul-q-in-loop-r c = omega (arith, row_in c.before.before (other c.before.before) (other_lt c.before.before))
 
 pub overflow_add-q : goal.overflow_add-q
-overflow_add-q c = let t = c.before.before.before.before in omega (arith, row_in t (other t) (other_lt t))
+overflow_add-q c = omega (arith, row_in c.before.before (other c.before.before) (other_lt c.before.before))
 
 pub overflow_mul-to : goal.overflow_mul-to
-overflow_mul-to c = omega (arith, new_in c.before.before.before.before)
+overflow_mul-to c = omega (arith, new_in c.before.before)
 
 pub overflow_mul-to-in-loop-r : goal.overflow_mul-to-in-loop-r
-overflow_mul-to-in-loop-r c = omega (arith, new_in c.before.before.before.before)
+overflow_mul-to-in-loop-r c = omega (arith, new_in c.before.before)
 
 pub overflow_add-to : goal.overflow_add-to
-overflow_add-to c = omega (arith, new_in c.before.before.before.before)
+overflow_add-to c = omega (arith, new_in c.before.before)
 
 -- the two entries that were read
 module _ (y : After-read_cell-y) where
@@ -139,12 +138,11 @@ module _ (y : After-read_cell-y) where
 
 pub combine_rows-requires : goal.combine_rows-requires
 combine_rows-requires c =
-    let y = c.before in
-    let u = at y in
+    let u = at c.before in
     let p = (s u).requires in
     let h = taken u in (
-      scaling p h (inv u) (r u) h (subst (Coords 1 narrow_exponent) (sym (own_is y)) (p.own (r u) h).coords),
-      scaling p h (inv u) (other u) (other_lt u) (subst (Coords 1 narrow_exponent) (sym (partner_is y)) (p.other (r u) h).coords),
+      scaling p h (inv u) (r u) h (subst (Coords 1 narrow_exponent) (sym (own_is c.before)) (p.own (r u) h).coords),
+      scaling p h (inv u) (other u) (other_lt u) (subst (Coords 1 narrow_exponent) (sym (partner_is c.before)) (p.other (r u) h).coords),
     )
 
 pub overflow_add-r : goal.overflow_add-r
@@ -155,10 +153,8 @@ loop-r-smaller c = omega arith
 
 pub loop-r-preserved : goal.loop-r-preserved
 loop-r-preserved c =
-    let f = c.before in
-    let y = f.before.before in
-    let u = at y in
-    applied_more (s u).requires (taken u) (inv u) (own_is y) (partner_is y) u.partner_row-s.ensures f.combine_rows.ensures
+    let u = at c.before.before.before in
+    applied_more (s u).requires (taken u) (inv u) (own_is c.before.before.before) (partner_is c.before.before.before) u.partner_row-s.ensures c.combine_rows.ensures
 
 pub shape_of-work : goal.shape_of-work
 shape_of-work c = long c.loop-r.invariant

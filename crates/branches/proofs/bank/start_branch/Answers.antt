@@ -41,8 +41,7 @@ module _ (c : After-pack-high) where
 
 pub pack-high-requires : goal.pack-high-requires
 pack-high-requires c =
-    let s = c.before.before.before.before.before.before.before in
-    let e = c.least-cut.ensures in (omega arith, (omega arith, (omega (arith, s.requires.1.1.0), s.requires.1.1.1)))
+    let e = c.least-cut.ensures in (omega arith, (omega arith, (omega (arith, c.requires.1.1.0), c.requires.1.1.1)))
 
 pub overflow_cast-work : goal.overflow_cast-work
 overflow_cast-work c = omega (arith, low_small c.before)
@@ -52,14 +51,10 @@ overflow_cast-work-2 c = omega (arith, high_small c.before)
 
 pub bounds-work-s-2 : goal.bounds-work-s-2
 bounds-work-s-2 c =
-    let i = c.before.before.before.before.before in
-    let s = i.before.before.before in
-    simp length-set (omega (arith, i.identity_into.auto.0, s.requires.1.0))
+    simp length-set (omega (arith, c.identity_into.auto.0, c.requires.1.0))
 
 pub returns : goal.returns
 returns c =
-    let i = c.before.before.before.before.before in
-    let s = i.before.before.before in
-    let at = s.args.at + matrix_size s.args.d in
-    started s.args.work.now s.args.at s.args.d s.args.store.now i.identity_into.ensures
-    (λ k. set (set i.identity_into.new.0 at ((to_z_pos w64 (omega (arith, low_small c.before)) ∙ ap pos (low c.before)) k)) (add-one at k) ((to_z_pos w64 (omega (arith, high_small c.before)) ∙ ap pos (high c.before)) k))
+    let at = c.args.at + matrix_size c.args.d in
+    started c.args.work.now c.args.at c.args.d c.args.store.now c.identity_into.ensures
+    (λ k. set (set c.identity_into.new.buf at ((to_z_pos w64 (omega (arith, low_small c.before)) ∙ ap pos (low c.before)) k)) (add-one at k) ((to_z_pos w64 (omega (arith, high_small c.before)) ∙ ap pos (high c.before)) k))

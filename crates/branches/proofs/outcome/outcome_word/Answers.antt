@@ -31,28 +31,26 @@ same : (s : Start) → to_z w64 (of_z w64 s.args.w) ≡ s.args.w
 same s = back s.args.w (omega (arith, (number s).1))
 
 pub returns-then-bit-first : goal.returns-then-bit-first
-returns-then-bit-first c = let s = c.before in same s ∙ sym (outcome_below s.args.first s.args.bit s.args.v s.args.w c.if-bit-first.true)
+returns-then-bit-first c = same c.before ∙ sym (outcome_below c.args.first c.args.bit c.args.v c.args.w c.if-bit-first.true)
 
 pub returns-then-k-gt31 : goal.returns-then-k-gt31
-returns-then-k-gt31 c = let s = c.before.before in same s ∙ sym (outcome_above s.args.first s.args.bit s.args.v s.args.w c.if-bit-first.false c.if-k-gt31.true)
+returns-then-k-gt31 c = same c.before.before ∙ sym (outcome_above c.args.first c.args.bit c.args.v c.args.w c.if-bit-first.false c.if-k-gt31.true)
 
 pub overflow_cast-w : goal.overflow_cast-w
-overflow_cast-w c = let s = c.before.before in subst (λ (z : ℤ). T (non_neg z) × Fits w64 (nat_abs z)) (sym (same s)) (cast_ok max_word s.args.w s.requires.0 (omega arith))
+overflow_cast-w c = subst (λ (z : ℤ). T (non_neg z) × Fits w64 (nat_abs z)) (sym (same c.before.before)) (cast_ok max_word c.args.w c.requires.0 (omega arith))
 
 pub with_bit-x-requires : goal.with_bit-x-requires
-with_bit-x-requires c = let s = c.before.before in (omega (arith, ap nat_abs (same s), (number s).1), (omega (arith, c.if-k-gt31.false), s.requires.1))
+with_bit-x-requires c = (omega (arith, ap nat_abs (same c.before.before), (number c.before.before).1), (omega (arith, c.if-k-gt31.false), c.requires.1))
 
 wide : (c : After-with_bit-x) → c.with_bit-x.result < 2 ^ 33
 wide c =
-    let s = c.before.before.before in
-    omega (arith, c.with_bit-x.ensures, with_bit_below (nat_abs (to_z w64 (of_z w64 s.args.w))) (s.args.bit - s.args.first) s.args.v (omega (arith, ap nat_abs (same s), (number s).1)) (omega (arith, c.if-k-gt31.false)) s.requires.1)
+    omega (arith, c.with_bit-x.ensures, with_bit_below (nat_abs (to_z w64 (of_z w64 c.args.w))) (c.args.bit - c.args.first) c.args.v (omega (arith, ap nat_abs (same c.before.before.before), (number c.before.before.before).1)) (omega (arith, c.if-k-gt31.false)) c.requires.1)
 
 pub overflow_cast-result : goal.overflow_cast-result
 overflow_cast-result c = omega (arith, wide c)
 
 pub returns : goal.returns
 returns c =
-    let s = c.before.before.before in
     to_z_pos w64 (omega (arith, wide c)) ∙ ap pos c.with_bit-x.ensures
-    ∙ ap (λ (z : ℤ). pos (with_bit (nat_abs z) (s.args.bit - s.args.first) s.args.v)) (same s)
-    ∙ sym (outcome_in s.args.first s.args.bit s.args.v s.args.w c.if-bit-first.false c.if-k-gt31.false)
+    ∙ ap (λ (z : ℤ). pos (with_bit (nat_abs z) (c.args.bit - c.args.first) c.args.v)) (same c.before.before.before)
+    ∙ sym (outcome_in c.args.first c.args.bit c.args.v c.args.w c.if-bit-first.false c.if-k-gt31.false)

@@ -47,8 +47,7 @@ branch_size-requires c = dim_small c.before.before.before
 
 bank-small : (c : After-branch_size) → let a = c.args in 2 * (a.banks * c.branch_size.result) + 2 * branch_size a.d ≤ length a.work.now
 bank-small c =
-    let s = c.before.before.before in
-    omega (arith, s.requires.room, work_is s.args.d s.args.banks, ap (λ (k : ℕ). s.args.banks * k) c.branch_size.ensures)
+    omega (arith, c.requires.room, work_is c.args.d c.args.banks, ap (λ (k : ℕ). c.args.banks * k) c.branch_size.ensures)
 
 pub overflow_mul-bank : goal.overflow_mul-bank
 overflow_mul-bank c = omega (arith, bank-small c.before)
@@ -57,36 +56,33 @@ pub overflow_mul-slots : goal.overflow_mul-slots
 overflow_mul-slots c = omega (arith, bank-small c.before)
 
 pub start_branch-requires : goal.start_branch-requires
-start_branch-requires c = let s = c.before.before.before.before.before in (dim_small s, (omega (arith, bank-small c.before.before), (s.requires.short, s.requires.bits)))
+start_branch-requires c = (dim_small c.before.before.before.before.before, (omega (arith, bank-small c.before.before), (c.requires.short, c.requires.bits)))
 
 pub loop-i-init : goal.loop-i-init
-loop-i-init c = let q = c.before.before in begins q.requires q.start_branch.ensures
+loop-i-init c = begins c.requires c.start_branch.ensures
 
 pub overflow_sub-to : goal.overflow_sub-to
-overflow_sub-to c = let a = c.before.before in place_le (given a).requires (begun a).start_branch.ensures a.loop-i.invariant c.loop-i-test.true (sized a).branch_size.ensures
+overflow_sub-to c = place_le (given c.before.before).requires (begun c.before.before).start_branch.ensures c.loop-i.invariant c.loop-i-test.true (sized c.before.before).branch_size.ensures
 
 pub overflow_mul-i : goal.overflow_mul-i
 overflow_mul-i c = omega (arith, c.loop-i-test.true)
 
 pub step_gate-count-requires : goal.step_gate-count-requires
-step_gate-count-requires c = let t = c.before.before in let a = t.before in ready (given a).requires (begun a).start_branch.ensures a.loop-i.invariant t.loop-i-test.true (sized a).branch_size.ensures
+step_gate-count-requires c = ready (given c.before.before.before).requires (begun c.before.before.before).start_branch.ensures c.loop-i.invariant c.loop-i-test.true (sized c.before.before.before).branch_size.ensures
 
 pub overflow_add-i : goal.overflow_add-i
-overflow_add-i c = let t = c.before.before.before.before in omega (arith, t.loop-i-test.true)
+overflow_add-i c = omega (arith, c.loop-i-test.true)
 
 pub loop-i-smaller : goal.loop-i-smaller
-loop-i-smaller c = let t = c.before.before.before.before in omega (arith, t.loop-i-test.true)
+loop-i-smaller c = omega (arith, c.loop-i-test.true)
 
 pub loop-i-preserved : goal.loop-i-preserved
 loop-i-preserved c =
-    let g = c.before.before in
-    let t = g.before.before in
-    let a = t.before in
-    more (given a).requires (begun a).start_branch.ensures a.loop-i.invariant t.loop-i-test.true (sized a).branch_size.ensures g.step_gate-count.ensures.0 g.step_gate-count.ensures.1
+    more (given c.before.before.before.before.before).requires (begun c.before.before.before.before.before).start_branch.ensures c.loop-i.invariant c.loop-i-test.true (sized c.before.before.before.before.before).branch_size.ensures c.step_gate-count.ensures.0 c.step_gate-count.ensures.1
 
 left : (c : After-loop-i) → let s = (given c.before).args in
     Ran s.work.now c.loop-i.work s.gates.now s.store.now s.n s.d s.banks c.loop-i.from
-left c = let a = c.before in ends (given a).requires (begun a).start_branch.ensures a.loop-i.invariant c.loop-i-test.false
+left c = ends (given c.before).requires (begun c.before).start_branch.ensures c.loop-i.invariant c.loop-i-test.false
 
 pub shape_of-work : goal.shape_of-work
 shape_of-work c = (left c.before).long

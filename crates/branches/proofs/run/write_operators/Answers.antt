@@ -19,20 +19,16 @@ write_rows-requires c = let p = c.requires in (p.0, (omega (arith, p.1.wide, p.1
 
 pub returns-then-splits-eq0 : goal.returns-then-splits-eq0
 returns-then-splits-eq0 c =
-    let p = c.before in
-    let w = p.before.before in
-    let s = w.before.before in
-    let g = gate_of s.args.g in
-    let e = splits-none g (sym p.splits.ensures ∙ c.if-splits-eq0.true) in
-    (sym e, one-operator s.args.work.now s.args.slots s.args.n s.args.d g w.write_rows.ensures e)
+    let g = gate_of c.args.g in
+    let e = splits-none g (sym c.splits.ensures ∙ c.if-splits-eq0.true) in
+    (sym e, one-operator c.args.work.now c.args.slots c.args.n c.args.d g c.write_rows.ensures e)
 
 pub branch_size-requires : goal.branch_size-requires
-branch_size-requires c = let s = c.before.before.before.before.before in omega (arith, s.requires.1.dim, pow_mono {i = s.args.n} {j = 5} s.requires.1.few)
+branch_size-requires c = omega (arith, c.requires.1.dim, pow_mono {i = c.args.n} {j = 5} c.requires.1.few)
 
 pub overflow_add-second : goal.overflow_add-second
 overflow_add-second c =
-    let s = c.before.before.before.before.before.before in
-    omega (arith, s.requires.1.room, c.branch_size.ensures)
+    omega (arith, c.requires.1.room, c.branch_size.ensures)
 
 -- the gate has a second operator
 second : (c : Else-splits-eq0) → length (operators (gate_of c.args.g)) ≡ 2
@@ -40,16 +36,9 @@ second c = let g = gate_of c.args.g in splits-some g (λ e. c.if-splits-eq0.fals
 
 pub write_rows-requires-2 : goal.write_rows-requires-2
 write_rows-requires-2 c =
-    let e = c.before.before in
-    let w = e.before.before.before in
-    let p = w.requires in
-    (p.0, (omega (arith, p.1.wide, p.1.room, c.branch_size.ensures, w.write_rows.auto.0), (p.1.few, (p.1.dim, ready_second p.1.ready (second e)))))
+    let p = c.requires in
+    (p.0, (omega (arith, p.1.wide, p.1.room, c.branch_size.ensures, c.write_rows.auto.0), (p.1.few, (p.1.dim, ready_second p.1.ready (second c.before.before)))))
 
 pub returns : goal.returns
 returns c =
-    let q = c.before in
-    let b = q.before.before in
-    let e = b.before in
-    let w = e.before.before.before in
-    let s = w.before.before in
-    (sym (second e), more-operators s.args.work.now s.args.slots s.args.n s.args.d (gate_of s.args.g) w.write_rows.ensures b.branch_size.ensures q.write_rows-2.ensures (second e))
+    (sym (second c.before.before.before.before), more-operators c.args.work.now c.args.slots c.args.n c.args.d (gate_of c.args.g) c.write_rows.ensures c.branch_size.ensures c.write_rows-2.ensures (second c.before.before.before.before))

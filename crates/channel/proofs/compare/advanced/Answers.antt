@@ -25,17 +25,13 @@ pub overflow_sub-n : goal.overflow_sub-n
 overflow_sub-n c = some c.before
 
 pub follow-next-requires : goal.follow-next-requires
-follow-next-requires c = let e = c.before in let q = on-inside e.requires.0.walk (some e) in (omega arith, on-index e.requires.0.walk (some e))
+follow-next-requires c = let q = on-inside c.requires.0.walk (some c.before) in (omega arith, on-index c.requires.0.walk (some c.before))
 
 pub enter-requires : goal.enter-requires
 enter-requires c =
-    let e = c.before.before in
-    let s = e.before in
-    subst (Onward s.args.s.now (s.args.c.left - 1)) (sym c.follow-next.ensures) (on-next s.requires.0.walk (some e))
+    subst (Onward c.args.s.now (c.args.c.left - 1)) (sym c.follow-next.ensures) (on-next c.requires.0.walk (some c.before.before))
 
 pub returns : goal.returns
 returns c =
-    let f = c.before in
-    let e = f.before.before in
-    let s = e.args in
-    c.enter.ensures ∙ ap (cursor_at s.s.now (s.c.left - 1)) f.follow-next.ensures ∙ ap (λ (b : Bool). advance b s.s.now s.c) (sym (e.if-not-b.false))
+    let s = c.args in
+    c.enter.ensures ∙ ap (cursor_at s.s.now (s.c.left - 1)) c.follow-next.ensures ∙ ap (λ (b : Bool). advance b s.s.now s.c) (sym (c.if-not-b.false))

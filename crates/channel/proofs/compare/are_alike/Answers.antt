@@ -61,8 +61,7 @@ bounds-right-j c = let q = right_in c.before in omega arith
 
 pub returns : goal.returns
 returns c =
-    let e = c.before.before in
-    let s = e.args in
+    let s = c.args in
     let x = word s.left.now (s.i + exponent_place) in
     let y = word s.right.now (s.j + exponent_place) in
-    eq_words x y (record { sfits = c.result-1.given }) (record { sfits = c.result-2-1.given }) ∙ sym (on s.t.left s.t.right (eqℤ x y) (e.if-not-t.false))
+    eq_words x y (record { sfits = c.result-1.given }) (record { sfits = c.result-2-1.given }) ∙ sym (on s.t.left s.t.right (eqℤ x y) (c.if-not-t.false))

@@ -105,51 +105,41 @@ equal-dims c = c.if-not-g-h.false
 
 matched : (c : Else-not-g-h) → Matched (start c.before).args.left.now (start c.before).args.right.now (g c.before).count (h c.before).count ((g c.before).dim * (g c.before).dim)
 matched c =
-    let k = c.before in
     record {
-      left = form-right _ (right-g k);
-      right = form-right _ (right_h k);
-      left_count = ap (λ (s : Shape). s.count) (is_g k);
-      right_count = ap (λ (s : Shape). s.count) (is_h k);
-      left_side = ap (λ (s : Shape). s.dim * s.dim) (is_g k);
-      right_side = ap (λ (d : ℕ). d * d) (eqb-true (g k).dim (h k).dim (and_split (eqb (g k).dim (h k).dim) _ (equal-dims c)).0) ∙ ap (λ (s : Shape). s.dim * s.dim) (is_h k);
+      left = form-right _ (right-g c.before);
+      right = form-right _ (right_h c.before);
+      left_count = ap (λ (s : Shape). s.count) (is_g c.before);
+      right_count = ap (λ (s : Shape). s.count) (is_h c.before);
+      left_side = ap (λ (s : Shape). s.dim * s.dim) (is_g c.before);
+      right_side = ap (λ (d : ℕ). d * d) (eqb-true (g c.before).dim (h c.before).dim (and_split (eqb (g c.before).dim (h c.before).dim) _ (equal-dims c)).0) ∙ ap (λ (s : Shape). s.dim * s.dim) (is_h c.before);
     }
 
 pub returns-then-not-is_accepted : goal.returns-then-not-is_accepted
 returns-then-not-is_accepted c =
-    let t = c.before in
-    let j = t.before.before in
-    let s = j.args in
-    let no = sym t.is_accepted.ensures ∙ t.if-not-is_accepted.true in
-    let bad = sym (judged s.left.now j.judge-g.result j.judge-g.ensures) ∙ no in
-    c.without_entry.ensures ∙ refused s.left.now j.judge-g.result j.judge-g.ensures
+    let s = c.args in
+    let no = sym c.is_accepted.ensures ∙ c.if-not-is_accepted.true in
+    let bad = sym (judged s.left.now c.judge-g.result c.judge-g.ensures) ∙ no in
+    c.without_entry.ensures ∙ refused s.left.now c.judge-g.result c.judge-g.ensures
     ∙ sym (ap (λ (p : Bool). by s.left.now s.right.now p (accepted (form_verdict s.right.now)) (same s.left.now s.right.now)) bad)
 
 pub returns-then-not-is_accepted-2 : goal.returns-then-not-is_accepted-2
 returns-then-not-is_accepted-2 c =
-    let t = c.before in
-    let j = t.before.before in
-    let e = j.before in
-    let i = e.before.before in
-    let s = i.args in
-    let yes = sym e.is_accepted.ensures ∙ e.if-not-is_accepted.false in
-    let no = sym t.is_accepted-2.ensures ∙ t.if-not-is_accepted-2.true in
-    let good = passed s.left.now i.judge-g.result i.judge-g.ensures yes in
-    let bad = sym (judged s.right.now j.judge-h.result j.judge-h.ensures) ∙ no in
-    c.without_entry-then-not-is_accepted-2.ensures ∙ refused s.right.now j.judge-h.result j.judge-h.ensures
+    let s = c.args in
+    let yes = sym c.is_accepted.ensures ∙ c.if-not-is_accepted.false in
+    let no = sym c.is_accepted-2.ensures ∙ c.if-not-is_accepted-2.true in
+    let good = passed s.left.now c.judge-g.result c.judge-g.ensures yes in
+    let bad = sym (judged s.right.now c.judge-h.result c.judge-h.ensures) ∙ no in
+    c.without_entry-then-not-is_accepted-2.ensures ∙ refused s.right.now c.judge-h.result c.judge-h.ensures
     ∙ sym (λ k. by s.left.now s.right.now (good k) (bad k) (same s.left.now s.right.now))
 
 pub returns-then-not-g-h : goal.returns-then-not-g-h
 returns-then-not-g-h c =
-    let t = c.before in
-    let k = t.before in
-    let s = (start k).args in
-    c.without_entry-then-not-g-h.ensures ∙ sym (λ i. by s.left.now s.right.now (right-g k i) (right_h k i) ((sym (sames k) ∙ t.if-not-g-h.true) i))
+    let s = (start c.before.before).args in
+    c.without_entry-then-not-g-h.ensures ∙ sym (λ i. by s.left.now s.right.now (right-g c.before.before i) (right_h c.before.before i) ((sym (sames c.before.before) ∙ c.if-not-g-h.true) i))
 
 pub overflow_mul-d : goal.overflow_mul-d
 overflow_mul-d c =
-    let k = c.before in
-    let q : (g k).dim * (g k).dim ≤ 256 = subst (λ (s : Shape). s.dim * s.dim ≤ 256) (sym (is_g k)) (formed _ (form-right _ (right-g k))).head.room.width in
+    let q : (g c.before).dim * (g c.before).dim ≤ 256 = subst (λ (s : Shape). s.dim * s.dim ≤ 256) (sym (is_g c.before)) (formed _ (form-right _ (right-g c.before))).head.room.width in
     omega arith
 
 pub compare_chains-requires : goal.compare_chains-requires
@@ -157,8 +147,6 @@ compare_chains-requires c = matched c
 
 pub returns : goal.returns
 returns c =
-    let e = c.before in
-    let k = e.before in
-    let s = (start k).args in
-    c.compare_chains.ensures ∙ ap (λ (w : ℕ). first w (merge (read_back s.left.now) (read_back s.right.now))) (matched e).left_side
-    ∙ sym (λ i. by s.left.now s.right.now (right-g k i) (right_h k i) ((sym (sames k) ∙ equal-dims e) i))
+    let s = (start c.before.before).args in
+    c.compare_chains.ensures ∙ ap (λ (w : ℕ). first w (merge (read_back s.left.now) (read_back s.right.now))) (matched c.before).left_side
+    ∙ sym (λ i. by s.left.now s.right.now (right-g c.before.before i) (right_h c.before.before i) ((sym (sames c.before.before) ∙ equal-dims c.before) i))

@@ -55,59 +55,49 @@ walk c = (now c).loop-a.invariant
 
 -- the answer for the store, and whether it is "same"
 answer : (c : After-compare_block-d) →
-    (let t = c.before.before in
-    let s = (start t).args in
-    let a = (now t).loop-a.a in
-    let b = (now t).loop-a.b in
+    (let s = (start c.before.before).args in
+    let a = (now c.before.before).loop-a.a in
+    let b = (now c.before.before).loop-a.b in
     c.compare_block-d.result ≡ scan (both_at (turn_of a b) s.left.now a.at s.right.now b.at) s.w (s.w * s.w) 0)
 answer c =
-    let t = c.before.before in
-    let s = (start t).args in
-    c.compare_block-d.ensures ∙ ap (λ (u : Turn). scan (both_at u s.left.now (now t).loop-a.a.at s.right.now (now t).loop-a.b.at) s.w (s.w * s.w) 0) c.choose-t.ensures
+    let s = (start c.before.before).args in
+    c.compare_block-d.ensures ∙ ap (λ (u : Turn). scan (both_at u s.left.now (now c.before.before).loop-a.a.at s.right.now (now c.before.before).loop-a.b.at) s.w (s.w * s.w) 0) c.choose-t.ensures
 
 tested : (c : After-is_same) →
-    (let t = c.before.before.before in
-    let s = (start t).args in
-    let a = (now t).loop-a.a in
-    let b = (now t).loop-a.b in
+    (let s = (start c.before.before.before).args in
+    let a = (now c.before.before.before).loop-a.a in
+    let b = (now c.before.before.before).loop-a.b in
     c.is_same.result ≡ is_same (scan (both_at (turn_of a b) s.left.now a.at s.right.now b.at) s.w (s.w * s.w) 0).found)
 tested c = c.is_same.ensures ∙ ap (λ (d : Difference). is_same d.found) (answer c.before)
 
 -- both cursors move on
 moved-left : (c : After-advanced-a) →
-    (let t = c.before.before.before.before.before in
-    c.advanced-a.result ≡ advance (turn_of (now t).loop-a.a (now t).loop-a.b).left (start t).args.left.now (now t).loop-a.a)
+    (c.advanced-a.result ≡ advance (turn_of (now c.before.before.before.before.before).loop-a.a (now c.before.before.before.before.before).loop-a.b).left (start c.before.before.before.before.before).args.left.now (now c.before.before.before.before.before).loop-a.a)
 moved-left c =
-    let h = c.before.before.before.before in
-    c.advanced-a.ensures ∙ ap (λ (u : Turn). advance u.left (start h.before).args.left.now (now h.before).loop-a.a) h.choose-t.ensures
+    c.advanced-a.ensures ∙ ap (λ (u : Turn). advance u.left (start c.before.before.before.before.before).args.left.now (now c.before.before.before.before.before).loop-a.a) c.choose-t.ensures
 
 moved-right : (c : After-advanced-b) →
-    (let t = c.before.before.before.before.before.before in
-    c.advanced-b.result ≡ advance (turn_of (now t).loop-a.a (now t).loop-a.b).right (start t).args.right.now (now t).loop-a.b)
+    (c.advanced-b.result ≡ advance (turn_of (now c.before.before.before.before.before.before).loop-a.a (now c.before.before.before.before.before.before).loop-a.b).right (start c.before.before.before.before.before.before).args.right.now (now c.before.before.before.before.before.before).loop-a.b)
 moved-right c =
-    let h = c.before.before.before.before.before in
-    c.advanced-b.ensures ∙ ap (λ (u : Turn). advance u.right (start h.before).args.right.now (now h.before).loop-a.b) h.choose-t.ensures
+    c.advanced-b.ensures ∙ ap (λ (u : Turn). advance u.right (start c.before.before.before.before.before.before).args.right.now (now c.before.before.before.before.before.before).loop-a.b) c.choose-t.ensures
 
 pub follow-requires : goal.follow-requires
 follow-requires c = (header_long _ c.requires.left, first-index _ c.requires.left)
 
 pub enter-a-requires : goal.enter-a-requires
-enter-a-requires c = let s = c.before in begins s.args.left.now s.args.m _ s.requires.left s.requires.left_count c.follow.ensures
+enter-a-requires c = begins c.args.left.now c.args.m _ c.requires.left c.requires.left_count c.follow.ensures
 
 pub follow-requires-2 : goal.follow-requires-2
-follow-requires-2 c = let s = c.before.before in (header_long _ s.requires.right, first-index _ s.requires.right)
+follow-requires-2 c = (header_long _ c.requires.right, first-index _ c.requires.right)
 
 pub enter-b-requires : goal.enter-b-requires
-enter-b-requires c = let s = c.before.before.before in begins s.args.right.now s.args.n _ s.requires.right s.requires.right_count c.follow-2.ensures
+enter-b-requires c = begins c.args.right.now c.args.n _ c.requires.right c.requires.right_count c.follow-2.ensures
 
 pub loop-a-init : goal.loop-a-init
 loop-a-init c =
-    let f = c.before in
-    let e = f.before in
-    let s = e.before.before in
-    walking_begin s.requires.left s.requires.right
-    (e.enter-a.ensures ∙ (λ i. cursor_at s.args.left.now (s.requires.left_count i) (e.follow.ensures i)))
-    (c.enter-b.ensures ∙ (λ i. cursor_at s.args.right.now (s.requires.right_count i) (f.follow-2.ensures i)))
+    walking_begin c.requires.left c.requires.right
+    (c.enter-a.ensures ∙ (λ i. cursor_at c.args.left.now (c.requires.left_count i) (c.follow.ensures i)))
+    (c.enter-b.ensures ∙ (λ i. cursor_at c.args.right.now (c.requires.right_count i) (c.follow-2.ensures i)))
 
 pub choose-t-requires : goal.choose-t-requires
 choose-t-requires c = tt
@@ -129,35 +119,28 @@ is_same-requires c = tt
 
 pub returns-then-not-is_same : goal.returns-then-not-is_same
 returns-then-not-is_same c =
-    let i = c.before in
-    let t = i.before.before.before in
-    answer i.before ∙ walking_stop (walk t) t.loop-a-test.true (sym (tested i) ∙ c.if-not-is_same.true)
+    answer c.before.before ∙ walking_stop (walk c.before.before.before.before) c.loop-a-test.true (sym (tested c.before) ∙ c.if-not-is_same.true)
 
 pub advanced-a-requires : goal.advanced-a-requires
 advanced-a-requires c =
-    let h = c.before.before.before in
-    let t = h.before in
-    ((walk t).left, λ e. left-some (walk t) t.loop-a-test.true (sym (ap (λ (t : Turn). t.left) h.choose-t.ensures) ∙ e))
+    let t = c.before.before.before.before in
+    ((walk t).left, λ e. left-some (walk t) t.loop-a-test.true (sym (ap (λ (t : Turn). t.left) c.choose-t.ensures) ∙ e))
 
 pub advanced-b-requires : goal.advanced-b-requires
 advanced-b-requires c =
-    let h = c.before.before.before.before in
-    let t = h.before in
-    ((walk t).right, λ e. right-some (walk t) t.loop-a-test.true (sym (ap (λ (t : Turn). t.right) h.choose-t.ensures) ∙ e))
+    let t = c.before.before.before.before.before in
+    ((walk t).right, λ e. right-some (walk t) t.loop-a-test.true (sym (ap (λ (t : Turn). t.right) c.choose-t.ensures) ∙ e))
 
 pub loop-a-smaller : goal.loop-a-smaller
 loop-a-smaller c =
-    let t = c.before.before.before.before.before.before in
-    walking_less (walk t) t.loop-a-test.true (moved-left c.before) (moved-right c)
+    walking_less (walk c.before.before.before.before.before.before) c.loop-a-test.true (moved-left c.before) (moved-right c)
 
 pub loop-a-preserved : goal.loop-a-preserved
 loop-a-preserved c =
-    let e = c.before.before in
-    let t = e.before.before.before.before in
-    walking_on (walk t) t.loop-a-test.true (sym (tested e.before) ∙ e.if-not-is_same.false) (moved-left c.before) (moved-right c)
+    walking_on (walk c.before.before.before.before.before.before) c.loop-a-test.true (sym (tested c.before.before.before) ∙ c.if-not-is_same.false) (moved-left c.before) (moved-right c)
 
 pub without_entry-requires : goal.without_entry-requires
 without_entry-requires c = tt
 
 pub returns : goal.returns
-returns c = let e = c.before in c.without_entry.ensures ∙ walking_done e.loop-a.invariant e.loop-a-test.false
+returns c = c.without_entry.ensures ∙ walking_done c.loop-a.invariant c.loop-a-test.false

@@ -44,9 +44,7 @@ same_rows-requires c = let p = left_in c.before in let q = right_in c.before in 
 
 pub returns : goal.returns
 returns c =
-    let b = c.before in
-    let e = b.before in
-    let s = e.args in
+    let s = c.args in
     c.same_rows.ensures
-    ∙ ap (same_words s.left.now (s.i + record_head) s.right.now (s.j + record_head)) b.block_size.ensures
-    ∙ sym (and_is s.same true (same_words s.left.now (s.i + record_head) s.right.now (s.j + record_head) (s.w * s.w * 4)) (e.if-not-same.false))
+    ∙ ap (same_words s.left.now (s.i + record_head) s.right.now (s.j + record_head)) c.block_size.ensures
+    ∙ sym (and_is s.same true (same_words s.left.now (s.i + record_head) s.right.now (s.j + record_head) (s.w * s.w * 4)) (c.if-not-same.false))

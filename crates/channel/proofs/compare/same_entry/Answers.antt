@@ -56,10 +56,9 @@ same_words-requires c = (left_in c, right_in c)
 
 pub returns-then-same : goal.returns-then-same
 returns-then-same c =
-    let t = c.before in
-    let s = (start t).args in
-    c.same_words.ensures ∙ four_decide s.left.now s.i s.right.now s.j s.k (both t).1.1
-    ∙ sym (sides_alike s.t s.left.now s.i s.right.now s.j s.k (both t).0 (both t).1.0)
+    let s = (start c.before).args in
+    c.same_words.ensures ∙ four_decide s.left.now s.i s.right.now s.j s.k (both c.before).1.1
+    ∙ sym (sides_alike s.t s.left.now s.i s.right.now s.j s.k (both c.before).0 (both c.before).1.0)
 
 pub entry_or_zero-x-requires : goal.entry_or_zero-x-requires
 entry_or_zero-x-requires c = c.requires.0.left

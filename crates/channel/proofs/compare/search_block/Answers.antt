@@ -39,7 +39,7 @@ found s r c x y = record { found = Entry (record { store = s; row = r; col = c }
 
 -- the test of the entries
 tested : (q : After-same_entry) →
-    (let n = q.before in q.same_entry.result ≡ equal ((both n).left n.loop-col.k) ((both n).right n.loop-col.k))
+    (q.same_entry.result ≡ equal ((both q.before).left q.loop-col.k) ((both q.before).right q.loop-col.k))
 tested q = q.same_entry.ensures
 
 -- the entry is one of the block
@@ -62,13 +62,13 @@ pub same_entry-requires : goal.same_entry-requires
 same_entry-requires c = (held_fewer (c.loop-col.k + 1) (below c) (start c).requires.1.0, (start c).requires.1.1)
 
 pub entry_or_zero-x-requires : goal.entry_or_zero-x-requires
-entry_or_zero-x-requires c = let n = c.before.before in λ e. fewer (n.loop-col.k + 1) (below n) ((start n).requires.1.0.left e)
+entry_or_zero-x-requires c = λ e. fewer (c.loop-col.k + 1) (below c.before.before) ((start c.before.before).requires.1.0.left e)
 
 pub entry_or_zero-y-requires : goal.entry_or_zero-y-requires
-entry_or_zero-y-requires c = let n = c.before.before.before in λ e. fewer (n.loop-col.k + 1) (below n) ((start n).requires.1.0.right e)
+entry_or_zero-y-requires c = λ e. fewer (c.loop-col.k + 1) (below c.before.before.before) ((start c.before.before.before).requires.1.0.right e)
 
 pub overflow_add-k : goal.overflow_add-k
-overflow_add-k c = let n = c.before.before in let q = inside n in let r = mul-le-mul (start n).requires.0 (start n).requires.0 in omega arith
+overflow_add-k c = let q = inside c.before.before in let r = mul-le-mul (start c.before.before).requires.0 (start c.before.before).requires.0 in omega arith
 
 pub overflow_add-col : goal.overflow_add-col
 overflow_add-col c = omega arith
@@ -78,11 +78,9 @@ loop-col-smaller c = omega arith
 
 pub loop-col-preserved : goal.loop-col-preserved
 loop-col-preserved c =
-    let q = c.before in
-    let n = q.before in
-    let l = n.loop-col in (
+    let l = c.loop-col in (
       (omega arith, (omega arith, omega arith)),
-      (l.invariant.1.0, l.invariant.1.1 ∙ agrees (both n) _ _ _ (inside n) (sym (tested q) ∙ c.if-not-same_entry.false)),
+      (l.invariant.1.0, l.invariant.1.1 ∙ agrees (both c.before.before) _ _ _ (inside c.before.before) (sym (tested c.before) ∙ c.if-not-same_entry.false)),
     )
 
 pub overflow_add-row : goal.overflow_add-row
@@ -97,17 +95,12 @@ rows-preserved c = ((omega arith, omega (arith, next_row c.rows.row c.args.w)), 
 pub returns-after-rows : goal.returns-after-rows
 returns-after-rows c =
     let r = c.rows in
-    let s = c.before.before.before in
-    let all : r.row ≡ s.args.w = omega arith in
-    r.invariant.1.0 ∙ sym (r.invariant.1.1 ∙ done _ _ _ _ (r.invariant.0.1 ∙ ap (λ (x : ℕ). x * s.args.w) all))
+    let all : r.row ≡ c.args.w = omega arith in
+    r.invariant.1.0 ∙ sym (r.invariant.1.1 ∙ done _ _ _ _ (r.invariant.0.1 ∙ ap (λ (x : ℕ). x * c.args.w) all))
 
 pub returns-then-not-same_entry : goal.returns-then-not-same_entry
 returns-then-not-same_entry c =
-    let e = c.before in
-    let t = e.before in
-    let q = t.before in
-    let n = q.before in
-    let l = n.loop-col in
-    let row = n.rows.row in
-    (λ i. found (start n).args.t.store row l.col (e.entry_or_zero-x.ensures i) (c.entry_or_zero-y.ensures i))
-    ∙ sym (l.invariant.1.1 ∙ differs (both n) _ _ _ (inside n) row l.col l.invariant.0.1.1 n.loop-col-test.true (sym (tested q) ∙ t.if-not-same_entry.true))
+    let l = c.loop-col in
+    let row = c.rows.row in
+    (λ i. found (start c.before.before.before.before).args.t.store row l.col (c.entry_or_zero-x.ensures i) (c.entry_or_zero-y.ensures i))
+    ∙ sym (l.invariant.1.1 ∙ differs (both c.before.before.before.before) _ _ _ (inside c.before.before.before.before) row l.col l.invariant.0.1.1 c.loop-col-test.true (sym (tested c.before.before.before) ∙ c.if-not-same_entry.true))

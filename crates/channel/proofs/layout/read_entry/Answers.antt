@@ -94,13 +94,12 @@ reduce-requires c =
 
 pub returns : goal.returns
 returns c =
-    let x = c.before in
-    let s = (start x).args in
+    let s = (start c.before).args in
     let l = s.s.now in
     let place = add_assoc (s.at + record_head) (s.k * 4) in
     let zero : s.at + record_head + s.k * 4 ≡ s.at + record_head + (s.k * 4 + 0) = omega arith in
-    let p0 = reads (word l (s.at + record_head + s.k * 4)) x.n0-1.given ∙ ap (word l) zero in
-    let p1 = reads (word l (s.at + record_head + s.k * 4 + 1)) x.n1-1.given ∙ ap (word l) (place 1) in
-    let p2 = reads (word l (s.at + record_head + s.k * 4 + 2)) x.n2-1.given ∙ ap (word l) (place 2) in
-    let p3 = reads (word l (s.at + record_head + s.k * 4 + 3)) x.n3-1.given ∙ ap (word l) (place 3) in
-    c.reduce.ensures ∙ (λ i. scalar_of (lowest (number (p0 i) (p1 i) (p2 i) (p3 i)) (nat_abs (exponent x i))))
+    let p0 = reads (word l (s.at + record_head + s.k * 4)) c.n0-1.given ∙ ap (word l) zero in
+    let p1 = reads (word l (s.at + record_head + s.k * 4 + 1)) c.n1-1.given ∙ ap (word l) (place 1) in
+    let p2 = reads (word l (s.at + record_head + s.k * 4 + 2)) c.n2-1.given ∙ ap (word l) (place 2) in
+    let p3 = reads (word l (s.at + record_head + s.k * 4 + 3)) c.n3-1.given ∙ ap (word l) (place 3) in
+    c.reduce.ensures ∙ (λ i. scalar_of (lowest (number (p0 i) (p1 i) (p2 i) (p3 i)) (nat_abs (exponent c.before i))))

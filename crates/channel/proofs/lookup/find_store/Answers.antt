@@ -19,7 +19,7 @@ abbrev In-loop-left : Type 0
 In-loop-left = lts.In-loop tie.the-claims reads.Pre reads.Post goal.the-invariant-loop-left goal.the-decreases-loop-left
 
 module _ (c : In-loop-left) where
-  walk : Onward c.args.s.now c.loop-left.false c.loop-left.at
+  walk : Onward c.args.s.now c.loop-left.left c.loop-left.at
   walk = c.loop-left.invariant.0
 
   inside : c.loop-left.at + record_head ≤ length c.args.s.now
@@ -29,23 +29,20 @@ pub follow-at-requires : goal.follow-at-requires
 follow-at-requires c = (header_long _ c.requires.0, first-index _ c.requires.0)
 
 pub loop-left-init : goal.loop-left-init
-loop-left-init c =
-    let s = c.before in (
-      subst (Onward s.args.s.now s.args.count) (sym c.follow-at.ensures) (subst (λ (n : ℕ). Onward s.args.s.now n (nat_abs (word s.args.s.now 3))) (sym s.requires.1) (onward_begin _ s.requires.0)),
-      ap (find s.args.s.now s.args.store s.args.count) (sym c.follow-at.ensures),
-    )
+loop-left-init c = (
+  subst (Onward c.args.s.now c.args.count) (sym c.follow-at.ensures) (subst (λ (n : ℕ). Onward c.args.s.now n (nat_abs (word c.args.s.now 3))) (sym c.requires.1) (onward_begin _ c.requires.0)),
+  ap (find c.args.s.now c.args.store c.args.count) (sym c.follow-at.ensures),
+)
 
 pub read_store-requires : goal.read_store-requires
 read_store-requires c = let q = inside c in (omega arith, on-words (walk c) c.loop-left-test.true)
 
 pub returns-then-read_store-store : goal.returns-then-read_store-store
 returns-then-read_store-store c =
-    let r = c.before in
-    let l = r.before.before in
-    sym (l.loop-left.invariant.1 ∙ finds _ _ _ _ r.loop-left-test.true (eq-eqb _ _ (sym r.read_store.ensures ∙ c.if-read_store-store.true)))
+    sym (c.loop-left.invariant.1 ∙ finds _ _ _ _ c.loop-left-test.true (eq-eqb _ _ (sym c.read_store.ensures ∙ c.if-read_store-store.true)))
 
 pub follow-at-requires-in-loop-left : goal.follow-at-requires-in-loop-left
-follow-at-requires-in-loop-left c = let n = c.before.before in let q = inside n in (omega arith, on-index (walk n) n.loop-left-test.true)
+follow-at-requires-in-loop-left c = let q = inside c.before.before in (omega arith, on-index (walk c.before.before) c.loop-left-test.true)
 
 pub overflow_sub-left : goal.overflow_sub-left
 overflow_sub-left c = omega arith
@@ -54,15 +51,11 @@ pub loop-left-smaller : goal.loop-left-smaller
 loop-left-smaller c = omega arith
 
 pub loop-left-preserved : goal.loop-left-preserved
-loop-left-preserved c =
-    let r = c.before.before in
-    let n = r.before in
-    let l = n.before in
-    let s = l.before.before in (
-      subst (Onward s.args.s.now (l.loop-left.false - 1)) (sym c.follow-at-in-loop-left.ensures) (on-next (walk n) n.loop-left-test.true),
-      l.loop-left.invariant.1 ∙ seeks _ _ _ _ n.loop-left-test.true (ne_eqb _ _ (λ e. c.if-read_store-store.false (r.read_store.ensures ∙ e)))
-          ∙ ap (find s.args.s.now s.args.store (l.loop-left.false - 1)) (sym c.follow-at-in-loop-left.ensures),
-    )
+loop-left-preserved c = (
+  subst (Onward c.args.s.now (c.loop-left.left - 1)) (sym c.follow-at-in-loop-left.ensures) (on-next (walk c.before.before.before) c.loop-left-test.true),
+  c.loop-left.invariant.1 ∙ seeks _ _ _ _ c.loop-left-test.true (ne_eqb _ _ (λ e. c.if-read_store-store.false (c.read_store.ensures ∙ e)))
+      ∙ ap (find c.args.s.now c.args.store (c.loop-left.left - 1)) (sym c.follow-at-in-loop-left.ensures),
+)
 
 pub returns : goal.returns
-returns c = let l = c.before in sym (l.loop-left.invariant.1 ∙ find_none _ _ _ _ c.loop-left-test.false)
+returns c = sym (c.loop-left.invariant.1 ∙ find_none _ _ _ _ c.loop-left-test.false)

@@ -95,14 +95,11 @@ module _ (c : Else-at-eq0) where
 
 pub returns-then-not-is_accepted : goal.returns-then-not-is_accepted
 returns-then-not-is_accepted c =
-    let k = c.before.before.before in
-    c.none.ensures ∙ sym (ap (span_of (words k)) (look-refused (words k) (bytes k) (sym (tested k) ∙ c.if-not-is_accepted.true)))
+    c.none.ensures ∙ sym (ap (span_of (words c.before.before.before)) (look-refused (words c.before.before.before) (bytes c.before.before.before) (sym (tested c.before.before.before) ∙ c.if-not-is_accepted.true)))
 
 pub returns-then-not-is_store : goal.returns-then-not-is_store
 returns-then-not-is_store c =
-    let r = c.before.before.before in
-    let k = r.before.before in
-    c.none-then-not-is_store.ensures ∙ sym (ap (span_of (words k)) (look-wrong (words k) (bytes k) (passed r.before) (sym (stores r) ∙ c.if-not-is_store.true)))
+    c.none-then-not-is_store.ensures ∙ sym (ap (span_of (words c.before.before.before.before.before)) (look-wrong (words c.before.before.before.before.before) (bytes c.before.before.before.before.before) (passed c.before.before.before.before) (sym (stores c.before.before.before) ∙ c.if-not-is_store.true)))
 
 pub pack-requires : goal.pack-requires
 pack-requires c =
@@ -112,21 +109,17 @@ pack-requires c =
 
 pub returns-then-at-eq0 : goal.returns-then-at-eq0
 returns-then-at-eq0 c =
-    let f = c.before.before.before in
-    let t = f.before.before in
-    let k = known t in
-    c.none-then-at-eq0.ensures ∙ sym (ap (span_of (words k)) (look t ∙ ap placed (sym (found_at f) ∙ c.if-at-eq0.true)))
+    let k = known c.before.before.before.before.before in
+    c.none-then-at-eq0.ensures ∙ sym (ap (span_of (words k)) (look c.before.before.before.before.before ∙ ap placed (sym (found_at c.before.before.before) ∙ c.if-at-eq0.true)))
 
 pub returns : goal.returns
 returns c =
-    let f = c.before.before.before.before in
-    let t = f.before.before in
-    let k = known t in
-    ap (λ (n : ℕ). record { start = f.find_store-at.result + exponent_place; size = 1 + n }) (c.block_size.ensures ∙ ap (λ (h : Shape). block_size (full (h.dim * h.dim))) (is t.before.before))
-    ∙ sym (ap (span_of (words k)) (look t ∙ ap placed (sym (found_at f)) ∙ placed-found f.find_store-at.result (omega arith)))
+    let k = known c.before.before.before.before.before.before in
+    ap (λ (n : ℕ). record { start = c.find_store-at.result + exponent_place; size = 1 + n }) (c.block_size.ensures ∙ ap (λ (h : Shape). block_size (full (h.dim * h.dim))) (is c.before.before.before.before.before.before.before.before))
+    ∙ sym (ap (span_of (words k)) (look c.before.before.before.before.before.before ∙ ap placed (sym (found_at c.before.before.before.before)) ∙ placed-found c.find_store-at.result (omega arith)))
 
 pub find_store-at-requires : goal.find_store-at-requires
-find_store-at-requires c = let e = c.before.before.before.before in (right e, ap (λ (h : Shape). h.count) (is e))
+find_store-at-requires c = (right c.before.before.before.before, ap (λ (h : Shape). h.count) (is c.before.before.before.before))
 
 pub overflow_mul-w : goal.overflow_mul-w
 overflow_mul-w c = let q = width c.before.before in omega arith

@@ -31,9 +31,8 @@ slice_bounds-result-end c = let q = inside c.before.before in search rules
 
 pub returns : goal.returns
 returns c =
-    let k = c.before.before.before in
-    let s = k.args in
-    let n : k.locate-p.result.start + k.locate-p.result.size - k.locate-p.result.start ≡ k.locate-p.result.size = omega arith in
-    ap (λ (n : ℕ). take n (drop k.locate-p.result.start s.channel.now)) n
-    ∙ ap (λ (p : Span). take p.size (drop p.start s.channel.now)) k.locate-p.ensures
+    let s = c.args in
+    let n : c.locate-p.result.start + c.locate-p.result.size - c.locate-p.result.start ≡ c.locate-p.result.size = omega arith in
+    ap (λ (n : ℕ). take n (drop c.locate-p.result.start s.channel.now)) n
+    ∙ ap (λ (p : Span). take p.size (drop p.start s.channel.now)) c.locate-p.ensures
     ∙ part-span s.channel.now (lookup_of s.channel.now s.store.now)

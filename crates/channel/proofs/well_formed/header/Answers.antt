@@ -56,7 +56,7 @@ module _ (c : After-count-1) where
 
 -- dimension and bit count
 both : (c : After-up_to) → (c.is_dim.result && c.up_to.result) ≡ (is_dim (word (words c.before.before) 0) && up_to 64 (word (words c.before.before) 1))
-both c = let a = c.before.before in λ i. (c.is_dim.ensures ∙ ap is_dim (to_z-of_z (dim a))) i && (c.up_to.ensures ∙ ap (up_to 64) (to_z-of_z (bits a))) i
+both c = λ i. (c.is_dim.ensures ∙ ap is_dim (to_z-of_z (dim c.before.before))) i && (c.up_to.ensures ∙ ap (up_to 64) (to_z-of_z (bits c.before.before))) i
 
 module _ (c : Else-not-is_dim-up_to) where
   abbrev a : After-count-1
@@ -90,9 +90,8 @@ returns-then-s-lt-HEADER c =
 
 pub returns-then-not-is_dim-up_to : goal.returns-then-not-is_dim-up_to
 returns-then-not-is_dim-up_to c =
-    let u = c.before.before in
-    let l = words u.before.before in
-    refused l _ c.no_shape-then-not-is_dim-up_to.ensures (λ i. long u.before.before i && ((sym (both u) ∙ c.if-not-is_dim-up_to.true) i && counted (channels (dim_at l)) l))
+    let l = words c.before.before.before.before in
+    refused l _ c.no_shape-then-not-is_dim-up_to.ensures (λ i. long c.before.before.before.before i && ((sym (both c.before.before) ∙ c.if-not-is_dim-up_to.true) i && counted (channels (dim_at l)) l))
 
 pub overflow_cast-d : goal.overflow_cast-d
 overflow_cast-d c = read (dim (a c)) (Casts w64) (cast_ok 16 (word (words (a c)) 0) (range c).0 (record { fits = lit< tt }))
@@ -105,30 +104,24 @@ record_size-size-requires c = square_small _ (small c)
 
 pub returns-then-not-up_to : goal.returns-then-not-up_to
 returns-then-not-up_to c =
-    let u = c.before.before in
-    let e = u.before.before in
-    let l = words (a e) in
-    refused l _ c.no_shape-then-not-up_to.ensures (λ i. long (a e) i && (right e i && (sym (counts u) ∙ c.if-not-up_to.true) i))
+    let l = words (a c.before.before.before.before) in
+    refused l _ c.no_shape-then-not-up_to.ensures (λ i. long (a c.before.before.before.before) i && (right c.before.before.before.before i && (sym (counts c.before.before) ∙ c.if-not-up_to.true) i))
 
 pub overflow_cast-m : goal.overflow_cast-m
 overflow_cast-m c =
-    let e = c.before.before.before in
-    let l = words (a e) in
-    read (bits (a e)) (Casts w32) (cast_ok 64 (word l 1) (and_split (is_dim (word l 0)) (up_to 64 (word l 1)) (right e)).1 (record { fits = lit< tt }))
+    let l = words (a c.before.before.before) in
+    read (bits (a c.before.before.before)) (Casts w32) (cast_ok 64 (word l 1) (and_split (is_dim (word l 0)) (up_to 64 (word l 1)) (right c.before.before.before)).1 (record { fits = lit< tt }))
 
 pub overflow_cast-n : goal.overflow_cast-n
 overflow_cast-n c =
-    let e = c.before.before.before in
-    let l = words (a e) in
-    read (count (a e)) (Casts w64) (casts_up ((length l - header_size) / record_size (channels (dim_at l))) (word l 2) (count (a e)) (sym (counts c.before) ∙ c.if-not-up_to.false))
+    let l = words (a c.before.before.before) in
+    read (count (a c.before.before.before)) (Casts w64) (casts_up ((length l - header_size) / record_size (channels (dim_at l))) (word l 2) (count (a c.before.before.before)) (sym (counts c.before) ∙ c.if-not-up_to.false))
 
 pub returns : goal.returns
 returns c =
-    let u = c.before in
-    let e = u.before.before in
-    let l = words (a e) in
-    let d = to_z-of_z (dim (a e)) in
-    let b = to_z-of_z (bits (a e)) in
-    let n = to_z-of_z (count (a e)) in
-    let ok : header_ok (channels (dim_at l)) l ≡ true = λ i. long (a e) i && (right e i && (sym (counts u) ∙ c.if-not-up_to.false) i) in
+    let l = words (a c.before.before.before) in
+    let d = to_z-of_z (dim (a c.before.before.before)) in
+    let b = to_z-of_z (bits (a c.before.before.before)) in
+    let n = to_z-of_z (count (a c.before.before.before)) in
+    let ok : header_ok (channels (dim_at l)) l ≡ true = λ i. long (a c.before.before.before) i && (right c.before.before.before i && (sym (counts c.before) ∙ c.if-not-up_to.false) i) in
     (λ i. record { verdict = Accepted; dim = nat_abs (d i); bits = nat_abs (b i); count = nat_abs (n i) }) ∙ ap (λ (b : Bool). shape_by (verdict_by b false) l) (sym ok)

@@ -69,20 +69,18 @@ module _ (c : After-is_accepted-2) where
 
 pub returns-then-not-is_accepted : goal.returns-then-not-is_accepted
 returns-then-not-is_accepted c =
-    let k = c.before in
     let no = c.if-not-is_accepted.true in
-    let bad = sym (tested k) ∙ no in
-    shape_no (words k) (headed-by k) (shape k) k.header-h.ensures (sym k.is_accepted.ensures ∙ no)
+    let bad = sym (tested c.before) ∙ no in
+    shape_no (words c.before) (headed-by c.before) (shape c.before) c.header-h.ensures (sym c.is_accepted.ensures ∙ no)
     ∙ ap (λ (b : Bool). no_shape (verdict_by b false)) bad
-    ∙ ap (λ (v : Verdict). shape_by v (words k)) (sym (bad_header (words k) bad))
+    ∙ ap (λ (v : Verdict). shape_by v (words c.before)) (sym (bad_header (words c.before) bad))
 
 pub returns-then-not-is_accepted-2 : goal.returns-then-not-is_accepted-2
 returns-then-not-is_accepted-2 c =
-    let k = c.before.before in
-    c.no_shape.ensures ∙ ap no_shape (chains k) ∙ shape-refused (list k) (form_verdict (list k)) (sym (passes k) ∙ c.if-not-is_accepted-2.true)
+    c.no_shape.ensures ∙ ap no_shape (chains c.before.before) ∙ shape-refused (list c.before.before) (form_verdict (list c.before.before)) (sym (passes c.before.before) ∙ c.if-not-is_accepted-2.true)
 
 pub returns : goal.returns
-returns c = let k = c.before in is (one k) ∙ shape-yes (list k) (form_verdict (list k)) (sym (passes k) ∙ c.if-not-is_accepted-2.false)
+returns c = is (one c.before) ∙ shape-yes (list c.before) (form_verdict (list c.before)) (sym (passes c.before) ∙ c.if-not-is_accepted-2.false)
 
 pub overflow_mul-d : goal.overflow_mul-d
 overflow_mul-d c = let r = (room c).width in omega arith

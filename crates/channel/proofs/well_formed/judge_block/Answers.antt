@@ -42,13 +42,11 @@ tested : (c : After-up_to) → c.up_to.result ≡ up_to max_exponent (word c.arg
 tested c = c.up_to.ensures ∙ ap (up_to max_exponent) (to_z-of_z (fits c.before))
 
 -- the test of the block
-passed : (c : After-see-g) → (let b = c.before in let x = b.before.before.before in let s = x.args in
+passed : (c : After-see-g) → (let s = c.args in
     (c.see-g.result.range && (eqb (of_z w64 (word s.s.now (s.at + exponent_place))) 0 || not c.see-g.result.even)) ≡ block_ok (full s.w) s.s.now s.at)
 passed c =
-    let b = c.before in
-    let u = b.before.before in
-    let s = u.args in
-    pass_is s.s.now s.at s.w c.see-g.result b.block_size.result b.block_size.ensures c.see-g.ensures _ (eq_small 0 tt _ (fits u.before)) (sym (tested u) ∙ b.if-not-up_to.false)
+    let s = c.args in
+    pass_is s.s.now s.at s.w c.see-g.result c.block_size.result c.block_size.ensures c.see-g.ensures _ (eq_small 0 tt _ (fits c.before.before.before.before)) (sym (tested c.before.before.before) ∙ c.if-not-up_to.false)
 
 room : (c : Start) → c.args.at + record_head + c.args.w * c.args.w * 4 ≤ length c.args.s.now
 room c = omega (arith, c.requires.1)
@@ -64,9 +62,8 @@ bounds-s-at c = let q = room c in omega arith
 
 pub returns-then-not-up_to : goal.returns-then-not-up_to
 returns-then-not-up_to c =
-    let u = c.before.before in
-    let s = u.args in
-    is_bad _ _ _ _ c.bad.ensures (pass_outside s.s.now s.at s.w (sym (tested u) ∙ c.if-not-up_to.true))
+    let s = c.args in
+    is_bad _ _ _ _ c.bad.ensures (pass_outside s.s.now s.at s.w (sym (tested c.before.before) ∙ c.if-not-up_to.true))
 
 pub overflow_add-at : goal.overflow_add-at
 overflow_add-at c = let q = room c.before.before.before in omega arith
@@ -78,11 +75,9 @@ pub see-g-requires : goal.see-g-requires
 see-g-requires c = let q = room c.before.before.before.before in omega (arith, c.block_size.ensures)
 
 pub returns-then-not-g-e : goal.returns-then-not-g-e
-returns-then-not-g-e c = let g = c.before.before.before.before in is_bad _ _ _ _ c.bad-then-not-g-e.ensures (sym (passed g) ∙ c.if-not-g-e.true)
+returns-then-not-g-e c = is_bad _ _ _ _ c.bad-then-not-g-e.ensures (sym (passed c.before.before.before.before) ∙ c.if-not-g-e.true)
 
 pub returns : goal.returns
 returns c =
-    let g = c.before.before.before in
-    let b = g.before in
-    let s = b.args in
-    is_good _ _ _ _ _ (pass_zero s.s.now s.at s.w g.see-g.result b.block_size.result b.block_size.ensures g.see-g.ensures) refl (sym (passed g) ∙ c.if-not-g-e.false)
+    let s = c.args in
+    is_good _ _ _ _ _ (pass_zero s.s.now s.at s.w c.see-g.result c.block_size.result c.block_size.ensures c.see-g.ensures) refl (sym (passed c.before.before.before) ∙ c.if-not-g-e.false)

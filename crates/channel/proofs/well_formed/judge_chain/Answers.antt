@@ -76,22 +76,17 @@ is_start-requires c = c.requires.width
 
 pub returns-then-not-is_start : goal.returns-then-not-is_start
 returns-then-not-is_start c =
-    let a = c.before in
-    let l = a.before.before in
-    sym (l.loop-left.invariant.1 ∙ refused _ _ _ _ _ _ _ _ l.loop-left.zero (no_start _ _ _ _ _ _ _ _ a.loop-left-test.true (sym a.is_start.ensures ∙ c.if-not-is_start.true)))
+    sym (c.loop-left.invariant.1 ∙ refused _ _ _ _ _ _ _ _ c.loop-left.zero (no_start _ _ _ _ _ _ _ _ c.loop-left-test.true (sym c.is_start.ensures ∙ c.if-not-is_start.true)))
 
 pub overflow_cast-at : goal.overflow_cast-at
 overflow_cast-at c = ((found c).0, record { fits = omega (arith, inside c) })
 
 pub judge_record-j-requires : goal.judge_record-j-requires
-judge_record-j-requires c = let s = c.before.before.before.before.before in (s.requires.width, (s.requires.few, inside c))
+judge_record-j-requires c = (c.requires.width, (c.requires.few, inside c))
 
 pub returns-then-not-j : goal.returns-then-not-j
 returns-then-not-j c =
-    let j = c.before.before in
-    let e = j.before in
-    let l = e.before.before.before in
-    sym (l.loop-left.invariant.1 ∙ refused _ _ _ _ _ _ _ _ l.loop-left.zero (no_record _ _ _ _ _ _ _ _ e.loop-left-test.true (tested e) (bad _ _ _ _ j.judge_record-j.ensures (c.if-not-j.true))))
+    sym (c.loop-left.invariant.1 ∙ refused _ _ _ _ _ _ _ _ c.loop-left.zero (no_record _ _ _ _ _ _ _ _ c.loop-left-test.true (tested c.before.before.before) (bad _ _ _ _ c.judge_record-j.ensures (c.if-not-j.true))))
 
 pub offset_bounds-s-at : goal.offset_bounds-s-at
 offset_bounds-s-at c = omega (arith, inside c.before.before.before)
@@ -107,16 +102,13 @@ loop-left-smaller c = omega arith
 
 pub loop-left-preserved : goal.loop-left-preserved
 loop-left-preserved c =
-    let j = c.before.before.before.before in
-    let e = j.before in
-    let l = e.before.before.before in
-    let s = l.args in
-    let g = good _ _ _ _ j.judge_record-j.ensures (c.if-not-j.false) in
-    let h = e.loop-left-test.true in
-    let at = nat_abs (to_z w64 l.loop-left.z-bits) in (
+    let s = c.args in
+    let g = good _ _ _ _ c.judge_record-j.ensures (c.if-not-j.false) in
+    let h = c.loop-left-test.true in
+    let at = nat_abs (to_z w64 c.loop-left.z-bits) in (
       omega arith,
-      l.loop-left.invariant.1 ∙ further _ _ _ _ l.loop-left.false (to_z w64 l.loop-left.z-bits) l.loop-left.first l.loop-left.prev l.loop-left.zero h (tested e) g.0
-          ∙ (λ i. verdict s.s.now s.w s.m s.count (l.loop-left.false - 1) (sym (reads (word s.s.now at) c.z-in-loop-left-1.given) i) false (sym g.1.0 i) (l.loop-left.zero || sym g.1.1 i)),
+      c.loop-left.invariant.1 ∙ further _ _ _ _ c.loop-left.left (to_z w64 c.loop-left.z-bits) c.loop-left.first c.loop-left.prev c.loop-left.zero h (tested c.before.before.before.before.before) g.0
+          ∙ (λ i. verdict s.s.now s.w s.m s.count (c.loop-left.left - 1) (sym (reads (word s.s.now at) c.z-in-loop-left-1.given) i) false (sym g.1.0 i) (c.loop-left.zero || sym g.1.1 i)),
     )
 
 pub verdict_by-requires : goal.verdict_by-requires
@@ -124,7 +116,6 @@ verdict_by-requires c = tt
 
 pub returns : goal.returns
 returns c =
-    let e = c.before in
-    let l = e.loop-left in
+    let l = c.loop-left in
     c.verdict_by.ensures ∙ ap (λ (b : Bool). verdict_by b l.zero) (bits-zero l.z)
-    ∙ sym (l.invariant.1 ∙ ended _ _ _ _ l.left (to_z w64 l.z) l.first l.prev l.zero _ e.loop-left-test.false refl)
+    ∙ sym (l.invariant.1 ∙ ended _ _ _ _ l.left (to_z w64 l.z) l.first l.prev l.zero _ c.loop-left-test.false refl)

@@ -57,28 +57,21 @@ rising c = sym (ordered c.before) ∙ c.if-not-first-comes_before.false
 
 pub returns-then-not-j : goal.returns-then-not-j
 returns-then-not-j c =
-    let j = c.before.before.before in
-    let s = j.before in
-    is_bad _ (in_store s && (in_order s && in_block s)) _ _ c.bad.ensures (ap (λ (b : Bool). b && (in_order s && in_block s)) (bad _ (in_store s) false (store s) j.judge_store-j.ensures (c.if-not-j.true)))
+    is_bad _ (in_store c.before.before.before.before && (in_order c.before.before.before.before && in_block c.before.before.before.before)) _ _ c.bad.ensures (ap (λ (b : Bool). b && (in_order c.before.before.before.before && in_block c.before.before.before.before)) (bad _ (in_store c.before.before.before.before) false (store c.before.before.before.before) c.judge_store-j.ensures (c.if-not-j.true)))
 
 pub returns-then-not-first-comes_before : goal.returns-then-not-first-comes_before
 returns-then-not-first-comes_before c =
-    let b = c.before.before in
-    let s = start b.before in
-    is_bad _ (in_store s && (in_order s && in_block s)) _ _ c.bad-then-not-first-comes_before.ensures (λ i. (fine b.before).0 i && ((sym (ordered b) ∙ c.if-not-first-comes_before.true) i && in_block s))
+    let s = start c.before.before.before in
+    is_bad _ (in_store s && (in_order s && in_block s)) _ _ c.bad-then-not-first-comes_before.ensures (λ i. (fine c.before.before.before).0 i && ((sym (ordered c.before.before) ∙ c.if-not-first-comes_before.true) i && in_block s))
 
 pub returns-then-not-b : goal.returns-then-not-b
 returns-then-not-b c =
-    let e = c.before.before.before in
-    let o = e.before in
-    let s = start o.before.before in
-    is_bad _ (in_store s && (in_order s && in_block s)) _ _ c.bad-then-not-b.ensures (λ i. (fine o.before.before).0 i && (rising o i && bad _ (in_block s) (blank s) 0 e.judge_block-b.ensures (c.if-not-b.true) i))
+    let s = start c.before.before.before.before.before.before in
+    is_bad _ (in_store s && (in_order s && in_block s)) _ _ c.bad-then-not-b.ensures (λ i. (fine c.before.before.before.before.before.before).0 i && (rising c.before.before.before.before i && bad _ (in_block s) (blank s) 0 c.judge_block-b.ensures (c.if-not-b.true) i))
 
 pub returns : goal.returns
 returns c =
-    let e = c.before.before in
-    let o = e.before in
-    let f = fine o.before.before in
-    let s = start o.before.before in
-    let g = good _ (in_block s) (blank s) 0 e.judge_block-b.ensures (c.if-not-b.false) in
-    is_good _ _ (in_store s && (in_order s && in_block s)) _ _ g.1.1 f.1 (λ i. f.0 i && (rising o i && g.0 i))
+    let f = fine c.before.before.before.before.before in
+    let s = start c.before.before.before.before.before in
+    let g = good _ (in_block s) (blank s) 0 c.judge_block-b.ensures (c.if-not-b.false) in
+    is_good _ _ (in_store s && (in_order s && in_block s)) _ _ g.1.1 f.1 (λ i. f.0 i && (rising c.before.before.before i && g.0 i))

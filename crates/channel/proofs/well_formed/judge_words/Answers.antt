@@ -32,8 +32,7 @@ After-fits_bits = lts.After-fits_bits tie.the-claims reads.Pre reads.Post
 -- both words are in range
 both : (c : After-up_to-2) → (c.up_to.result && c.up_to-2.result) ≡ (up_to max_word c.args.low && up_to max_word c.args.high)
 both c =
-    let s = c.before.before in
-    λ i. (c.up_to.ensures ∙ ap (up_to max_word) (to_z-of_z s.ranges.low)) i && (c.up_to-2.ensures ∙ ap (up_to max_word) (to_z-of_z s.ranges.high)) i
+    λ i. (c.up_to.ensures ∙ ap (up_to max_word) (to_z-of_z c.ranges.low)) i && (c.up_to-2.ensures ∙ ap (up_to max_word) (to_z-of_z c.ranges.high)) i
 
 ranges : (c : Else-not-up_to) → (up_to max_word c.args.low ≡ true) × (up_to max_word c.args.high ≡ true)
 ranges c = and_split _ _ (sym (both c.before) ∙ c.if-not-up_to.false)
@@ -43,14 +42,13 @@ abbrev number : After-join-store → ℕ
 number c = store_from c.args.low c.args.high
 
 stored : (c : After-join-store) → c.join-store.result ≡ number c
-stored c = let s = c.before.before.before.before in c.join-store.ensures ∙ (λ i. store_from (to_z-of_z s.ranges.low i) (to_z-of_z s.ranges.high i))
+stored c = c.join-store.ensures ∙ (λ i. store_from (to_z-of_z c.ranges.low i) (to_z-of_z c.ranges.high i))
 
 tested : (c : After-fits_bits) → c.fits_bits.result ≡ words_ok c.args.low c.args.high c.args.m
 tested c =
-    let e = c.before.before in
-    let s = e.args in
+    let s = c.args in
     c.fits_bits.ensures ∙ ap (λ (n : ℕ). ltb n (2 ^ s.m)) (stored c.before)
-    ∙ (λ i. (sym (ranges e).0 i && sym (ranges e).1 i) && ltb (store_from s.low s.high) (2 ^ s.m))
+    ∙ (λ i. (sym (ranges c.before.before).0 i && sym (ranges c.before.before).1 i) && ltb (store_from s.low s.high) (2 ^ s.m))
 
 pub returns-then-not-up_to : goal.returns-then-not-up_to
 returns-then-not-up_to c =
@@ -60,17 +58,14 @@ returns-then-not-up_to c =
 
 pub join-store-requires : goal.join-store-requires
 join-store-requires c =
-    let s = c.before.before.before in
-    (read s.ranges.low (λ (z : ℤ). up_to max_word z ≡ true) (ranges c).0, read s.ranges.high (λ (z : ℤ). up_to max_word z ≡ true) (ranges c).1)
+    (read c.ranges.low (λ (z : ℤ). up_to max_word z ≡ true) (ranges c).0, read c.ranges.high (λ (z : ℤ). up_to max_word z ≡ true) (ranges c).1)
 
 pub returns-then-not-fits_bits : goal.returns-then-not-fits_bits
 returns-then-not-fits_bits c =
-    let t = c.before.before in
-    let s = t.args in
-    is_bad _ (words_ok s.low s.high s.m) _ _ c.bad-then-not-fits_bits.ensures (sym (tested t) ∙ c.if-not-fits_bits.true)
+    let s = c.args in
+    is_bad _ (words_ok s.low s.high s.m) _ _ c.bad-then-not-fits_bits.ensures (sym (tested c.before.before) ∙ c.if-not-fits_bits.true)
 
 pub returns : goal.returns
 returns c =
-    let t = c.before in
-    let s = t.args in
-    is_good false _ (words_ok s.low s.high s.m) false _ refl (stored t.before) (sym (tested t) ∙ c.if-not-fits_bits.false)
+    let s = c.args in
+    is_good false _ (words_ok s.low s.high s.m) false _ refl (stored c.before.before) (sym (tested c.before) ∙ c.if-not-fits_bits.false)

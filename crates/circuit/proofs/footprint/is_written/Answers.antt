@@ -33,20 +33,16 @@ pub writes-requires : goal.writes-requires
 writes-requires c = tt
 
 -- gate i writes the bit, or the answer is that of the gates after it
-here : (c : After-writes) → let p = c.before.before.before in let a = p.args in
-    had a.words.now a.bit a.from ≡ c.writes.result || had a.words.now a.bit (p.loop-i.i + 1)
+here : (c : After-writes) → let a = c.args in
+    had a.words.now a.bit a.from ≡ c.writes.result || had a.words.now a.bit (c.loop-i.i + 1)
 here c =
-    let g = c.before in
-    let p = g.before.before in
-    let a = p.args in
-    p.loop-i.invariant ∙ written-more a.words.now a.bit p.loop-i.i (gate_of g.read_gate-g.result) c.writes.result g.loop-i-test.true g.read_gate-g.ensures c.writes.ensures
+    let a = c.args in
+    c.loop-i.invariant ∙ written-more a.words.now a.bit c.loop-i.i (gate_of c.read_gate-g.result) c.writes.result c.loop-i-test.true c.read_gate-g.ensures c.writes.ensures
 
 pub returns-then-writes : goal.returns-then-writes
 returns-then-writes c =
-    let w = c.before.before in
-    let p = w.before.before.before in
-    let a = p.args in
-    sym (here w ∙ ap (λ (t : Bool). t || had a.words.now a.bit (p.loop-i.i + 1)) c.if-writes.true)
+    let a = c.args in
+    sym (here c.before.before ∙ ap (λ (t : Bool). t || had a.words.now a.bit (c.loop-i.i + 1)) c.if-writes.true)
 
 pub overflow_add-i : goal.overflow_add-i
 overflow_add-i c = omega arith
@@ -56,13 +52,10 @@ loop-i-smaller c = omega arith
 
 pub loop-i-preserved : goal.loop-i-preserved
 loop-i-preserved c =
-    let w = c.before.before in
-    let p = w.before.before.before in
-    let a = p.args in
-    here w ∙ ap (λ (t : Bool). t || had a.words.now a.bit (p.loop-i.i + 1)) c.if-writes.false
+    let a = c.args in
+    here c.before.before ∙ ap (λ (t : Bool). t || had a.words.now a.bit (c.loop-i.i + 1)) c.if-writes.false
 
 pub returns : goal.returns
 returns c =
-    let p = c.before.before in
-    let a = p.args in
-    sym (p.loop-i.invariant ∙ ap (some (λ (g : Gate). writes g a.bit)) (gates-none a.words.now (length a.words.now / gate_size) p.loop-i.i c.loop-i-test.false))
+    let a = c.args in
+    sym (c.loop-i.invariant ∙ ap (some (λ (g : Gate). writes g a.bit)) (gates-none a.words.now (length a.words.now / gate_size) c.loop-i.i c.loop-i-test.false))

@@ -15,13 +15,13 @@ use Rattle.circuit.proofs.questions.judge_circuit.Tie as tie
 use Rattle.circuit.proofs.questions.judge_circuit.Goals as goal
 
 abbrev Then-is_accepted : Type 0
-Then-is_accepted = lts.Then1 tie.the-claims reads.Pre reads.Post
+Then-is_accepted = lts.Then1 tie.the-claims reads.Pre reads.Post tie.handed_clauses
 
 abbrev After-judge_words-v : Type 0
-After-judge_words-v = lts.After-judge_words tie.the-claims reads.Pre reads.Post
+After-judge_words-v = lts.After-judge_words tie.the-claims reads.Pre reads.Post tie.handed_clauses
 
 abbrev Start : Type 0
-Start = lts.Start tie.the-claims reads.Pre reads.Post
+Start = lts.Start tie.the-claims reads.Pre reads.Post tie.handed_clauses
 
 -- the words are accepted
 yes : (c : Then-is_accepted) → accepted c.judge_words-v.result ≡ true
@@ -42,17 +42,11 @@ judge_counted-requires c = sym (ap accepted c.judge_words-v.ensures) ∙ yes c.b
 
 pub returns-then-is_accepted : goal.returns-then-is_accepted
 returns-then-is_accepted c =
-    let w = c.before.before.before.before in
-    let a = (s w).args in (
-      after-yes (words w) (numbers w) (words_refuse a.n a.bits a.l a.words.now) w.judge_words-v.ensures (yes c.before.before) c.judge_counted.ensures.0,
-      (λ e. c.judge_counted.ensures.1),
-    )
+    let a = (s c.before.before.before.before).args in
+    record { verdict_value = after-yes (words c.before.before.before.before) (numbers c.before.before.before.before) (words_refuse a.n a.bits a.l a.words.now) c.judge_words-v.ensures (yes c.before.before) c.judge_counted.ensures.verdict_value; splits_value = (λ e. c.judge_counted.ensures.splits_value) }
 
 pub returns : goal.returns
 returns c =
-    let w = c.before.before.before in
-    let a = (s w).args in
-    let no : accepted w.judge_words-v.result ≡ false = sym c.is_accepted.ensures ∙ c.if-is_accepted.false in (
-      after_no (words w) (numbers w) (words_refuse a.n a.bits a.l a.words.now) w.judge_words-v.ensures no,
-      (λ e. absurd (true≢false (sym e ∙ no))),
-    )
+    let a = (s c.before.before.before).args in
+    let no : accepted c.judge_words-v.result ≡ false = sym c.is_accepted.ensures ∙ c.if-is_accepted.false in
+    record { verdict_value = after_no (words c.before.before.before) (numbers c.before.before.before) (words_refuse a.n a.bits a.l a.words.now) c.judge_words-v.ensures no; splits_value = (λ e. absurd (true≢false (sym e ∙ no))) }

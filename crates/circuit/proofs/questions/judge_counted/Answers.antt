@@ -20,7 +20,5 @@ judge_numbers-verdict-requires c =
 
 pub returns : goal.returns
 returns c =
-    let a = c.args in (
-      c.judge_numbers-verdict.ensures ∙ ap (λ (f : Footprint). first_no (number_questions f a.n a.bits a.store.now a.l a.res a.work)) c.of-f.ensures,
-      ap (λ (f : Footprint). f.splits) c.of-f.ensures,
-    )
+    let a = c.args in
+    record { verdict_value = c.judge_numbers-verdict.ensures ∙ ap (λ (f : Footprint). first_no (number_questions f a.n a.bits a.store.now a.l a.res a.work)) c.of-f.ensures; splits_value = ap (λ (f : Footprint). f.splits) c.of-f.ensures }

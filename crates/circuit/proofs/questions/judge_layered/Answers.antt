@@ -17,13 +17,13 @@ use Rattle.circuit.proofs.questions.judge_layered.Tie as tie
 use Rattle.circuit.proofs.questions.judge_layered.Goals as goal
 
 abbrev Then-is_accepted : Type 0
-Then-is_accepted = lts.Then1 tie.the-claims reads.Pre reads.Post
+Then-is_accepted = lts.Then1 tie.the-claims reads.Pre reads.Post tie.handed_clauses
 
 abbrev After-judge_words-v : Type 0
-After-judge_words-v = lts.After-judge_words tie.the-claims reads.Pre reads.Post
+After-judge_words-v = lts.After-judge_words tie.the-claims reads.Pre reads.Post tie.handed_clauses
 
 abbrev Start : Type 0
-Start = lts.Start tie.the-claims reads.Pre reads.Post
+Start = lts.Start tie.the-claims reads.Pre reads.Post tie.handed_clauses
 
 -- the words are accepted
 yes : (c : Then-is_accepted) → accepted c.judge_words-v.result ≡ true
@@ -43,37 +43,30 @@ module _ (c : After-judge_words-v) where
   numbers = number_questions (footprint_of s.args.bits (gates_of s.args.words.now)) s.args.n s.args.bits s.args.store.now s.args.l s.args.res s.args.work
 
 pub judge_counted-requires : goal.judge_counted-requires
-judge_counted-requires c = let t = c.before.before.before.before in sym (ap accepted t.judge_words-v.ensures) ∙ yes t
+judge_counted-requires c = sym (ap accepted c.judge_words-v.ensures) ∙ yes c.before.before.before.before
 
 pub returns-then-is_accepted-2 : goal.returns-then-is_accepted-2
 returns-then-is_accepted-2 c =
-    let i = c.before.before.before in
-    let t = i.before.before in
-    let w = t.before.before in
-    let a = (s w).args in
-    let on : accepted i.judge_layers-u.result ≡ true = sym i.is_accepted-then-is_accepted.ensures ∙ c.if-is_accepted-2.true in (
-      after-yes (words w) (layers w ++ numbers w) (words_refuse a.n a.bits a.l a.words.now) w.judge_words-v.ensures (yes t)
-          (after-yes (layers w) (numbers w) (layers_refuse a.ends.now (gates_of a.words.now)) i.judge_layers-u.ensures on c.judge_counted.ensures.0),
-      (λ e. c.judge_counted.ensures.1),
-    )
+    let a = (s c.before.before.before.before.before.before.before).args in
+    let on : accepted c.judge_layers-u.result ≡ true = sym c.is_accepted-then-is_accepted.ensures ∙ c.if-is_accepted-2.true in
+    record {
+      verdict_value = after-yes (words c.before.before.before.before.before.before.before) (layers c.before.before.before.before.before.before.before ++ numbers c.before.before.before.before.before.before.before) (words_refuse a.n a.bits a.l a.words.now) c.judge_words-v.ensures (yes c.before.before.before.before.before)
+          (after-yes (layers c.before.before.before.before.before.before.before) (numbers c.before.before.before.before.before.before.before) (layers_refuse a.ends.now (gates_of a.words.now)) c.judge_layers-u.ensures on c.judge_counted.ensures.verdict_value);
+      splits_value = (λ e. c.judge_counted.ensures.splits_value);
+    }
 
 pub returns-then-is_accepted : goal.returns-then-is_accepted
 returns-then-is_accepted c =
-    let i = c.before.before in
-    let t = i.before.before in
-    let w = t.before.before in
-    let a = (s w).args in
-    let no : accepted i.judge_layers-u.result ≡ false = sym i.is_accepted-then-is_accepted.ensures ∙ c.if-is_accepted-2.false in (
-      after-yes (words w) (layers w ++ numbers w) (words_refuse a.n a.bits a.l a.words.now) w.judge_words-v.ensures (yes t)
-          (after_no (layers w) (numbers w) (layers_refuse a.ends.now (gates_of a.words.now)) i.judge_layers-u.ensures no),
-      (λ e. absurd (true≢false (sym e ∙ no))),
-    )
+    let a = (s c.before.before.before.before.before.before).args in
+    let no : accepted c.judge_layers-u.result ≡ false = sym c.is_accepted-then-is_accepted.ensures ∙ c.if-is_accepted-2.false in
+    record {
+      verdict_value = after-yes (words c.before.before.before.before.before.before) (layers c.before.before.before.before.before.before ++ numbers c.before.before.before.before.before.before) (words_refuse a.n a.bits a.l a.words.now) c.judge_words-v.ensures (yes c.before.before.before.before)
+          (after_no (layers c.before.before.before.before.before.before) (numbers c.before.before.before.before.before.before) (layers_refuse a.ends.now (gates_of a.words.now)) c.judge_layers-u.ensures no);
+      splits_value = (λ e. absurd (true≢false (sym e ∙ no)));
+    }
 
 pub returns : goal.returns
 returns c =
-    let w = c.before.before.before in
-    let a = (s w).args in
-    let no : accepted w.judge_words-v.result ≡ false = sym c.is_accepted.ensures ∙ c.if-is_accepted.false in (
-      after_no (words w) (layers w ++ numbers w) (words_refuse a.n a.bits a.l a.words.now) w.judge_words-v.ensures no,
-      (λ e. absurd (true≢false (sym e ∙ no))),
-    )
+    let a = (s c.before.before.before).args in
+    let no : accepted c.judge_words-v.result ≡ false = sym c.is_accepted.ensures ∙ c.if-is_accepted.false in
+    record { verdict_value = after_no (words c.before.before.before) (layers c.before.before.before ++ numbers c.before.before.before) (words_refuse a.n a.bits a.l a.words.now) c.judge_words-v.ensures no; splits_value = (λ e. absurd (true≢false (sym e ∙ no))) }

@@ -2,4 +2,4 @@
 use Rattle.circuit.proofs.questions.judge_layered_channel.Goals as goal
 
 pub returns : goal.returns
-returns c = c.judge_layered-j.ensures.0
+returns c = c.judge_layered-j.ensures.verdict_value

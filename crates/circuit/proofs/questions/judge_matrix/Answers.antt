@@ -25,28 +25,23 @@ abbrev After-has_unitary_room : Type 0
 After-has_unitary_room = lts.After-has_unitary_room tie.the-claims reads.Pre reads.Post
 
 pub has_unitary_room-requires : goal.has_unitary_room-requires
-has_unitary_room-requires c = let t = c.before.before.before.before in omega (arith, t.requires.1)
+has_unitary_room-requires c = omega (arith, c.requires.1)
 
 -- the gates are accepted, so the answers to the last two questions decide
 last : (c : After-of-f) {v : Verdict} → let a = c.args in
     v ≡ first_no (last_questions a.n a.words.now a.res a.work) → v ≡ first_no (matrix_questions a.n a.words.now a.res a.work)
 last c h =
-    let t = c.before in
-    let g = t.before.before in
-    let a = g.args in
+    let a = c.args in
     after-yes (gates_questions Unitary a.n 0 (gates_of a.words.now)) (last_questions a.n a.words.now a.res a.work)
-    (gates_refuse Unitary a.n 0 (gates_of a.words.now)) g.judge_gates-v.ensures (sym t.is_accepted.ensures ∙ t.if-is_accepted.true) h
+    (gates_refuse Unitary a.n 0 (gates_of a.words.now)) c.judge_gates-v.ensures (sym c.is_accepted.ensures ∙ c.if-is_accepted.true) h
 
 -- every answer but the last is yes
-ended : (c : After-has_unitary_room) {b : Bool} → c.has_unitary_room.result ≡ b → let o = c.before.before.before in
-    let a = o.args in
+ended : (c : After-has_unitary_room) {b : Bool} → c.has_unitary_room.result ≡ b → let a = c.args in
     cond b Accepted ShortBuffer ≡ first_no (matrix_questions a.n a.words.now a.res a.work)
 ended c e =
-    let o = c.before.before.before in
-    let s = o.before.before.before.before.before in
-    let a = s.args in
-    last o (last_answers a.n a.words.now a.res a.work o.of-f.ensures (le-leb _ _ c.if-f-le-MAX_WEIGHT.true)
-    (room-found a.n a.words.now a.res a.work s.requires.0 c.has_unitary_room.ensures e))
+    let a = c.args in
+    last c.before.before.before (last_answers a.n a.words.now a.res a.work c.of-f.ensures (le-leb _ _ c.if-f-le-MAX_WEIGHT.true)
+    (room-found a.n a.words.now a.res a.work c.requires.0 c.has_unitary_room.ensures e))
 
 pub returns-then-has_unitary_room : goal.returns-then-has_unitary_room
 returns-then-has_unitary_room c = ended c.before.before c.if-has_unitary_room.true
@@ -56,13 +51,11 @@ returns-then-f-le-MAX_WEIGHT c = ended c.before.before c.if-has_unitary_room.fal
 
 pub returns-then-is_accepted : goal.returns-then-is_accepted
 returns-then-is_accepted c =
-    let o = c.before.before.before in
-    let a = o.args in
-    last o (last_answers a.n a.words.now a.res a.work o.of-f.ensures (lt-leb _ _ c.if-f-le-MAX_WEIGHT.false) refl)
+    let a = c.args in
+    last c.before.before.before (last_answers a.n a.words.now a.res a.work c.of-f.ensures (lt-leb _ _ c.if-f-le-MAX_WEIGHT.false) refl)
 
 pub returns : goal.returns
 returns c =
-    let g = c.before.before.before in
-    let a = g.args in
+    let a = c.args in
     after_no (gates_questions Unitary a.n 0 (gates_of a.words.now)) (last_questions a.n a.words.now a.res a.work)
-    (gates_refuse Unitary a.n 0 (gates_of a.words.now)) g.judge_gates-v.ensures (sym c.is_accepted.ensures ∙ c.if-is_accepted.false)
+    (gates_refuse Unitary a.n 0 (gates_of a.words.now)) c.judge_gates-v.ensures (sym c.is_accepted.ensures ∙ c.if-is_accepted.false)

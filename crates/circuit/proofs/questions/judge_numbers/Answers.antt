@@ -28,7 +28,7 @@ After-has_room = lts.After-has_room tie.the-claims reads.Pre reads.Post
 
 -- ---- what is known where the sizes are about to be worked out, and after that
 abbrev begun : Then-bits-l → Start
-begun c = let t = c.before.before.before.before in t.before.before.before
+begun c = c.before.before.before.before.before.before.before
 
 low : (c : Then-bits-l) → Low (begun c).args.l
 low c = all-low (begun c).args.l (begun c).requires.0
@@ -38,16 +38,13 @@ stored c = sym c.is_store.ensures
 
 within : (c : After-is_within) → let a = (begun c.before.before).args in within_limits a.f a.n a.bits a.l ≡ c.is_within.result
 within c =
-    let o = c.before in
-    let a = (begun o.before).args in
-    within-found a.l a.f a.n a.bits (low o.before) o.if-bits-l.true o.of-s.ensures.0 c.is_within.ensures
+    let a = (begun c.before.before).args in
+    within-found a.l a.f a.n a.bits (low c.before.before) c.if-bits-l.true c.of-s.ensures.0 c.is_within.ensures
 
-room : (c : After-has_room) → let o = c.before.before.before.before.before in
-    let a = (begun o.before).args in room_for (sizes_of a.f a.n) a.res a.work ≡ c.has_room.result
+room : (c : After-has_room) → let a = (begun c.before.before.before.before.before.before).args in room_for (sizes_of a.f a.n) a.res a.work ≡ c.has_room.result
 room c =
-    let o = c.before.before.before.before.before in
-    let a = (begun o.before).args in
-    ap (λ (s : Sizes). room_for s a.res a.work) (sym o.of-s.ensures.0) ∙ sym c.has_room.ensures
+    let a = (begun c.before.before.before.before.before.before).args in
+    ap (λ (s : Sizes). room_for s a.res a.work) (sym c.of-s.ensures.0) ∙ sym c.has_room.ensures
 
 pub of-s-requires : goal.of-s-requires
 of-s-requires c = let a = (begun c.before).args in few-small a.l a.f a.n a.bits (low c.before) c.if-bits-l.true
@@ -59,11 +56,8 @@ is_within-requires c = (c.of-s.ensures.1, omega (arith, (low c.before.before).op
 last : (c : After-has_room) {d : Bool} → c.has_room.result ≡ d → let a = (begun c.before.before.before.before.before.before).args in
     cond d Accepted ShortBuffer ≡ first_no (number_questions a.f a.n a.bits a.store.now a.l a.res a.work)
 last c e =
-    let t = c.before.before.before in
-    let i = t.before in
-    let s = i.before.before in
-    let a = (begun s).args in
-    four_answers a.f a.n a.bits a.store.now a.l a.res a.work (stored s ∙ s.if-is_store.true) (within i ∙ t.if-is_within.true)
+    let a = (begun c.before.before.before.before.before.before).args in
+    four_answers a.f a.n a.bits a.store.now a.l a.res a.work (stored c.before.before.before.before.before.before ∙ c.if-is_store.true) (within c.before.before.before.before ∙ c.if-is_within.true)
     (le-leb _ _ c.if-f-le-MAX_WEIGHT.true) (room c ∙ e)
 
 pub returns-then-has_room : goal.returns-then-has_room
@@ -74,31 +68,22 @@ returns-then-f-le-MAX_WEIGHT c = last c.before.before c.if-has_room.false
 
 pub returns-then-is_within : goal.returns-then-is_within
 returns-then-is_within c =
-    let t = c.before.before.before in
-    let i = t.before in
-    let s = i.before.before in
-    let a = (begun s).args in
-    four_answers a.f a.n a.bits a.store.now a.l a.res a.work (stored s ∙ s.if-is_store.true) (within i ∙ t.if-is_within.true)
+    let a = (begun c.before.before.before.before.before.before).args in
+    four_answers a.f a.n a.bits a.store.now a.l a.res a.work (stored c.before.before.before.before.before.before ∙ c.if-is_store.true) (within c.before.before.before.before ∙ c.if-is_within.true)
     (lt-leb _ _ c.if-f-le-MAX_WEIGHT.false) refl
 
 pub returns-else-is_within : goal.returns-else-is_within
 returns-else-is_within c =
-    let i = c.before.before in
-    let s = i.before.before in
-    let a = (begun s).args in
-    four_answers a.f a.n a.bits a.store.now a.l a.res a.work (stored s ∙ s.if-is_store.true) (within i ∙ c.if-is_within.false) refl refl
+    let a = (begun c.before.before.before.before).args in
+    four_answers a.f a.n a.bits a.store.now a.l a.res a.work (stored c.before.before.before.before ∙ c.if-is_store.true) (within c.before.before ∙ c.if-is_within.false) refl refl
 
 pub returns-else-bits-l : goal.returns-else-bits-l
 returns-else-bits-l c =
-    let t = c.before.before.before.before.before in
-    let k = t.before in
-    let s = k.before.before in
-    let a = s.args in
-    four_answers a.f a.n a.bits a.store.now a.l a.res a.work (sym k.is_store.ensures ∙ t.if-is_store.true)
-    (too_many a.l a.f a.n a.bits (all-low a.l s.requires.0) c.if-bits-l.false) refl refl
+    let a = c.args in
+    four_answers a.f a.n a.bits a.store.now a.l a.res a.work (sym c.is_store.ensures ∙ c.if-is_store.true)
+    (too_many a.l a.f a.n a.bits (all-low a.l c.requires.0) c.if-bits-l.false) refl refl
 
 pub returns : goal.returns
 returns c =
-    let k = c.before.before in
-    let a = k.args in
-    four_answers a.f a.n a.bits a.store.now a.l a.res a.work (sym k.is_store.ensures ∙ c.if-is_store.false) refl refl refl
+    let a = c.args in
+    four_answers a.f a.n a.bits a.store.now a.l a.res a.work (sym c.is_store.ensures ∙ c.if-is_store.false) refl refl refl

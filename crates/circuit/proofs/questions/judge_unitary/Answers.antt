@@ -37,58 +37,46 @@ whole c = eq-eqb (length (begun c).args.words.now % gate_size) 0 c.if-words-eq0.
 within : (c : After-is_unitary_within) → let a = (begun c.before.before.before.before.before).args in
     unitary_within a.n (length a.words.now / gate_size) a.l ≡ c.is_unitary_within.result
 within c =
-    let p = c.before in
-    let a = (begun p.before.before.before.before).args in
-    unitary-few a.n a.l (length a.words.now / gate_size) p.power-d.ensures p.if-n-l.true c.is_unitary_within.ensures
+    let a = (begun c.before.before.before.before.before).args in
+    unitary-few a.n a.l (length a.words.now / gate_size) c.power-d.ensures c.if-n-l.true c.is_unitary_within.ensures
 
 pub power-d-requires : goal.power-d-requires
 power-d-requires c =
-    let t = c.before.before.before.before in
-    let a = (begun t).args in
-    omega (arith, (few-gates-small a.n a.l (length a.words.now / gate_size) (low t) c.if-n-l.true).0)
+    let a = (begun c.before.before.before.before).args in
+    omega (arith, (few-gates-small a.n a.l (length a.words.now / gate_size) (low c.before.before.before.before) c.if-n-l.true).0)
 
 pub is_unitary_within-requires : goal.is_unitary_within-requires
 is_unitary_within-requires c =
-    let t = c.before.before.before.before.before in
-    let a = (begun t).args in
-    omega (arith, c.power-d.ensures, few-gates-small a.n a.l (length a.words.now / gate_size) (low t) c.if-n-l.true)
+    let a = (begun c.before.before.before.before.before).args in
+    omega (arith, c.power-d.ensures, few-gates-small a.n a.l (length a.words.now / gate_size) (low c.before.before.before.before.before) c.if-n-l.true)
 
 pub judge_matrix-requires : goal.judge_matrix-requires
 judge_matrix-requires c =
-    let p = c.before.before.before in
-    let t = p.before.before.before.before in
-    let a = (begun t).args in
-    (p.power-d.ensures, omega (arith, p.power-d.ensures, few-gates-small a.n a.l (length a.words.now / gate_size) (low t) p.if-n-l.true))
+    let a = (begun c.before.before.before.before.before.before.before).args in
+    (c.power-d.ensures, omega (arith, c.power-d.ensures, few-gates-small a.n a.l (length a.words.now / gate_size) (low c.before.before.before.before.before.before.before) c.if-n-l.true))
 
 pub returns-then-is_unitary_within : goal.returns-then-is_unitary_within
 returns-then-is_unitary_within c =
-    let i = c.before.before.before in
-    let t = i.before.before.before.before.before in
-    let a = (begun t).args in
-    c.judge_matrix.ensures ∙ unitary_answers a.n a.l a.words.now a.res a.work (low t) (whole t) (within i ∙ c.if-is_unitary_within.true)
+    let a = (begun c.before.before.before.before.before.before.before.before).args in
+    c.judge_matrix.ensures ∙ unitary_answers a.n a.l a.words.now a.res a.work (low c.before.before.before.before.before.before.before.before) (whole c.before.before.before.before.before.before.before.before) (within c.before.before.before ∙ c.if-is_unitary_within.true)
 
 pub returns-else-is_unitary_within : goal.returns-else-is_unitary_within
 returns-else-is_unitary_within c =
-    let i = c.before.before in
-    let t = i.before.before.before.before.before in
-    let a = (begun t).args in
-    unitary_answers a.n a.l a.words.now a.res a.work (low t) (whole t) (within i ∙ c.if-is_unitary_within.false)
+    let a = (begun c.before.before.before.before.before.before.before).args in
+    unitary_answers a.n a.l a.words.now a.res a.work (low c.before.before.before.before.before.before.before) (whole c.before.before.before.before.before.before.before) (within c.before.before ∙ c.if-is_unitary_within.false)
 
 pub returns-else-n-l : goal.returns-else-n-l
 returns-else-n-l c =
-    let t = c.before.before.before.before in
-    let a = (begun t).args in
-    unitary_answers a.n a.l a.words.now a.res a.work (low t) (whole t) (unitary-many a.n a.l (length a.words.now / gate_size) c.if-n-l.false)
+    let a = (begun c.before.before.before.before).args in
+    unitary_answers a.n a.l a.words.now a.res a.work (low c.before.before.before.before) (whole c.before.before.before.before) (unitary-many a.n a.l (length a.words.now / gate_size) c.if-n-l.false)
 
 pub returns-then-are_matrix_limits_low : goal.returns-then-are_matrix_limits_low
 returns-then-are_matrix_limits_low c =
-    let m = c.before.before.before in
-    let a = m.args in
-    unitary_answers a.n a.l a.words.now a.res a.work (sym m.are_matrix_limits_low.ensures ∙ c.if-are_matrix_limits_low.true)
+    let a = c.args in
+    unitary_answers a.n a.l a.words.now a.res a.work (sym c.are_matrix_limits_low.ensures ∙ c.if-are_matrix_limits_low.true)
     (ne_eqb (length a.words.now % gate_size) 0 c.if-words-eq0.false) refl
 
 pub returns : goal.returns
 returns c =
-    let m = c.before.before in
-    let a = m.args in
-    unitary_answers a.n a.l a.words.now a.res a.work (sym m.are_matrix_limits_low.ensures ∙ c.if-are_matrix_limits_low.false) refl refl
+    let a = c.args in
+    unitary_answers a.n a.l a.words.now a.res a.work (sym c.are_matrix_limits_low.ensures ∙ c.if-are_matrix_limits_low.false) refl refl

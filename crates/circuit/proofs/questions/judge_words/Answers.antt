@@ -22,27 +22,21 @@ low c = λ i. sym c.are_matrix_limits_low-matrix.ensures i && sym c.are_branch_l
 
 pub returns-then-gates-l : goal.returns-then-gates-l
 returns-then-gates-l c =
-    let t = c.before.before.before.before in
-    let b = t.before.before in
-    let a = b.args in
+    let a = c.args in
     c.judge_gates.ensures
-    ∙ three_answers a.n a.bits a.l a.words.now (low b ∙ t.if-matrix-branch.true) (eq-eqb (length a.words.now % gate_size) 0 t.if-words-eq0.true) (le-leb _ _ c.if-gates-l.true)
+    ∙ three_answers a.n a.bits a.l a.words.now (low c.before.before.before.before.before.before ∙ c.if-matrix-branch.true) (eq-eqb (length a.words.now % gate_size) 0 c.if-words-eq0.true) (le-leb _ _ c.if-gates-l.true)
 
 pub returns-then-words-eq0 : goal.returns-then-words-eq0
 returns-then-words-eq0 c =
-    let t = c.before.before.before in
-    let b = t.before.before in
-    let a = b.args in
-    three_answers a.n a.bits a.l a.words.now (low b ∙ t.if-matrix-branch.true) (eq-eqb (length a.words.now % gate_size) 0 t.if-words-eq0.true) (lt-leb _ _ c.if-gates-l.false)
+    let a = c.args in
+    three_answers a.n a.bits a.l a.words.now (low c.before.before.before.before.before ∙ c.if-matrix-branch.true) (eq-eqb (length a.words.now % gate_size) 0 c.if-words-eq0.true) (lt-leb _ _ c.if-gates-l.false)
 
 pub returns-then-matrix-branch : goal.returns-then-matrix-branch
 returns-then-matrix-branch c =
-    let b = c.before.before.before in
-    let a = b.args in
-    three_answers a.n a.bits a.l a.words.now (low b ∙ c.if-matrix-branch.true) (ne_eqb (length a.words.now % gate_size) 0 c.if-words-eq0.false) refl
+    let a = c.args in
+    three_answers a.n a.bits a.l a.words.now (low c.before.before.before ∙ c.if-matrix-branch.true) (ne_eqb (length a.words.now % gate_size) 0 c.if-words-eq0.false) refl
 
 pub returns : goal.returns
 returns c =
-    let b = c.before.before in
-    let a = b.args in
-    three_answers a.n a.bits a.l a.words.now (low b ∙ c.if-matrix-branch.false) refl refl
+    let a = c.args in
+    three_answers a.n a.bits a.l a.words.now (low c.before.before ∙ c.if-matrix-branch.false) refl refl

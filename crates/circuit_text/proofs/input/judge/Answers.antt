@@ -33,36 +33,28 @@ loop-at-init c = judging_none c.args.text.now c.none-seen.ensures
 
 pub returns-then-not-number : goal.returns-then-not-number
 returns-then-not-number c =
-    let n = c.before.before.before in
-    let k = n.before.before in
-    judging_bad (text k) k.loop-at.invariant (bytes k) (k.next_blank-e.result + 1) n.number_in-number.result (step k).next n.number_in-number.ensures (c.if-not-number.true)
+    judging_bad (text c.before.before.before.before.before) c.loop-at.invariant (bytes c.before.before.before.before.before) (c.next_blank-e.result + 1) c.number_in-number.result (step c.before.before.before.before.before).next c.number_in-number.ensures (c.if-not-number.true)
 
 pub with-seen-requires : goal.with-seen-requires
 with-seen-requires c =
-    let k = c.before.before.before.before.before in
-    omega (arith, k.loop-at.invariant.along.few, k.loop-at-test.true, k.requires)
+    omega (arith, c.loop-at.invariant.along.few, c.loop-at-test.true, c.requires)
 
 pub overflow_add-at : goal.overflow_add-at
 overflow_add-at c =
-    let k = c.before.before.before.before.before.before in
-    omega (arith, (step k).end, k.requires)
+    omega (arith, (step c.before.before.before.before.before.before).end, c.requires)
 
 pub loop-at-smaller : goal.loop-at-smaller
 loop-at-smaller c =
-    let k = c.before.before.before.before.before.before in
-    omega (arith, (step k).start, k.loop-at-test.true)
+    omega (arith, (step c.before.before.before.before.before.before).start, c.loop-at-test.true)
 
 pub loop-at-preserved : goal.loop-at-preserved
 loop-at-preserved c =
-    let n = c.before.before.before.before in
-    let k = n.before.before in
-    judging_more (text k) k.loop-at.invariant (bytes k) (k.next_blank-e.result + 1) n.number_in-number.result (step k).next n.number_in-number.ensures
-    (let q = (step k).start in omega arith) (c.if-not-number.false) c.with-seen.ensures
+    judging_more (text c.before.before.before.before.before.before) c.loop-at.invariant (bytes c.before.before.before.before.before.before) (c.next_blank-e.result + 1) c.number_in-number.result (step c.before.before.before.before.before.before).next c.number_in-number.ensures
+    (let q = (step c.before.before.before.before.before.before).start in omega arith) (c.if-not-number.false) c.with-seen.ensures
 
 pub returns : goal.returns
 returns c =
-    let l = c.before.before in
-    judging_all l.args.text.now l.loop-at.invariant l.loop-at-test.false c.input.ensures
+    judging_all c.args.text.now c.loop-at.invariant c.loop-at-test.false c.input.ensures
 
 pub next_blank-e-requires : goal.next_blank-e-requires
 next_blank-e-requires c = c.loop-at-test.true

@@ -20,16 +20,16 @@ use Rattle.circuit_text.proofs.input.read_circuit.Tie as tie
 use Rattle.circuit_text.proofs.input.read_circuit.Goals as goal
 
 abbrev After-body_length-e : Type 0
-After-body_length-e = lts.After-body_length tie.the-claims reads.Pre reads.Post
+After-body_length-e = lts.After-body_length tie.the-claims reads.Pre reads.Post tie.handed_clauses
 
 abbrev After-judge : Type 0
-After-judge = lts.After-judge tie.the-claims reads.Pre reads.Post
+After-judge = lts.After-judge tie.the-claims reads.Pre reads.Post tie.handed_clauses
 
 abbrev In-Given : Type 0
-In-Given = lts.After-known_told tie.the-claims reads.Pre reads.Post
+In-Given = lts.After-known_told tie.the-claims reads.Pre reads.Post tie.handed_clauses
 
 abbrev After-read_numbers-count : Type 0
-After-read_numbers-count = lts.After-read_numbers tie.the-claims reads.Pre reads.Post
+After-read_numbers-count = lts.After-read_numbers tie.the-claims reads.Pre reads.Post tie.handed_clauses
 
 module _ (c : After-body_length-e) where
   abbrev text : List ℕ
@@ -49,7 +49,7 @@ module _ (c : After-body_length-e) where
   part_long = length-take-le c.body_length-e.result text inside
 
 judge-is : (c : After-judge) → c.judge.result ≡ input_of (text c.before.before)
-judge-is c = let k = c.before.before in judged (text k) k.if-text-gt-MAX_BYTES.false k.body_length-e.ensures c.judge.ensures
+judge-is c = judged (text c.before) c.if-text-gt-MAX_BYTES.false c.body_length-e.ensures c.judge.ensures
 
 module _ (c : In-Given) where
   abbrev begun : After-body_length-e
@@ -78,10 +78,10 @@ module _ (c : After-read_numbers-count) where
   known = c.before.before.before
 
   abbrev read : List ℕ
-  read = c.read_numbers-count.new.1.0
+  read = c.read_numbers-count.new.numbers.0
 
   read_is : read ≡ sets (room (begun known)) 0 (ns known)
-  read_is = c.read_numbers-count.ensures.1 ∙ ap (λ (t : List ℕ). sets (room (begun known)) 0 (map value (pieces t))) (body_is known)
+  read_is = c.read_numbers-count.ensures.room ∙ ap (λ (t : List ℕ). sets (room (begun known)) 0 (map value (pieces t))) (body_is known)
 
   words : (c.read_numbers-count.result ≤ length read) × (take c.read_numbers-count.result read ≡ ns known)
   words =
@@ -89,68 +89,57 @@ module _ (c : After-read_numbers-count) where
       let n = length-map (pieces (body t)) value in
       let few = few-numbers t (yes known) in
       let long = (begun known).requires.0 in
-      first-words (ns known) (room (begun known)) (c.read_numbers-count.ensures.0 ∙ ap (λ (t : List ℕ). length (pieces t)) (body_is known) ∙ sym n) (omega arith) read_is
+      first-words (ns known) (room (begun known)) (c.read_numbers-count.ensures.count ∙ ap (λ (t : List ℕ). length (pieces t)) (body_is known) ∙ sym n) (omega arith) read_is
 
 pub returns-then-text-gt-MAX_BYTES : goal.returns-then-text-gt-MAX_BYTES
 returns-then-text-gt-MAX_BYTES c =
     let a = c.args in
     let no = too_long a.text.now c.if-text-gt-MAX_BYTES.true in
-    (refused-text a.text.now no, ((kept a.text.now a.numbers.now no).0, (kept a.text.now a.store.now no).1))
+    record { answer = refused-text a.text.now no; numbers = (kept a.text.now a.numbers.now no).0; store = (kept a.text.now a.store.now no).1 }
 
 pub slice_bounds-judge-end : goal.slice_bounds-judge-end
-slice_bounds-judge-end c = sym (part_long c.before.before)
+slice_bounds-judge-end c = sym (part_long c.before)
 
 pub judge-requires : goal.judge-requires
-judge-requires c = let k = c.before.before in omega (arith, part_long k, inside k, k.if-text-gt-MAX_BYTES.false)
+judge-requires c = omega (arith, part_long c.before, inside c.before, c.if-text-gt-MAX_BYTES.false)
 
 pub returns-in_default : goal.returns-in_default
 returns-in_default c =
-    let j = c.before.before.before in
-    let k = j.before.before in
-    let t = text k in
-    let no = refused-false (is_input_text t) (circuit_in (numbers_of t)) (sym (judge-is j) ∙ c.enum_told-1.given.1) in
-    (refused-text t no, ((kept t (room k) no).0, (kept t (bits k) no).1))
+    let t = text c.before.before.before.before in
+    let no = refused-false (is_input_text t) (circuit_in (numbers_of t)) (sym (judge-is c.before.before.before) ∙ c.enum_told-1.given.1) in
+    record { answer = refused-text t no; numbers = (kept t (room c.before.before.before.before) no).0; store = (kept t (bits c.before.before.before.before) no).1 }
 
 pub slice_bounds-read_numbers-end : goal.slice_bounds-read_numbers-end
-slice_bounds-read_numbers-end c = sym (part_long (begun c.before.before))
+slice_bounds-read_numbers-end c = sym (part_long (begun c.before))
 
 pub read_numbers-count-requires : goal.read_numbers-count-requires
 read_numbers-count-requires c =
-    let k = c.before.before.before in
-    let b = begun k in
+    let b = begun c.before.before in
     let t = text b in
-    let e = sym (body_is k) in
-    let q = few-numbers t (yes k) in
+    let e = sym (body_is c.before.before) in
+    let q = few-numbers t (yes c.before.before) in
     let long = b.requires.0 in (
       omega (arith, part_long b, inside b, b.if-text-gt-MAX_BYTES.false),
-      (ap (λ (t : List ℕ). every is_number (pieces t)) (body_is k) ∙ all-numbers t (yes k), subst (λ (t : List ℕ). length (pieces t) ≤ length (room b)) e (omega arith)),
+      (ap (λ (t : List ℕ). every is_number (pieces t)) (body_is c.before.before) ∙ all-numbers t (yes c.before.before), subst (λ (t : List ℕ). length (pieces t) ≤ length (room b)) e (omega arith)),
     )
 
 pub slice_bounds-copy_store-end : goal.slice_bounds-copy_store-end
 slice_bounds-copy_store-end c = (words c.before.before.before).0
 
 pub slice_bounds-copy_store-end-2 : goal.slice_bounds-copy_store-end-2
-slice_bounds-copy_store-end-2 c = let r = c.before.before.before.before in sym (length-take-le r.read_numbers-count.result (read r) (words r).0)
+slice_bounds-copy_store-end-2 c = sym (length-take-le c.read_numbers-count.result (read c.before.before.before) (words c.before.before.before).0)
 
 pub copy_store-requires : goal.copy_store-requires
 copy_store-requires c =
-    let r = c.before.before.before.before.before.before in
-    let k = known r in
+    let k = known c.before.before.before.before.before in
     let b = begun k in
     let q = sound (text b) (yes k) in
     let long = b.requires.1 in
-    subst₂ (λ (h : Circuit) (ns : List ℕ). ((2 + h.bits ≤ length ns) × (h.bits ≤ length (bits b))) × (bytes ns h.bits ≡ true)) (sym (circuit_is k)) (sym (words r).1)
+    subst₂ (λ (h : Circuit) (ns : List ℕ). ((2 + h.bits ≤ length ns) × (h.bits ≤ length (bits b))) × (bytes ns h.bits ≡ true)) (sym (circuit_is k)) (sym (words c.before.before.before.before.before).1)
     ((omega (arith, q.size), omega (arith, q.bits)), q.store-1)
 
 pub returns : goal.returns
 returns c =
-    let s = c.before.before.before in
-    let r = s.before.before.before.before.before.before in
-    let k = known r in
-    let t = text (begun k) in (
-      ap Input.Given (circuit_is k) ∙ given-text t (yes k),
-      (
-        read_is r ∙ given-numbers t (room (begun k)) (yes k),
-        s.copy_store.ensures ∙ (λ i. sets (bits (begun k)) 0 (take (circuit_is k i).bits (drop 2 ((words r).1 i)))) ∙ given-store t (bits (begun k)) (yes k),
-      ),
-    )
+    let k = known c.before.before.before.before.before.before.before.before in
+    let t = text (begun k) in
+    record { answer = ap Input.Given (circuit_is k) ∙ given-text t (yes k); numbers = read_is c.before.before.before.before.before.before.before.before ∙ given-numbers t (room (begun k)) (yes k); store = c.copy_store.ensures ∙ (λ i. sets (bits (begun k)) 0 (take (circuit_is k i).bits (drop 2 ((words c.before.before.before.before.before.before.before.before).1 i)))) ∙ given-store t (bits (begun k)) (yes k) }

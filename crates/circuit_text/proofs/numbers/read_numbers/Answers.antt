@@ -15,7 +15,7 @@ use Rattle.circuit_text.proofs.numbers.read_numbers.Tie as tie
 use Rattle.circuit_text.proofs.numbers.read_numbers.Goals as goal
 
 abbrev After-next_blank-e : Type 0
-After-next_blank-e = lts.After-next_blank tie.the-claims reads.Pre reads.Post goal.the-invariant-loop-at goal.the-decreases-loop-at
+After-next_blank-e = lts.After-next_blank tie.the-claims reads.Pre reads.Post goal.the-invariant-loop-at goal.the-decreases-loop-at tie.handed_clauses
 
 module _ (c : After-next_blank-e) where
   abbrev text : List ℕ
@@ -35,30 +35,22 @@ module _ (c : After-next_blank-e) where
 
   room : c.loop-at.count < length c.loop-at.numbers
   room =
-      let l = c.before.before in
-      let q = along-inside text l.loop-at.invariant.along bytes (c.next_blank-e.result + 1) step.next in
-      omega (arith, l.loop-at.invariant.same, l.requires.1.1)
+      let q = along-inside text c.loop-at.invariant.along bytes (c.next_blank-e.result + 1) step.next in
+      omega (arith, c.loop-at.invariant.same, c.requires.1.1)
 
 pub loop-at-init : goal.loop-at-init
-loop-at-init c = let s = c.before.before.before in taken_none s.args.text.now s.args.numbers.now
+loop-at-init c = taken_none c.args.text.now c.args.numbers.now
 
 pub loop-at-preserved : goal.loop-at-preserved
 loop-at-preserved c =
-    let k = c.before.before.before in
-    let l = k.before.before in
-    let s = l.before.before.before in
-    let e = k.next_blank-e.result in
-    let ok = number_test (bytes k) c.number_in-number.result c.number_in-number.ensures ∙ good k in
-    subst (λ (v : ℕ). Taken (text k) s.args.numbers.now (set l.loop-at.numbers l.loop-at.count v) (e + 1) (l.loop-at.count + 1)) (sym (number-value (bytes k) c.number_in-number.result c.number_in-number.ensures ok))
-    (taken_more (text k) s.args.numbers.now l.loop-at.numbers l.loop-at.invariant (bytes k) (e + 1) (step k).next (let q = (step k).start in omega arith) (good k))
+    let e = c.next_blank-e.result in
+    let ok = number_test (bytes c.before.before.before) c.number_in-number.result c.number_in-number.ensures ∙ good c.before.before.before in
+    subst (λ (v : ℕ). Taken (text c.before.before.before) c.args.numbers.now (set c.loop-at.numbers c.loop-at.count v) (e + 1) (c.loop-at.count + 1)) (sym (number-value (bytes c.before.before.before) c.number_in-number.result c.number_in-number.ensures ok))
+    (taken_more (text c.before.before.before) c.args.numbers.now c.loop-at.numbers c.loop-at.invariant (bytes c.before.before.before) (e + 1) (step c.before.before.before).next (let q = (step c.before.before.before).start in omega arith) (good c.before.before.before))
 
 pub returns : goal.returns
 returns c =
-    let l = c.before.before in
-    let s = l.before.before.before in (
-      sym (along-count s.args.text.now l.loop-at.invariant.along c.loop-at-test.false),
-      taken-all s.args.text.now s.args.numbers.now l.loop-at.numbers l.loop-at.invariant c.loop-at-test.false,
-    )
+    record { count = sym (along-count c.args.text.now c.loop-at.invariant.along c.loop-at-test.false); room = taken-all c.args.text.now c.args.numbers.now c.loop-at.numbers c.loop-at.invariant c.loop-at-test.false }
 
 pub next_blank-e-requires : goal.next_blank-e-requires
 next_blank-e-requires c = c.loop-at-test.true
@@ -82,10 +74,10 @@ pub overflow_add-count : goal.overflow_add-count
 overflow_add-count c = let q = room c.before.before.before in omega (arith, c.loop-at.invariant.same)
 
 pub overflow_add-at : goal.overflow_add-at
-overflow_add-at c = let k = c.before.before.before in omega (arith, (step k).end, k.requires.0)
+overflow_add-at c = omega (arith, (step c.before.before.before).end, c.requires.0)
 
 pub loop-at-smaller : goal.loop-at-smaller
-loop-at-smaller c = let k = c.before.before.before in omega (arith, (step k).start, k.loop-at-test.true)
+loop-at-smaller c = omega (arith, (step c.before.before.before).start, c.loop-at-test.true)
 
 pub shape_of-numbers : goal.shape_of-numbers
 shape_of-numbers c = c.loop-at.invariant.same

@@ -13,7 +13,6 @@ use Rattle.branches.specs.Inner.Bank.{branch_size}
 use Rattle.share.specs.Share.{with_numerators}
 use Rattle.collect.specs.Inner.Bank.{place, store_of, has, upper, Found}
 use Rattle.collect.proofs.Summing.{bank-branch, Summed, none_summed, summed_more, summed_past, summed_long, addable}
-use Rattle.collect.proofs.blocks.sum_block.Invariants.{start, summed}
 use Rattle.collect.proofs.blocks.sum_block.Lts as lts
 use Rattle.collect.proofs.blocks.sum_block.Reads as reads
 use Rattle.collect.proofs.blocks.sum_block.Tie as tie
@@ -25,11 +24,14 @@ After-clear = lts.After-clear tie.the-claims reads.Pre reads.Post goal.the-invar
 abbrev Start : Type 0
 Start = lts.Start tie.the-claims reads.Pre reads.Post goal.the-invariant-loop-j goal.the-decreases-loop-j
 
+abbrev At-loop-j : Type 0
+At-loop-j = lts.At-loop tie.the-claims reads.Pre reads.Post goal.the-invariant-loop-j goal.the-decreases-loop-j
+
 abbrev In-loop-j : Type 0
 In-loop-j = lts.In-loop tie.the-claims reads.Pre reads.Post goal.the-invariant-loop-j goal.the-decreases-loop-j
 
-abbrev At-loop-j : Type 0
-At-loop-j = lts.At-loop tie.the-claims reads.Pre reads.Post goal.the-invariant-loop-j goal.the-decreases-loop-j
+abbrev start : After-clear → Start
+start k = k.before.before.before
 
 -- what was found, for the store of branch b
 found : (k : After-clear) {i j : ℕ}
@@ -43,6 +45,10 @@ module _ (s : Start) where
 
   block : s.args.d * s.args.d * (s.args.d * s.args.d) ≤ 256 * 256
   block = mul-le-mul square square
+
+-- after j branches
+summed : (a : At-loop-j) → let n = (start a.before.before.before).args in Summed n.res.now n.out n.work.now n.at n.d (store_of n.work.now n.at n.d n.b) a.loop-j.res a.loop-j.j
+summed a = let s = start a.before.before.before in a.loop-j.invariant.1.1 s.args.res.now s.requires.1.0 a.clear.ensures
 
 module _ (t : In-loop-j) where
   abbrev cleared : After-clear
@@ -88,38 +94,32 @@ overflow_add-q-in-loop-j c = omega (arith, next_in c)
 
 pub add_upper-requires : goal.add_upper-requires
 add_upper-requires c =
-    let t = c.before in
-    let s = start (cleared t) in
-    addable s.requires.1.1 s.requires.0 s.requires.1.0 (summed t.before) t.loop-j-test.true
+    let s = start (cleared c.before) in
+    addable s.requires.1.1 s.requires.0 s.requires.1.0 (summed c.before.before) c.loop-j-test.true
 
 pub overflow_add-j : goal.overflow_add-j
 overflow_add-j c = omega arith
 
 pub find_branch-j-requires-in-loop-j : goal.find_branch-j-requires-in-loop-j
 find_branch-j-requires-in-loop-j c =
-    let t = c.before.before.before in
-    let s = start (cleared t) in
-    (omega (arith, t.loop-j-test.true), λ j h. bank-branch s.requires.1.1 j h)
+    let s = start (cleared c.before.before.before) in
+    (omega (arith, c.loop-j-test.true), λ j h. bank-branch s.requires.1.1 j h)
 
 pub loop-j-smaller : goal.loop-j-smaller
 loop-j-smaller c =
-    let t = c.before.before.before.before in
-    omega (arith, t.loop-j-test.true, c.find_branch-j-in-loop-j.ensures.low)
+    omega (arith, c.loop-j-test.true, c.find_branch-j-in-loop-j.ensures.low)
 
 pub loop-j-preserved : goal.loop-j-preserved
 loop-j-preserved c =
-    let a = c.before.before in
-    let t = a.before.before in
-    let v = t.loop-j.invariant in
-    let f = found (cleared t) c.find_branch-j-in-loop-j.ensures in
-    (f.high, (f.here, λ m room e. summed_past (summed_more (v.1.1 m room e) room (v.1.0 t.loop-j-test.true) a.add_upper.ensures) f))
+    let v = c.loop-j.invariant in
+    let f = found (cleared c.before.before.before.before) c.find_branch-j-in-loop-j.ensures in
+    (f.high, (f.here, λ m room e. summed_past (summed_more (v.1.1 m room e) room (v.1.0 c.loop-j-test.true) c.add_upper.ensures) f))
 
 pub shape_of-res : goal.shape_of-res
 shape_of-res c = summed_long (summed c.before)
 
 pub returns : goal.returns
 returns c =
-    let a = c.before in
-    let n = (start a.before.before.before).args in
-    let e : a.loop-j.j ≡ n.count = omega (arith, a.loop-j.invariant.0, c.loop-j-test.false) in
-    subst (λ (j : ℕ). a.loop-j.result ≡ with_numerators n.res.now n.out (n.d * n.d * (n.d * n.d)) (upper n.work.now n.at n.d j (store_of n.work.now n.at n.d n.b))) e (summed a).is
+    let n = (start c.before.before.before.before).args in
+    let e : c.loop-j.j ≡ n.count = omega (arith, c.loop-j.invariant.0, c.loop-j-test.false) in
+    subst (λ (j : ℕ). c.loop-j.res ≡ with_numerators n.res.now n.out (n.d * n.d * (n.d * n.d)) (upper n.work.now n.at n.d j (store_of n.work.now n.at n.d n.b))) e (summed c.before).is

@@ -15,13 +15,6 @@ use Rattle.collect.specs.Inner.Bank.{place, store_of, has, upper, Found}
 use Rattle.collect.proofs.Summing.{bank-branch, Summed, none_summed, summed_more, summed_past, summed_long, addable}
 use Rattle.collect.proofs.blocks.sum_block.Given as goal
 
-abbrev pub start : After-clear → Start
-start k = k.before.before.before
-
--- after j branches
-pub summed : (a : At-loop-j) → let n = (start a.before.before.before).args in Summed n.res.now n.out n.work.now n.at n.d (store_of n.work.now n.at n.d n.b) a.loop-j.result a.loop-j.j
-summed a = let k = a.before.before.before in let s = start k in a.loop-j.invariant.1.1 s.args.res.now s.requires.1.0 k.clear.ensures
-
 -- the block is summed over the words m that were cleared
 abbrev pub invariant-loop-j : goal.invariant-loop-j
 invariant-loop-j l =

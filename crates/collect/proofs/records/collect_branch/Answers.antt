@@ -55,20 +55,17 @@ is_alive-requires c = bank-branch c.requires.bank c.args.b c.requires.branch
 
 pub returns-then-not-is_alive : goal.returns-then-not-is_alive
 returns-then-not-is_alive c =
-    let a = c.before in
-    let n = a.args in
-    unstarted n.res.now n.n n.work.now n.at n.d n.count n.b (ap (λ (t : Bool). t && is_first n.work.now n.at n.d n.b) (sym a.is_alive.ensures ∙ c.if-not-is_alive.true))
+    let n = c.args in
+    unstarted n.res.now n.n n.work.now n.at n.d n.count n.b (ap (λ (t : Bool). t && is_first n.work.now n.at n.d n.b) (sym c.is_alive.ensures ∙ c.if-not-is_alive.true))
 
 pub is_first-requires : goal.is_first-requires
 is_first-requires c =
-    let s = c.before.before in
-    λ j h. bank-branch s.requires.bank j (omega (arith, s.requires.branch))
+    λ j h. bank-branch c.requires.bank j (omega (arith, c.requires.branch))
 
 pub returns-then-not-is_first : goal.returns-then-not-is_first
 returns-then-not-is_first c =
-    let f = c.before in
-    let n = f.args in
-    unstarted n.res.now n.n n.work.now n.at n.d n.count n.b (and_no (survives n.work.now n.at n.d n.b) _ (sym f.is_first.ensures ∙ c.if-not-is_first.true))
+    let n = c.args in
+    unstarted n.res.now n.n n.work.now n.at n.d n.count n.b (and_no (survives n.work.now n.at n.d n.b) _ (sym c.is_first.ensures ∙ c.if-not-is_first.true))
 
 pub overflow_mul-d : goal.overflow_mul-d
 overflow_mul-d c = omega (arith, square c)
@@ -84,20 +81,15 @@ overflow_add-to c = omega (arith, inside c.before, place c)
 
 pub write_record-requires : goal.write_record-requires
 write_record-requires c =
-    let r = c.before in
-    let s = start r.before in
-    (s.requires.branch, (omega (arith, inside r.before, place r), s.requires.bank))
+    let s = start c.before.before in
+    (s.requires.branch, (omega (arith, inside c.before.before, place c.before), s.requires.bank))
 
 pub overflow_add-result : goal.overflow_add-result
 overflow_add-result c =
-    let e = c.before.before.before.before in
-    omega (arith, inside e, n-small e)
+    omega (arith, inside c.before.before.before.before, n-small c.before.before.before.before)
 
 pub returns : goal.returns
 returns c =
-    let w = c.before in
-    let r = w.before.before in
-    let e = r.before in
-    let n = (start e).args in
-    newly-started n.res.now n.n n.work.now n.at n.d n.count n.b (is_start e)
-    (w.write_record.ensures ∙ ap (λ (k : ℕ). sets n.res.now (header_size + k) (record_of n.work.now n.at n.d n.count (store_of n.work.now n.at n.d n.b))) (place r))
+    let n = (start c.before.before.before.before).args in
+    newly-started n.res.now n.n n.work.now n.at n.d n.count n.b (is_start c.before.before.before.before)
+    (c.write_record.ensures ∙ ap (λ (k : ℕ). sets n.res.now (header_size + k) (record_of n.work.now n.at n.d n.count (store_of n.work.now n.at n.d n.b))) (place c.before.before.before))

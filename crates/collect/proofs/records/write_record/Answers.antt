@@ -63,19 +63,15 @@ bounds-res-to-2 c = simp length-set (omega (arith, c.requires.1.0))
 
 pub write_block-requires : goal.write_block-requires
 write_block-requires c =
-    let s = c.before.before.before in
-    (s.requires.0, (simp length-set (omega (arith, s.requires.1.0)), s.requires.1.1))
+    (c.requires.0, (simp length-set (omega (arith, c.requires.1.0)), c.requires.1.1))
 
 pub shape_of-res : goal.shape_of-res
 shape_of-res c = ap length c.write_block.ensures ∙ simp (length-sets, length-set)
 
 pub returns : goal.returns
 returns c =
-    let w = c.before in
-    let h = w.before.before in
-    let s = h.before.before in
-    let n = s.args in
+    let n = c.args in
     let p = store_place n.at n.d n.b in
     let b = shared_of n.work.now n.at n.d n.count (store_of n.work.now n.at n.d n.b) in
-    record_written n.res.now n.to (branch s).store (pos b.exp ∷ block_words (channels n.d) b.num)
-    (reads (word n.work.now p) h.low-1.given) (reads (word n.work.now (p + 1)) h.high-1.given) w.write_block.ensures
+    record_written n.res.now n.to (branch c.before.before.before.before.before).store (pos b.exp ∷ block_words (channels n.d) b.num)
+    (reads (word n.work.now p) c.low-1.given) (reads (word n.work.now (p + 1)) c.high-1.given) c.write_block.ensures

@@ -32,13 +32,13 @@ abbrev start : After-result-8-1 → Start
 start c = c.before.before.before.before.before.before.before.before
 
 pub overflow_add-result : goal.overflow_add-result
-overflow_add-result c = let s = c.before.before in fits (number_of s.args.x).re.re (number_of s.args.y).re.re s.requires.0.w0 s.requires.1.w0
+overflow_add-result c = fits (number_of c.args.x).re.re (number_of c.args.y).re.re c.requires.0.w0 c.requires.1.w0
 
 pub overflow_add-result-2 : goal.overflow_add-result-2
-overflow_add-result-2 c = let s = c.before.before.before.before in fits (number_of s.args.x).re.im (number_of s.args.y).re.im s.requires.0.w1 s.requires.1.w1
+overflow_add-result-2 c = fits (number_of c.args.x).re.im (number_of c.args.y).re.im c.requires.0.w1 c.requires.1.w1
 
 pub overflow_add-result-3 : goal.overflow_add-result-3
-overflow_add-result-3 c = let s = c.before.before.before.before.before.before in fits (number_of s.args.x).im.re (number_of s.args.y).im.re s.requires.0.w2 s.requires.1.w2
+overflow_add-result-3 c = fits (number_of c.args.x).im.re (number_of c.args.y).im.re c.requires.0.w2 c.requires.1.w2
 
 pub overflow_add-result-4 : goal.overflow_add-result-4
 overflow_add-result-4 c = let s = start c in fits (number_of s.args.x).im.im (number_of s.args.y).im.im s.requires.0.w3 s.requires.1.w3

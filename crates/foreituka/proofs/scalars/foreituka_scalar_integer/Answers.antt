@@ -7,4 +7,4 @@ use Rattle.foreituka.proofs.scalars.foreituka_scalar_integer.Goals as goal
 
 pub returns : goal.returns
 returns c =
-    answered c.write_integer.ensures (ap integer_answer (to_z-of_z c.ranges.n))
+    let all = answered (c.write_integer.ensures.value, c.write_integer.ensures.out_after) (ap integer_answer (to_z-of_z c.ranges.n)) in record { value = all.0; out_after = all.1 }

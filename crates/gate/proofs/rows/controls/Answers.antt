@@ -30,38 +30,33 @@ count2 c = count1 c.before.before.before
 
 pub returns-then-used-g : goal.returns-then-used-g
 returns-then-used-g c =
-    let q = c.before.before in
-    let a = q.args in
-    controls-by a.n a.g.a a.g.b a.g.c a.g.k a.g.kind q.qubit_count-used.result q.qubit_count-used.ensures c.if-used-g.true refl
+    let a = c.args in
+    controls-by a.n a.g.a a.g.b a.g.c a.g.k a.g.kind c.qubit_count-used.result c.qubit_count-used.ensures c.if-used-g.true refl
 
 pub mask-a-requires : goal.mask-a-requires
 mask-a-requires c = let s = (count1 c).before in (s.requires.0, first_on s.requires.1)
 
 pub returns-then-used-g-2 : goal.returns-then-used-g-2
 returns-then-used-g-2 c =
-    let m = c.before.before in
-    let q = count1 m.before in
+    let q = count1 c.before.before.before in
     let a = q.args in
-    m.mask-a.ensures
-    ∙ controls-by a.n a.g.a a.g.b a.g.c a.g.k a.g.kind q.qubit_count-used.result q.qubit_count-used.ensures m.if-used-g.false c.if-used-g-2.true
+    c.mask-a.ensures
+    ∙ controls-by a.n a.g.a a.g.b a.g.c a.g.k a.g.kind q.qubit_count-used.result q.qubit_count-used.ensures c.if-used-g.false c.if-used-g-2.true
 
 pub mask-b-requires : goal.mask-b-requires
 mask-b-requires c =
     let q = count2 c in
-    let s = q.before in
     let u = q.qubit_count-used.result in
-    (s.requires.0, second-on s.requires.1 (λ e. eqb-false u 1 (or_no (eqb u 1) (eqb s.args.g.kind swap) c.if-used-g.false).0 (q.qubit_count-used.ensures ∙ e)))
+    (q.requires.0, second-on q.requires.1 (λ e. eqb-false u 1 (or_no (eqb u 1) (eqb q.args.g.kind swap) c.if-used-g.false).0 (q.qubit_count-used.ensures ∙ e)))
 
 pub overflow_add-result : goal.overflow_add-result
 overflow_add-result c =
-    let m = c.before.before.before in
     let s = (count2 c.before).before in
-    omega (arith, weight-small s.args.n s.args.g.a m.mask-a.result s.requires.0 m.mask-a.ensures, weight-small s.args.n s.args.g.b c.mask-b.result s.requires.0 c.mask-b.ensures)
+    omega (arith, weight-small s.args.n s.args.g.a c.mask-a.result s.requires.0 c.mask-a.ensures, weight-small s.args.n s.args.g.b c.mask-b.result s.requires.0 c.mask-b.ensures)
 
 pub returns : goal.returns
 returns c =
-    let m = c.before.before.before in
     let q = count2 c.before in
     let a = q.args in
-    ap₂ ◌+◌ m.mask-a.ensures c.mask-b.ensures
-    ∙ controls-by a.n a.g.a a.g.b a.g.c a.g.k a.g.kind q.qubit_count-used.result q.qubit_count-used.ensures m.if-used-g.false c.if-used-g-2.false
+    ap₂ ◌+◌ c.mask-a.ensures c.mask-b.ensures
+    ∙ controls-by a.n a.g.a a.g.b a.g.c a.g.k a.g.kind q.qubit_count-used.result q.qubit_count-used.ensures c.if-used-g.false c.if-used-g-2.false

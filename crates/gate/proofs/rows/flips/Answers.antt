@@ -39,7 +39,7 @@ pub mask-a-requires : goal.mask-a-requires
 mask-a-requires c = let s = start1 c in (s.requires.0, (two-on s.requires.1 (ap arity c.if-g-eq-SWAP.true)).first)
 
 pub mask-b-requires : goal.mask-b-requires
-mask-b-requires c = let t = c.before in let s = start1 t in (s.requires.0, (two-on s.requires.1 (ap arity t.if-g-eq-SWAP.true)).second)
+mask-b-requires c = let s = start1 c.before in (s.requires.0, (two-on s.requires.1 (ap arity c.if-g-eq-SWAP.true)).second)
 
 pub overflow_add-result : goal.overflow_add-result
 overflow_add-result c =
@@ -48,15 +48,14 @@ overflow_add-result c =
 
 pub returns-then-g-eq-SWAP : goal.returns-then-g-eq-SWAP
 returns-then-g-eq-SWAP c =
-    let t = c.before.before in
-    let a = (start1 t).args in
-    (λ i. c.mask-a.ensures i + c.mask-b.ensures i) ∙ flips-swap a.n a.g.a a.g.b a.g.c a.g.k a.g.kind t.if-g-eq-SWAP.true
+    let a = (start1 c.before.before).args in
+    (λ i. c.mask-a.ensures i + c.mask-b.ensures i) ∙ flips-swap a.n a.g.a a.g.b a.g.c a.g.k a.g.kind c.if-g-eq-SWAP.true
 
 pub mask-b-requires-then-g-eq-CSWAP : goal.mask-b-requires-then-g-eq-CSWAP
 mask-b-requires-then-g-eq-CSWAP c = let s = start2 c.before.before in (s.requires.0, (three-on s.requires.1 (ap arity c.if-g-eq-CSWAP.true)).others.first)
 
 pub mask-c-requires : goal.mask-c-requires
-mask-c-requires c = let t = c.before in let s = start2 t.before.before in (s.requires.0, (three-on s.requires.1 (ap arity t.if-g-eq-CSWAP.true)).others.second)
+mask-c-requires c = let s = start2 c.before.before.before in (s.requires.0, (three-on s.requires.1 (ap arity c.if-g-eq-CSWAP.true)).others.second)
 
 pub overflow_add-result-then-g-eq-CSWAP : goal.overflow_add-result-then-g-eq-CSWAP
 overflow_add-result-then-g-eq-CSWAP c =
@@ -65,42 +64,35 @@ overflow_add-result-then-g-eq-CSWAP c =
 
 pub returns-then-g-eq-CSWAP : goal.returns-then-g-eq-CSWAP
 returns-then-g-eq-CSWAP c =
-    let t = c.before.before in
-    let a = (start2 t.before.before).args in
-    (λ i. c.mask-b-then-g-eq-CSWAP.ensures i + c.mask-c.ensures i) ∙ flips-controlled-swap a.n a.g.a a.g.b a.g.c a.g.k a.g.kind t.if-g-eq-CSWAP.true
+    let a = (start2 c.before.before.before.before).args in
+    (λ i. c.mask-b-then-g-eq-CSWAP.ensures i + c.mask-c.ensures i) ∙ flips-controlled-swap a.n a.g.a a.g.b a.g.c a.g.k a.g.kind c.if-g-eq-CSWAP.true
 
 pub mask-requires : goal.mask-requires
-mask-requires c = let q = c.before in let s = start3 q in (s.requires.0, one_on s.requires.1 (sym q.qubit_count-used.ensures ∙ c.if-used-eq1.true))
+mask-requires c = let s = start3 c.before in (s.requires.0, one_on s.requires.1 (sym c.qubit_count-used.ensures ∙ c.if-used-eq1.true))
 
 pub returns-then-used-eq1 : goal.returns-then-used-eq1
 returns-then-used-eq1 c =
-    let t = c.before in
-    let q = t.before in
-    let a = (start3 q).args in
+    let a = (start3 c.before.before).args in
     c.mask.ensures
-    ∙ flips_target a.n a.g.a a.g.b a.g.c a.g.k a.g.kind q.if-g-eq-SWAP.false q.if-g-eq-CSWAP.false q.qubit_count-used.result 1 q.qubit_count-used.ensures t.if-used-eq1.true
+    ∙ flips_target a.n a.g.a a.g.b a.g.c a.g.k a.g.kind c.if-g-eq-SWAP.false c.if-g-eq-CSWAP.false c.qubit_count-used.result 1 c.qubit_count-used.ensures c.if-used-eq1.true
 
 pub mask-requires-then-used-eq2 : goal.mask-requires-then-used-eq2
-mask-requires-then-used-eq2 c = let q = c.before.before in let s = start3 q in (s.requires.0, (two-on s.requires.1 (sym q.qubit_count-used.ensures ∙ c.if-used-eq2.true)).second)
+mask-requires-then-used-eq2 c = let s = start3 c.before.before in (s.requires.0, (two-on s.requires.1 (sym c.qubit_count-used.ensures ∙ c.if-used-eq2.true)).second)
 
 pub returns-then-used-eq2 : goal.returns-then-used-eq2
 returns-then-used-eq2 c =
-    let t = c.before in
-    let q = t.before.before in
-    let a = (start3 q).args in
+    let a = (start3 c.before.before.before).args in
     c.mask-then-used-eq2.ensures
-    ∙ flips_target a.n a.g.a a.g.b a.g.c a.g.k a.g.kind q.if-g-eq-SWAP.false q.if-g-eq-CSWAP.false q.qubit_count-used.result 2 q.qubit_count-used.ensures t.if-used-eq2.true
+    ∙ flips_target a.n a.g.a a.g.b a.g.c a.g.k a.g.kind c.if-g-eq-SWAP.false c.if-g-eq-CSWAP.false c.qubit_count-used.result 2 c.qubit_count-used.ensures c.if-used-eq2.true
 
 three : (c : Else-used-eq2) → arity (start3 c.before.before).args.g.kind ≡ 3
-three c = let q = c.before.before in three_else (start3 q).requires.1 q.qubit_count-used.result q.qubit_count-used.ensures c.if-used-eq1.false c.if-used-eq2.false
+three c = three_else (start3 c.before.before).requires.1 c.qubit_count-used.result c.qubit_count-used.ensures c.if-used-eq1.false c.if-used-eq2.false
 
 pub mask-requires-2 : goal.mask-requires-2
 mask-requires-2 c = let s = start3 c.before.before in (s.requires.0, (three-on s.requires.1 (three c)).others.second)
 
 pub returns : goal.returns
 returns c =
-    let t = c.before in
-    let q = t.before.before in
-    let a = (start3 q).args in
+    let a = (start3 c.before.before.before).args in
     c.mask-2.ensures
-    ∙ flips_target a.n a.g.a a.g.b a.g.c a.g.k a.g.kind q.if-g-eq-SWAP.false q.if-g-eq-CSWAP.false q.qubit_count-used.result 3 q.qubit_count-used.ensures (q.qubit_count-used.ensures ∙ three t)
+    ∙ flips_target a.n a.g.a a.g.b a.g.c a.g.k a.g.kind c.if-g-eq-SWAP.false c.if-g-eq-CSWAP.false c.qubit_count-used.result 3 c.qubit_count-used.ensures (c.qubit_count-used.ensures ∙ three c.before)

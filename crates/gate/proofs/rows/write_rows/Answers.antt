@@ -85,13 +85,11 @@ write_cell-requires c = omega (arith, long c.loop-r.invariant)
 
 pub write_cell-requires-in-loop-r : goal.write_cell-requires-in-loop-r
 write_cell-requires-in-loop-r c =
-    let w = c.before.before in
-    let v = w.before.before in
-    let s = (h v).before.before.before.before in
+    let s = (h c.before.before.before.before.before.before).before.before.before.before in
     let a = s.args in
-    let i : r v * 2 < a.d * 2 = omega (arith, in_row v) in
-    let room : a.at + (r v * 2 + 1) * cell_size + cell_size ≤ length a.buf.now = omega (arith, in_row v, s.requires.1.0) in
-    subst (λ (k : ℕ). a.at + (r v * 2 + 1) * cell_size + cell_size ≤ k) (sym (long (again v.loop-r.invariant i w.write_cell.ensures (own-words v)))) room
+    let i : r c.before.before.before.before.before.before * 2 < a.d * 2 = omega (arith, in_row c.before.before.before.before.before.before) in
+    let room : a.at + (r c.before.before.before.before.before.before * 2 + 1) * cell_size + cell_size ≤ length a.buf.now = omega (arith, in_row c.before.before.before.before.before.before, s.requires.1.0) in
+    subst (λ (k : ℕ). a.at + (r c.before.before.before.before.before.before * 2 + 1) * cell_size + cell_size ≤ k) (sym (long (again c.loop-r.invariant i c.write_cell.ensures (own-words c.before.before.before.before.before.before)))) room
 
 pub overflow_add-r : goal.overflow_add-r
 overflow_add-r c = omega arith
@@ -101,31 +99,23 @@ loop-r-smaller c = omega arith
 
 pub loop-r-preserved : goal.loop-r-preserved
 loop-r-preserved c =
-    let o = c.before in
-    let w = o.before.before.before in
-    let v = w.before.before in
-    let t = v.before in
-    let a = (h v).args in
-    let i : r v * 2 < a.d * 2 = omega (arith, in_row v) in
-    let own = again t.loop-r.invariant i w.write_cell.ensures (own-words v) in
-    let next : r v * 2 + 1 + 1 ≡ (r v + 1) * 2 = omega arith in
-    subst (Writing cell_size a.buf.now a.at (a.d * 2) (λ (i : ℕ). cell_words (value (side (pairs (h v) (i / 2)) i))) _) next
-    (again own (in_row v) o.write_cell-in-loop-r.ensures (other-words v))
+    let a = (h c.before.before.before.before.before.before.before.before).args in
+    let i : r c.before.before.before.before.before.before.before.before * 2 < a.d * 2 = omega (arith, in_row c.before.before.before.before.before.before.before.before) in
+    let own = again c.loop-r.invariant i c.write_cell.ensures (own-words c.before.before.before.before.before.before.before.before) in
+    let next : r c.before.before.before.before.before.before.before.before * 2 + 1 + 1 ≡ (r c.before.before.before.before.before.before.before.before + 1) * 2 = omega arith in
+    subst (Writing cell_size a.buf.now a.at (a.d * 2) (λ (i : ℕ). cell_words (value (side (pairs (h c.before.before.before.before.before.before.before.before) (i / 2)) i))) _) next
+    (again own (in_row c.before.before.before.before.before.before.before.before) c.write_cell-in-loop-r.ensures (other-words c.before.before.before.before.before.before.before.before))
 
 pub shape_of-buf : goal.shape_of-buf
 shape_of-buf c = long c.loop-r.invariant
 
 pub returns : goal.returns
 returns c =
-    let h = c.before.before in
-    let l = h.before.before in
-    let u = l.before in
-    let s = u.before in
-    let p = s.requires in
-    let a = s.args in
-    let low = l.pair_of-low.ensures ∙ ap (λ (t : Table). pair_of t 0) u.core_table-u.ensures in
-    let high = h.pair_of-high.ensures ∙ ap (λ (t : Table). pair_of t 1) u.core_table-u.ensures in
+    let p = c.requires in
+    let a = c.args in
+    let low = c.pair_of-low.ensures ∙ ap (λ (t : Table). pair_of t 0) c.core_table-u.ensures in
+    let high = c.pair_of-high.ensures ∙ ap (λ (t : Table). pair_of t 1) c.core_table-u.ensures in
     let all : a.d * 2 ≤ c.loop-r.r * 2 = omega (arith, c.loop-r-test.false) in
     done c.loop-r.invariant all
     ∙ blocks-same cell_size a.buf.now a.at (a.d * 2) _ _ (λ i k.
-    ap cell_words (row-entry i p.1.1.1.1 p.1.1.0 p.0 h.controls-held.ensures low high (subst (λ (d : ℕ). i < d * 2) p.1.1.1.0 k)))
+    ap cell_words (row-entry i p.1.1.1.1 p.1.1.0 p.0 c.controls-held.ensures low high (subst (λ (d : ℕ). i < d * 2) p.1.1.1.0 k)))

@@ -11,72 +11,45 @@ use Rattle.judge.proofs.call.run_and_deliver.Tie as tie
 use Rattle.judge.proofs.call.run_and_deliver.Goals as goal
 
 abbrev After-power-banks : Type 0
-After-power-banks = lts.After-power2 tie.the-claims reads.Pre reads.Post
+After-power-banks = lts.After-power2 tie.the-claims reads.Pre reads.Post tie.handed_clauses
 
 pub power-d-requires : goal.power-d-requires
 power-d-requires c = omega (arith, few_qubits c.requires.1)
 
 pub power-banks-requires : goal.power-banks-requires
-power-banks-requires c = let s = c.before.before.before.before in omega (arith, few-splits s.requires.1, s.requires.0)
+power-banks-requires c = omega (arith, few-splits c.requires.1, c.requires.0)
 
 -- how many branches there are
 many : (c : After-power-banks) → c.power-banks.result ≡ 2 ^ total splits (gates_of c.args.gates.now)
 many c = c.power-banks.ensures ∙ ap (λ (k : ℕ). 2 ^ k) c.requires.0
 
 pub run_gates-at-requires : goal.run_gates-at-requires
-run_gates-at-requires c = let a = c.before.before in let p = a.before in runs p.requires.1 p.power-d.ensures (many a)
+run_gates-at-requires c = runs c.requires.1 c.power-d.ensures (many c.before.before)
 
 pub deliver-requires : goal.deliver-requires
 deliver-requires c =
-    let g = c.before.before.before.before in
-    let a = g.before.before in
-    let p = a.before in
-    delivers p.requires.1 p.power-d.ensures (many a) g.run_gates-at.ensures
+    delivers c.requires.1 c.power-d.ensures (many c.before.before.before.before.before) c.run_gates-at.ensures
 
 pub overflow_mul-used : goal.overflow_mul-used
 overflow_mul-used c =
-    let g = c.before.before.before.before.before.before in
-    let a = g.before.before in
-    let p = a.before in
-    omega (arith, count_small p.requires.1 p.power-d.ensures (many a))
+    omega (arith, count_small c.requires.1 c.power-d.ensures (many c.before.before.before.before.before.before.before))
 
 pub overflow_add-used : goal.overflow_add-used
 overflow_add-used c =
-    let g = c.before.before.before.before.before.before in
-    let a = g.before.before in
-    let p = a.before in
-    omega (arith, count_small p.requires.1 p.power-d.ensures (many a))
+    omega (arith, count_small c.requires.1 c.power-d.ensures (many c.before.before.before.before.before.before.before))
 
 pub branch_size-requires : goal.branch_size-requires
 branch_size-requires c =
-    let g = c.before.before.before.before.before.before in
-    let a = g.before.before in
-    let p = a.before in
-    omega (arith, dim_small p.requires.1 p.power-d.ensures (many a))
+    omega (arith, dim_small c.requires.1 c.power-d.ensures (many c.before.before.before.before.before.before.before))
 
 pub overflow_mul-used-2 : goal.overflow_mul-used-2
 overflow_mul-used-2 c =
-    let g = c.before.before.before.before.before.before.before in
-    let a = g.before.before in
-    let p = a.before in
-    omega (arith, used-small p.requires.1 p.power-d.ensures (many a) g.run_gates-at.ensures c.branch_size.ensures)
+    omega (arith, used-small c.requires.1 c.power-d.ensures (many c.before.before.before.before.before.before.before.before) c.run_gates-at.ensures c.branch_size.ensures)
 
 pub clear-requires : goal.clear-requires
 clear-requires c =
-    let q = c.before.before in
-    let g = q.before.before.before.before.before.before in
-    let a = g.before.before in
-    let p = a.before in
-    omega (arith, used-room p.requires.1 p.power-d.ensures (many a) g.run_gates-at.ensures q.branch_size.ensures)
+    omega (arith, used-room c.requires.1 c.power-d.ensures (many c.before.before.before.before.before.before.before.before.before) c.run_gates-at.ensures c.branch_size.ensures)
 
 pub returns : goal.returns
 returns c =
-    let z = c.before.before in
-    let q = z.before.before in
-    let v = q.before.before in
-    let g = v.before.before.before.before in
-    let a = g.before.before in
-    let p = a.before in (
-      delivered p.requires.1 p.power-d.ensures (many a) g.run_gates-at.ensures v.deliver.ensures,
-      cleared p.requires.1 p.power-d.ensures (many a) g.run_gates-at.ensures q.branch_size.ensures z.clear.ensures,
-    )
+    record { res_after = delivered c.requires.1 c.power-d.ensures (many c.before.before.before.before.before.before.before.before.before.before.before) c.run_gates-at.ensures c.deliver.ensures; work_after = cleared c.requires.1 c.power-d.ensures (many c.before.before.before.before.before.before.before.before.before.before.before) c.run_gates-at.ensures c.branch_size.ensures c.clear.ensures }

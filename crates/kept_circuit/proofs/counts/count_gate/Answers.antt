@@ -56,14 +56,14 @@ module _ (c : After-move_count) where
   abbrev s1 : After-splits-splits
   s1 = c.before.before
 
-  first : Within c.move_count.new.0 2001
+  first : Within c.move_count.new.words 2001
   first = subst (λ (l : List ℤ). Within l 2001) (sym c.move_count.ensures) (within_move (begun s1).requires.0 (more s1) gates_place 1 (omega arith) (omega arith))
 
 module _ (c : After-move_count-2) where
   abbrev m1 : After-move_count
   m1 = c.before.before.before
 
-  second : Within c.move_count-2.new.0 2002
+  second : Within c.move_count-2.new.words 2002
   second =
       subst (λ (l : List ℤ). Within l 2002) (sym c.move_count-2.ensures)
       (within_move (first m1) (more (s1 m1)) weight_place _ (omega arith) (omega (arith, weight_is (s1 m1), weight-one (g (s1 m1)))))
@@ -75,46 +75,39 @@ module _ (c : After-move_count-3) where
   abbrev s3 : After-splits-splits
   s3 = s1 (m1 m2)
 
-  third : Within c.move_count-3.new.0 2003
+  third : Within c.move_count-3.new.words 2003
   third =
       subst (λ (l : List ℤ). Within l 2003) (sym c.move_count-3.ensures)
       (within_move (second m2) (more s3) splits_place _ (omega arith) (omega (arith, splits_is s3, splits-one (g s3))))
 
   -- all three
-  totals_is : c.move_count-3.new.0 ≡ totals (more s3) (l s3) (g s3)
+  totals_is : c.move_count-3.new.words ≡ totals (more s3) (l s3) (g s3)
   totals_is =
       c.move_count-3.ensures
       ∙ (λ i. move_at (more s3) (m2.move_count-2.ensures i) splits_place (splits_is s3 i))
       ∙ (λ i. move_at (more s3) (move_at (more s3) ((m1 m2).move_count.ensures i) weight_place (weight_is s3 i)) splits_place (splits (g s3)))
 
 pub move_count-requires : goal.move_count-requires
-move_count-requires c = let s = c.before in (within_more (begun s).requires.0 (omega arith), (omega arith, omega arith))
+move_count-requires c = (within_more (begun c.before).requires.0 (omega arith), (omega arith, omega arith))
 
 pub move_count-requires-2 : goal.move_count-requires-2
-move_count-requires-2 c = let m = c.before.before in (within_more (first m) (omega arith), (omega arith, omega (arith, weight_is (s1 m), weight-one (g (s1 m)))))
+move_count-requires-2 c = (within_more (first c.before.before) (omega arith), (omega arith, omega (arith, weight_is (s1 c.before.before), weight-one (g (s1 c.before.before)))))
 
 pub move_count-requires-3 : goal.move_count-requires-3
 move_count-requires-3 c =
-    let m = c.before.before in
-    let s = s1 (m1 m) in
-    (within_more (second m) (omega arith), (omega arith, omega (arith, splits_is s, splits-one (g s))))
+    let s = s1 (m1 c.before.before) in
+    (within_more (second c.before.before) (omega arith), (omega arith, omega (arith, splits_is s, splits-one (g s))))
 
 pub mark_bit-requires : goal.mark_bit-requires
 mark_bit-requires c =
-    let t = c.before.before in
-    let m = t.before.before.before in
-    (within_more (third m) (omega arith), bit-small (g (s3 m)) (eq-eqb _ _ t.if-g-eq-MEASURE.true) (begun (s3 m)).requires.1)
+    (within_more (third c.before.before.before.before.before) (omega arith), bit-small (g (s3 c.before.before.before.before.before)) (eq-eqb _ _ c.if-g-eq-MEASURE.true) (begun (s3 c.before.before.before.before.before)).requires.1)
 
 pub returns-then-g-eq-MEASURE : goal.returns-then-g-eq-MEASURE
 returns-then-g-eq-MEASURE c =
-    let b = c.before in
-    let t = b.before.before.before in
-    let m = t.before.before.before in
-    let s = s3 m in
-    b.mark_bit.ensures ∙ ap (λ (l : List ℤ). mark (more s) l (g s).b) (totals_is m) ∙ counted-bit (more s) (l s) (g s) (eq-eqb _ _ t.if-g-eq-MEASURE.true)
+    let s = s3 c.before.before.before.before.before.before.before in
+    c.mark_bit.ensures ∙ ap (λ (l : List ℤ). mark (more s) l (g s).b) (totals_is c.before.before.before.before.before.before.before) ∙ counted-bit (more s) (l s) (g s) (eq-eqb _ _ c.if-g-eq-MEASURE.true)
 
 pub returns-else-g-eq-MEASURE : goal.returns-else-g-eq-MEASURE
 returns-else-g-eq-MEASURE c =
-    let m = c.before.before.before in
-    let s = s3 m in
-    totals_is m ∙ counted_none (more s) (l s) (g s) (ne_eqb _ _ c.if-g-eq-MEASURE.false)
+    let s = s3 c.before.before.before in
+    totals_is c.before.before.before ∙ counted_none (more s) (l s) (g s) (ne_eqb _ _ c.if-g-eq-MEASURE.false)

@@ -53,15 +53,11 @@ returns-then-words-lt-HEAD c =
 
 pub follow-count-requires : goal.follow-count-requires
 follow-count-requires c =
-    let t = c.before in
-    (omega (arith, (r t).if-words-lt-HEAD.false), (word_is (room (length (l t))) (word (l t) gates_place) (gates_up t (tests t ∙ c.if-a-b.true))).0)
+    (omega (arith, (r c.before).if-words-lt-HEAD.false), (word_is (room (length (l c.before))) (word (l c.before) gates_place) (gates_up c.before (tests c.before ∙ c.if-a-b.true))).0)
 
 pub returns-then-a-b : goal.returns-then-a-b
 returns-then-a-b c =
-    let f = c.before in
-    let h = f.before in
-    let t = h.before in
-    sound-yes (l t) (long t) (tests t ∙ h.if-a-b.true) (c.are_up_to.ensures ∙ ap (λ (k : ℕ). all_up_to (l t) weight_place (head_size - weight_place) k) f.follow-count.ensures)
+    sound-yes (l c.before.before.before) (long c.before.before.before) (tests c.before.before.before ∙ c.if-a-b.true) (c.are_up_to.ensures ∙ ap (λ (k : ℕ). all_up_to (l c.before.before.before) weight_place (head_size - weight_place) k) c.follow-count.ensures)
 
 pub returns : goal.returns
 returns c = sound_no (l c.before) (long c.before) (tests c.before ∙ c.if-a-b.false)

@@ -33,24 +33,23 @@ module _ (c : After-move_count) where
   at = measures_place + s.args.b
 
   abbrev new : List ℤ
-  new = c.move_count.new.0
+  new = c.move_count.new.words
 
   once : Within new 3001
   once = subst (λ (l : List ℤ). Within l 3001) (sym c.move_count.ensures) (within_move s.requires.0 s.args.more at 1 (omega (arith, s.requires.1)) (omega arith))
 
 pub follow-before-requires : goal.follow-before-requires
 follow-before-requires c =
-    let s = c.before in
-    (omega (arith, s.requires.0.long, s.requires.1), (within_is s.requires.0 (measures_place + s.args.b) (omega (arith, s.requires.1))).0)
+    (omega (arith, c.requires.0.long, c.requires.1), (within_is c.requires.0 (measures_place + c.args.b) (omega (arith, c.requires.1))).0)
 
 pub move_count-requires : goal.move_count-requires
-move_count-requires c = let s = c.before.before.before in (within_more s.requires.0 (omega arith), (omega (arith, s.requires.1), omega arith))
+move_count-requires c = (within_more c.requires.0 (omega arith), (omega (arith, c.requires.1), omega arith))
 
 pub follow-after-requires : goal.follow-after-requires
-follow-after-requires c = let m = c.before.before in (omega (arith, (once m).long, (s m).requires.1), (within_is (once m) (at m) (omega (arith, (s m).requires.1))).0)
+follow-after-requires c = (omega (arith, (once c.before).long, (s c.before).requires.1), (within_is (once c.before) (at c.before) (omega (arith, (s c.before).requires.1))).0)
 
 pub move_count-requires-then-before-after : goal.move_count-requires-then-before-after
-move_count-requires-then-before-after c = let m = c.before.before.before.before.before in (within_more (once m) (omega arith), (omega arith, omega arith))
+move_count-requires-then-before-after c = (within_more (once c.before.before.before.before) (omega arith), (omega arith, omega arith))
 
 -- the test, and what it chooses
 module _ (c : After-follow-after) where
@@ -72,9 +71,7 @@ module _ (c : After-follow-after) where
 
 pub returns-then-before-after : goal.returns-then-before-after
 returns-then-before-after c =
-    let v = c.before in
-    let t = v.before.before in
-    v.move_count-then-before-after.ensures ∙ chosen t.before true t.if-before-after.true
+    c.move_count-then-before-after.ensures ∙ chosen c.before.before.before.before true c.if-before-after.true
 
 pub returns-else-before-after : goal.returns-else-before-after
 returns-else-before-after c = chosen c.before false c.if-before-after.false

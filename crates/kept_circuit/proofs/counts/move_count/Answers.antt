@@ -30,26 +30,23 @@ module _ (s : Start) where
   long = omega (arith, s.requires.0.long, s.requires.1.0)
 
 pub follow-x-requires : goal.follow-x-requires
-follow-x-requires c = (long c.before, (small c.before).0)
+follow-x-requires c = (long c, (small c).0)
 
 pub moved-y-requires : goal.moved-y-requires
-moved-y-requires c = let s = c.before.before in omega (arith, c.follow-x.ensures, (small s).1, s.requires.1.1)
+moved-y-requires c = omega (arith, c.follow-x.ensures, (small c.before).1, c.requires.1.1)
 
 fits : (c : After-moved-y) → c.moved-y.result < 2 ^ 63
 fits c =
-    let f = c.before in
-    let s = f.before.before in
-    omega (arith, c.moved-y.ensures, moved_le s.args.more f.follow-x.result s.args.d, f.follow-x.ensures, (small s).1, s.requires.1.1)
+    omega (arith, c.moved-y.ensures, moved_le c.args.more c.follow-x.result c.args.d, c.follow-x.ensures, (small c.before.before).1, c.requires.1.1)
 
 pub returns : goal.returns
 unfolding move_at
 returns c =
-    let f = c.before in
-    let a = f.args in
-    λ i. set a.words.now a.at ((to_z_pos w64 {n = c.moved-y.result} (fits c) ∙ ap pos (c.moved-y.ensures ∙ ap (λ (x : ℕ). moved a.more x a.d) f.follow-x.ensures)) i)
+    let a = c.args in
+    λ i. set a.words.now a.at ((to_z_pos w64 {n = c.moved-y.result} (fits c) ∙ ap pos (c.moved-y.ensures ∙ ap (λ (x : ℕ). moved a.more x a.d) c.follow-x.ensures)) i)
 
 pub overflow_cast-words : goal.overflow_cast-words
 overflow_cast-words c = record { sfits = fits c }
 
 pub bounds-words-at : goal.bounds-words-at
-bounds-words-at c = omega (arith, long c.before.before.before)
+bounds-words-at c = omega (arith, long c.before.before)

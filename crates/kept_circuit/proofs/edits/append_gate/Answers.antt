@@ -21,22 +21,22 @@ use Rattle.kept_circuit.proofs.edits.append_gate.Tie as tie
 use Rattle.kept_circuit.proofs.edits.append_gate.Goals as goal
 
 abbrev Start : Type 0
-Start = lts.Start tie.the-claims reads.Pre reads.Post
+Start = lts.Start tie.the-claims reads.Pre reads.Post tie.handed_clauses
 
 abbrev Else-not-is_sound : Type 0
-Else-not-is_sound = lts.Else1 tie.the-claims reads.Pre reads.Post
+Else-not-is_sound = lts.Else1 tie.the-claims reads.Pre reads.Post tie.handed_clauses
 
 abbrev After-room_in-room : Type 0
-After-room_in-room = lts.After-room_in tie.the-claims reads.Pre reads.Post
+After-room_in-room = lts.After-room_in tie.the-claims reads.Pre reads.Post tie.handed_clauses
 
 abbrev After-is_accepted : Type 0
-After-is_accepted = lts.After-is_accepted tie.the-claims reads.Pre reads.Post
+After-is_accepted = lts.After-is_accepted tie.the-claims reads.Pre reads.Post tie.handed_clauses
 
 abbrev After-ask_gate-v : Type 0
-After-ask_gate-v = lts.After-ask_gate tie.the-claims reads.Pre reads.Post
+After-ask_gate-v = lts.After-ask_gate tie.the-claims reads.Pre reads.Post tie.handed_clauses
 
 abbrev Else-room-count : Type 0
-Else-room-count = lts.Else2 tie.the-claims reads.Pre reads.Post
+Else-room-count = lts.Else2 tie.the-claims reads.Pre reads.Post tie.handed_clauses
 
 abbrev l : Start → List ℤ
 l s = s.args.words.now
@@ -61,15 +61,14 @@ module _ (c : Else-not-is_sound) where
 
 pub returns-then-not-is_sound : goal.returns-then-not-is_sound
 returns-then-not-is_sound c =
-    let s = c.before.before.before in
-    let e = append_answers (l s) (g s) (sym c.is_sound.ensures ∙ c.if-not-is_sound.true) refl in
-    (e, refused-words (x s) (l s) e refl)
+    let e = append_answers (l c.before.before) (g c.before.before) (sym c.is_sound.ensures ∙ c.if-not-is_sound.true) refl in
+    record { value = e; words_after = refused-words (x c.before.before) (l c.before.before) e refl }
 
 pub follow-count-requires : goal.follow-count-requires
-follow-count-requires c = let k = sound-words c.before in (omega (arith, k.long), count_is k gates_place (omega arith))
+follow-count-requires c = let k = sound-words c in (omega (arith, k.long), count_is k gates_place (omega arith))
 
 pub room_in-room-requires : goal.room_in-room-requires
-room_in-room-requires c = (sound-words c.before.before).long
+room_in-room-requires c = (sound-words c.before).long
 
 -- the position, and the room
 module _ (c : After-room_in-room) where
@@ -81,14 +80,13 @@ module _ (c : After-room_in-room) where
 
 pub returns-then-room-count : goal.returns-then-room-count
 returns-then-room-count c =
-    let k = c.before in
-    let b = s (o k) in
-    let h : room (length (l b)) ≤ gates_of (l b) = omega (arith, count-gates k, k.room_in-room.ensures, c.if-room-count.true) in
-    let e = append_answers (l b) (g b) (sound-true (o k)) (le-ltb (gates_of (l b)) (room (length (l b))) h) in
-    (e, refused-words (x b) (l b) e refl)
+    let b = s (o c.before) in
+    let h : room (length (l b)) ≤ gates_of (l b) = omega (arith, count-gates c.before, c.room_in-room.ensures, c.if-room-count.true) in
+    let e = append_answers (l b) (g b) (sound-true (o c.before)) (le-ltb (gates_of (l b)) (room (length (l b))) h) in
+    record { value = e; words_after = refused-words (x b) (l b) e refl }
 
 pub ask_gate-v-requires : goal.ask_gate-v-requires
-ask_gate-v-requires c = sound-true (o c.before.before)
+ask_gate-v-requires c = sound-true (o c.before)
 
 -- the verdict on the gate is that of the call
 module _ (c : After-is_accepted) where
@@ -115,26 +113,23 @@ module _ (c : After-is_accepted) where
 
 pub put_in-requires : goal.put_in-requires
 put_in-requires c =
-    let t = c.before in
-    let i = t.before in
-    let w = sound-words (o (k i)) in
-    let h : (k i).follow-count.result < room (length (l (b i))) = omega (arith, count-gates (k i), free i) in (
+    let w = sound-words (o (k c.before.before)) in
+    let h : (k c.before.before).follow-count.result < room (length (l (b c.before.before))) = omega (arith, count-gates (k c.before.before), free c.before.before) in (
       within_more (sound-within w) (omega arith),
       (
-        place-free w (k i).follow-count.result h,
-        bits-counted w (k i).follow-count.result (g (b i)) (sym (ap accepted (q i).ask_gate-v.ensures) ∙ sym i.is_accepted.ensures ∙ t.if-is_accepted.true),
+        place-free w (k c.before.before).follow-count.result h,
+        bits-counted w (k c.before.before).follow-count.result (g (b c.before.before)) (sym (ap accepted (q c.before.before).ask_gate-v.ensures) ∙ sym c.is_accepted.ensures ∙ c.if-is_accepted.true),
       ),
     )
 
 pub returns-then-is_accepted : goal.returns-then-is_accepted
 returns-then-is_accepted c =
-    let p = c.before in
-    let t = p.before.before in
-    let i = t.before in (
-      verdict_is i,
-      done_words (x (b i)) (l (b i)) (verdict_is i) (sym i.is_accepted.ensures ∙ t.if-is_accepted.true)
-          (p.put_in.ensures ∙ ap (λ (j : ℕ). put (counted true (l (b i)) (g (b i))) j (g (b i))) (count-gates (k i))),
-    )
+    record {
+      value = verdict_is c.before.before.before.before;
+      words_after = done_words (x (b c.before.before.before.before)) (l (b c.before.before.before.before)) (verdict_is c.before.before.before.before) (sym c.is_accepted.ensures ∙ c.if-is_accepted.true)
+          (c.put_in.ensures ∙ ap (λ (j : ℕ). put (counted true (l (b c.before.before.before.before)) (g (b c.before.before.before.before))) j (g (b c.before.before.before.before))) (count-gates (k c.before.before.before.before)));
+    }
 
 pub returns : goal.returns
-returns c = let i = c.before in (verdict_is i, refused-words (x (b i)) (l (b i)) (verdict_is i) (sym i.is_accepted.ensures ∙ c.if-is_accepted.false))
+returns c =
+    record { value = verdict_is c.before; words_after = refused-words (x (b c.before)) (l (b c.before)) (verdict_is c.before) (sym c.is_accepted.ensures ∙ c.if-is_accepted.false) }

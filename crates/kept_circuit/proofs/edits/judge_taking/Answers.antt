@@ -29,22 +29,17 @@ follow-count-requires c = let s = sound_is (l c) c.requires in (omega (arith, s.
 
 -- where the position holds a gate
 inside : (c : Then-i-count) → ltb c.args.i (gates_of (l c.before.before)) ≡ true
-inside c = let s = c.before.before in lt-ltb s.args.i (gates_of (l s)) (omega (arith, c.follow-count.ensures, c.if-i-count.true))
+inside c = lt-ltb c.args.i (gates_of (l c.before.before)) (omega (arith, c.follow-count.ensures, c.if-i-count.true))
 
 pub returns-then-is_takeable : goal.returns-then-is_takeable
 returns-then-is_takeable c =
-    let t = c.before.before in
-    let s = t.before.before in
-    take_answers (l s) s.args.i s.requires (inside t) (sym c.is_takeable.ensures ∙ c.if-is_takeable.true)
+    take_answers (l c.before.before.before.before) c.args.i c.requires (inside c.before.before) (sym c.is_takeable.ensures ∙ c.if-is_takeable.true)
 
 pub returns-then-i-count : goal.returns-then-i-count
 returns-then-i-count c =
-    let t = c.before.before in
-    let s = t.before.before in
-    take_answers (l s) s.args.i s.requires (inside t) (sym c.is_takeable.ensures ∙ c.if-is_takeable.false)
+    take_answers (l c.before.before.before.before) c.args.i c.requires (inside c.before.before) (sym c.is_takeable.ensures ∙ c.if-is_takeable.false)
 
 pub returns : goal.returns
 returns c =
-    let s = c.before.before in
-    let h : gates_of (l s) ≤ s.args.i = omega (arith, c.follow-count.ensures, c.if-i-count.false) in
-    take_answers (l s) s.args.i s.requires (le-ltb s.args.i (gates_of (l s)) h) refl
+    let h : gates_of (l c.before.before) ≤ c.args.i = omega (arith, c.follow-count.ensures, c.if-i-count.false) in
+    take_answers (l c.before.before) c.args.i c.requires (le-ltb c.args.i (gates_of (l c.before.before)) h) refl

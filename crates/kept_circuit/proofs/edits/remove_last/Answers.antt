@@ -19,28 +19,28 @@ use Rattle.kept_circuit.proofs.edits.remove_last.Tie as tie
 use Rattle.kept_circuit.proofs.edits.remove_last.Goals as goal
 
 abbrev Start : Type 0
-Start = lts.Start tie.the-claims reads.Pre reads.Post
+Start = lts.Start tie.the-claims reads.Pre reads.Post tie.handed_clauses
 
 abbrev Else-not-is_sound : Type 0
-Else-not-is_sound = lts.Else1 tie.the-claims reads.Pre reads.Post
+Else-not-is_sound = lts.Else1 tie.the-claims reads.Pre reads.Post tie.handed_clauses
 
 abbrev After-is_accepted : Type 0
-After-is_accepted = lts.After-is_accepted tie.the-claims reads.Pre reads.Post
+After-is_accepted = lts.After-is_accepted tie.the-claims reads.Pre reads.Post tie.handed_clauses
 
 abbrev After-judge_taking-v : Type 0
-After-judge_taking-v = lts.After-judge_taking tie.the-claims reads.Pre reads.Post
+After-judge_taking-v = lts.After-judge_taking tie.the-claims reads.Pre reads.Post tie.handed_clauses
 
 abbrev After-one_less-i : Type 0
-After-one_less-i = lts.After-one_less tie.the-claims reads.Pre reads.Post
+After-one_less-i = lts.After-one_less tie.the-claims reads.Pre reads.Post tie.handed_clauses
 
 abbrev After-write_gate-arg-1 : Type 0
-After-write_gate-arg-1 = lts.After-write_gate-arg tie.the-claims reads.Pre reads.Post
+After-write_gate-arg-1 = lts.After-write_gate-arg tie.the-claims reads.Pre reads.Post tie.handed_clauses
 
 abbrev After-take_out : Type 0
-After-take_out = lts.After-take_out tie.the-claims reads.Pre reads.Post
+After-take_out = lts.After-take_out tie.the-claims reads.Pre reads.Post tie.handed_clauses
 
 abbrev Then-is_accepted : Type 0
-Then-is_accepted = lts.Then2 tie.the-claims reads.Pre reads.Post
+Then-is_accepted = lts.Then2 tie.the-claims reads.Pre reads.Post tie.handed_clauses
 
 abbrev l : Start → List ℤ
 l s = s.args.words.now
@@ -62,15 +62,14 @@ module _ (c : Else-not-is_sound) where
 
 pub returns-then-not-is_sound : goal.returns-then-not-is_sound
 returns-then-not-is_sound c =
-    let s = c.before.before.before in
-    let e = take_unsound (l s) (last_of (l s)) (sym c.is_sound.ensures ∙ c.if-not-is_sound.true) in
-    (e, refused-words (x s) (l s) e refl)
+    let e = take_unsound (l c.before.before) (last_of (l c.before.before)) (sym c.is_sound.ensures ∙ c.if-not-is_sound.true) in
+    record { value = e; words_after = refused-words (x c.before.before) (l c.before.before) e refl }
 
 pub follow-count-requires : goal.follow-count-requires
-follow-count-requires c = let k = sound-words c.before in (omega (arith, k.long), count_is k gates_place (omega arith))
+follow-count-requires c = let k = sound-words c in (omega (arith, k.long), count_is k gates_place (omega arith))
 
 pub judge_taking-v-requires : goal.judge_taking-v-requires
-judge_taking-v-requires c = sound-true c.before.before.before.before
+judge_taking-v-requires c = sound-true c.before.before
 
 -- the position, and the verdict on it
 module _ (c : After-is_accepted) where
@@ -99,7 +98,7 @@ module _ (c : After-is_accepted) where
   taken e = take-accepted (l b) i (sound-true o) q.judge_taking-v.ensures (sym c.is_accepted.ensures ∙ e)
 
 pub take_out-requires : goal.take_out-requires
-take_out-requires c = let k = c.before.before in let t = taken k c.if-is_accepted.true in (sound-true (o k), (t.inside, t.able))
+take_out-requires c = let t = taken c.before.before c.if-is_accepted.true in (sound-true (o c.before.before), (t.inside, t.able))
 
 -- the gate's place, after it is taken out
 module _ (c : After-write_gate-arg-1) where
@@ -121,17 +120,17 @@ module _ (c : After-write_gate-arg-1) where
 pub returns-then-is_accepted : goal.returns-then-is_accepted
 unfolding put
 returns-then-is_accepted c =
-    let p = c.before in
-    let a = p.before in
-    let k = k a in
-    let b = b k in (
-      verdict_is k,
-      done_words (x b) (l b) (verdict_is k) (sym k.is_accepted.ensures ∙ (t a).if-is_accepted.true)
-          (p.write_gate.ensures ∙ (λ j. put ((w a).take_out.ensures j) (i k) no_gate) ∙ ap (λ (j : ℕ). put (counted false (l b) (gate_in (l b) j)) j no_gate) (position k)),
-    )
+    let k = k c.before.before in
+    let b = b k in
+    record {
+      value = verdict_is k;
+      words_after = done_words (x b) (l b) (verdict_is k) (sym k.is_accepted.ensures ∙ (t c.before.before).if-is_accepted.true)
+          (c.write_gate.ensures ∙ (λ j. put ((w c.before.before).take_out.ensures j) (i k) no_gate) ∙ ap (λ (j : ℕ). put (counted false (l b) (gate_in (l b) j)) j no_gate) (position k));
+    }
 
 pub returns : goal.returns
-returns c = let k = c.before in (verdict_is k, refused-words (x (b k)) (l (b k)) (verdict_is k) (sym k.is_accepted.ensures ∙ c.if-is_accepted.false))
+returns c =
+    record { value = verdict_is c.before; words_after = refused-words (x (b c.before)) (l (b c.before)) (verdict_is c.before) (sym c.is_accepted.ensures ∙ c.if-is_accepted.false) }
 
 pub overflow_mul-i : goal.overflow_mul-i
 overflow_mul-i c = omega (arith, fits c)

@@ -21,25 +21,25 @@ use Rattle.kept_circuit.proofs.edits.replace_gate.Tie as tie
 use Rattle.kept_circuit.proofs.edits.replace_gate.Goals as goal
 
 abbrev Start : Type 0
-Start = lts.Start tie.the-claims reads.Pre reads.Post
+Start = lts.Start tie.the-claims reads.Pre reads.Post tie.handed_clauses
 
 abbrev Else-not-is_sound : Type 0
-Else-not-is_sound = lts.Else1 tie.the-claims reads.Pre reads.Post
+Else-not-is_sound = lts.Else1 tie.the-claims reads.Pre reads.Post tie.handed_clauses
 
 abbrev After-is_accepted : Type 0
-After-is_accepted = lts.After-is_accepted tie.the-claims reads.Pre reads.Post
+After-is_accepted = lts.After-is_accepted tie.the-claims reads.Pre reads.Post tie.handed_clauses
 
 abbrev After-judge_taking-v : Type 0
-After-judge_taking-v = lts.After-judge_taking tie.the-claims reads.Pre reads.Post
+After-judge_taking-v = lts.After-judge_taking tie.the-claims reads.Pre reads.Post tie.handed_clauses
 
 abbrev After-is_accepted-then-is_accepted : Type 0
-After-is_accepted-then-is_accepted = lts.After-is_accepted2 tie.the-claims reads.Pre reads.Post
+After-is_accepted-then-is_accepted = lts.After-is_accepted2 tie.the-claims reads.Pre reads.Post tie.handed_clauses
 
 abbrev After-ask_gate-u : Type 0
-After-ask_gate-u = lts.After-ask_gate tie.the-claims reads.Pre reads.Post
+After-ask_gate-u = lts.After-ask_gate tie.the-claims reads.Pre reads.Post tie.handed_clauses
 
 abbrev Then-is_accepted : Type 0
-Then-is_accepted = lts.Then2 tie.the-claims reads.Pre reads.Post
+Then-is_accepted = lts.Then2 tie.the-claims reads.Pre reads.Post tie.handed_clauses
 
 abbrev l : Start → List ℤ
 l s = s.args.words.now
@@ -64,12 +64,11 @@ module _ (c : Else-not-is_sound) where
 
 pub returns-then-not-is_sound : goal.returns-then-not-is_sound
 returns-then-not-is_sound c =
-    let s = c.before.before.before in
-    let e = replace_unsound (l s) s.args.i (g s) (sym c.is_sound.ensures ∙ c.if-not-is_sound.true) in
-    (e, refused-words (x s) (l s) e refl)
+    let e = replace_unsound (l c.before.before) c.args.i (g c.before.before) (sym c.is_sound.ensures ∙ c.if-not-is_sound.true) in
+    record { value = e; words_after = refused-words (x c.before.before) (l c.before.before) e refl }
 
 pub judge_taking-v-requires : goal.judge_taking-v-requires
-judge_taking-v-requires c = sound-true c.before
+judge_taking-v-requires c = sound-true c
 
 -- the verdict on the gate that is there
 module _ (c : After-is_accepted) where
@@ -92,7 +91,7 @@ module _ (c : After-is_accepted) where
   taken e = take-accepted (l b) i (sound-true o) q.judge_taking-v.ensures (answer ∙ e)
 
 pub ask_gate-u-requires : goal.ask_gate-u-requires
-ask_gate-u-requires c = sound-true (o c.before.before)
+ask_gate-u-requires c = sound-true (o c.before)
 
 -- and on the new one
 module _ (c : After-is_accepted-then-is_accepted) where
@@ -112,37 +111,30 @@ module _ (c : After-is_accepted-then-is_accepted) where
   there = taken k t.if-is_accepted.true
 
 pub take_out-requires : goal.take_out-requires
-take_out-requires c = let n = c.before.before in (sound-true (o (k n)), ((there n).inside, (there n).able))
+take_out-requires c = (sound-true (o (k c.before.before)), ((there c.before.before).inside, (there c.before.before).able))
 
 pub put_in-requires : goal.put_in-requires
 put_in-requires c =
-    let z = c.before.before in
-    let y = z.before.before in
-    let n = y.before in
-    let w = sound-words (o (k n)) in
-    let old = gate_in (l (b (k n))) (i (k n)) in
-    let kept = within-counted (sound-within w) false old (bits-counted w (i (k n)) old (takes_is (l (b (k n))) (i (k n)) (there n).able).asked) in (
-      subst (λ (m : List ℤ). Within m 2000) (sym z.take_out.ensures) (within_more kept (omega arith)),
+    let w = sound-words (o (k c.before.before.before.before.before)) in
+    let old = gate_in (l (b (k c.before.before.before.before.before))) (i (k c.before.before.before.before.before)) in
+    let kept = within-counted (sound-within w) false old (bits-counted w (i (k c.before.before.before.before.before)) old (takes_is (l (b (k c.before.before.before.before.before))) (i (k c.before.before.before.before.before)) (there c.before.before.before.before.before).able).asked) in (
+      subst (λ (m : List ℤ). Within m 2000) (sym c.take_out.ensures) (within_more kept (omega arith)),
       (
-        omega (arith, place_in w (i (k n)) (there n).inside, ap length z.take_out.ensures, length-counted false (l (b (k n))) old),
-        bits-counted w (i (k n)) (g (b (k n))) (sym (ap accepted (u n).ask_gate-u.ensures) ∙ sym n.is_accepted-then-is_accepted.ensures ∙ y.if-is_accepted-2.true),
+        omega (arith, place_in w (i (k c.before.before.before.before.before)) (there c.before.before.before.before.before).inside, ap length c.take_out.ensures, length-counted false (l (b (k c.before.before.before.before.before))) old),
+        bits-counted w (i (k c.before.before.before.before.before)) (g (b (k c.before.before.before.before.before))) (sym (ap accepted (u c.before.before.before.before.before).ask_gate-u.ensures) ∙ sym c.is_accepted-then-is_accepted.ensures ∙ c.if-is_accepted-2.true),
       ),
     )
 
 pub returns-then-is_accepted-2 : goal.returns-then-is_accepted-2
 returns-then-is_accepted-2 c =
-    let p = c.before in
-    let z = p.before.before.before in
-    let y = z.before.before in
-    let n = y.before in
-    let g = g (b (k n)) in
-    (verdict_is n, done_words (x (b (k n))) (l (b (k n))) (verdict_is n) (sym n.is_accepted-then-is_accepted.ensures ∙ y.if-is_accepted-2.true) (p.put_in.ensures ∙ ap (λ (m : List ℤ). put (counted true m g) (i (k n)) g) z.take_out.ensures))
+    let g = g (b (k c.before.before.before.before.before.before.before)) in
+    record { value = verdict_is c.before.before.before.before.before.before.before; words_after = done_words (x (b (k c.before.before.before.before.before.before.before))) (l (b (k c.before.before.before.before.before.before.before))) (verdict_is c.before.before.before.before.before.before.before) (sym c.is_accepted-then-is_accepted.ensures ∙ c.if-is_accepted-2.true) (c.put_in.ensures ∙ ap (λ (m : List ℤ). put (counted true m g) (i (k c.before.before.before.before.before.before.before)) g) c.take_out.ensures) }
 
 pub returns-then-is_accepted : goal.returns-then-is_accepted
-returns-then-is_accepted c = let n = c.before in (verdict_is n, refused-words (x (b (k n))) (l (b (k n))) (verdict_is n) (sym n.is_accepted-then-is_accepted.ensures ∙ c.if-is_accepted-2.false))
+returns-then-is_accepted c =
+    record { value = verdict_is c.before; words_after = refused-words (x (b (k c.before))) (l (b (k c.before))) (verdict_is c.before) (sym c.is_accepted-then-is_accepted.ensures ∙ c.if-is_accepted-2.false) }
 
 pub returns : goal.returns
 returns c =
-    let k = c.before in
-    let e = replace_refused (l (b k)) (i k) (g (b k)) (q k).judge_taking-v.ensures (answer k ∙ c.if-is_accepted.false) in
-    (e, refused-words (x (b k)) (l (b k)) e (answer k ∙ c.if-is_accepted.false))
+    let e = replace_refused (l (b c.before)) (i c.before) (g (b c.before)) (q c.before).judge_taking-v.ensures (answer c.before ∙ c.if-is_accepted.false) in
+    record { value = e; words_after = refused-words (x (b c.before)) (l (b c.before)) e (answer c.before ∙ c.if-is_accepted.false) }

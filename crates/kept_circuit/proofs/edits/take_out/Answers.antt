@@ -34,24 +34,20 @@ module _ (s : Start) where
   inside = place_in sound-words s.args.i s.requires.1.0
 
 pub read_gate-g-requires : goal.read_gate-g-requires
-read_gate-g-requires c = (inside c.before, (taken c.before).words_up)
+read_gate-g-requires c = (inside c, (taken c).words_up)
 
 pub count_gate-requires : goal.count_gate-requires
-count_gate-requires c =
-    let r = c.before in
-    let s = r.before.before in (
-      within_more (sound-within (sound-words s)) (omega arith),
-      ap (λ (g : Gate). every (λ (b : ℕ). ltb b max_bits) (bits g)) r.read_gate-g.ensures ∙ bits-counted (sound-words s) s.args.i (gate_in (l s) s.args.i) (taken s).asked,
-    )
+count_gate-requires c = (
+  within_more (sound-within (sound-words c.before.before)) (omega arith),
+  ap (λ (g : Gate). every (λ (b : ℕ). ltb b max_bits) (bits g)) c.read_gate-g.ensures ∙ bits-counted (sound-words c.before.before) c.args.i (gate_in (l c.before.before) c.args.i) (taken c.before.before).asked,
+)
 
 pub returns : goal.returns
 returns c =
-    let k = c.before in
-    let r = k.before.before in
-    k.count_gate.ensures ∙ ap (counted false (l r.before.before)) r.read_gate-g.ensures
+    c.count_gate.ensures ∙ ap (counted false (l c.before.before.before.before)) c.read_gate-g.ensures
 
 pub overflow_mul-i : goal.overflow_mul-i
-overflow_mul-i c = omega (arith, inside c.before)
+overflow_mul-i c = omega (arith, inside c)
 
 pub overflow_add-i : goal.overflow_add-i
-overflow_add-i c = omega (arith, inside c.before)
+overflow_add-i c = omega (arith, inside c)

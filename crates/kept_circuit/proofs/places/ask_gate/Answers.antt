@@ -37,7 +37,7 @@ pub follow-qubits-requires : goal.follow-qubits-requires
 follow-qubits-requires c = (omega (arith, (sound-words c).long), count_is (sound-words c) qubits_place (omega arith))
 
 pub follow-bits-requires : goal.follow-bits-requires
-follow-bits-requires c = let s = c.before in (omega (arith, (sound-words s).long), count_is (sound-words s) bits_place (omega arith))
+follow-bits-requires c = (omega (arith, (sound-words c.before).long), count_is (sound-words c.before) bits_place (omega arith))
 
 pub overflow_cast-qubits : goal.overflow_cast-qubits
 overflow_cast-qubits c = record { fits = omega (arith, c.follow-qubits.ensures, qubits-few c.before.before) }
@@ -47,6 +47,5 @@ overflow_cast-bits c = record { fits = omega (arith, c.follow-bits.ensures, bits
 
 pub returns : goal.returns
 returns c =
-    let f = c.before in
-    let a = f.args in
-    c.judge.ensures ∙ (λ i. first_no (gate_questions (Channel (f.follow-bits.ensures i)) (f.follow-qubits.ensures i) a.i (gate_of a.g)))
+    let a = c.args in
+    c.judge.ensures ∙ (λ i. first_no (gate_questions (Channel (c.follow-bits.ensures i)) (c.follow-qubits.ensures i) a.i (gate_of a.g)))

@@ -20,7 +20,7 @@ pub follow-count-requires : goal.follow-count-requires
 follow-count-requires c = (omega (arith, (sound-words c).long, c.requires.1), count_is (sound-words c) (measures_place + c.args.b) (omega (arith, c.requires.1)))
 
 pub follow-written-requires : goal.follow-written-requires
-follow-written-requires c = let s = c.before in (omega (arith, (sound-words s).long), count_is (sound-words s) written_place (omega arith))
+follow-written-requires c = (omega (arith, (sound-words c.before).long), count_is (sound-words c.before) written_place (omega arith))
 
 pub returns : goal.returns
 returns c =

@@ -55,24 +55,18 @@ tests c =
 
 pub covers_bit-requires : goal.covers_bit-requires
 covers_bit-requires c =
-    let t = c.before in
-    let s = begun t.before.before.before in
-    (s.requires.0, bit-small (g s) (eq-eqb _ _ t.if-g-eq-MEASURE.true) s.requires.1)
+    let s = begun c.before.before.before.before in
+    (s.requires.0, bit-small (g s) (eq-eqb _ _ c.if-g-eq-MEASURE.true) s.requires.1)
 
 pub returns-then-g-eq-MEASURE : goal.returns-then-g-eq-MEASURE
 returns-then-g-eq-MEASURE c =
-    let t = c.before.before in
-    let u = t.before.before in
-    let f = u.before in
-    let s = begun f in
-    covers-yes (l s) (g s) (tests f ∙ u.if-weight-heavy.true) (c.covers_bit.ensures ∙ every-bit (covers_bit (l s)) (g s) (eq-eqb _ _ t.if-g-eq-MEASURE.true))
+    let s = begun c.before.before.before.before.before in
+    covers-yes (l s) (g s) (tests c.before.before.before.before.before ∙ c.if-weight-heavy.true) (c.covers_bit.ensures ∙ every-bit (covers_bit (l s)) (g s) (eq-eqb _ _ c.if-g-eq-MEASURE.true))
 
 pub returns-then-weight-heavy : goal.returns-then-weight-heavy
 returns-then-weight-heavy c =
-    let u = c.before.before in
-    let f = u.before in
-    let s = begun f in
-    covers-yes (l s) (g s) (tests f ∙ u.if-weight-heavy.true) (every-none (covers_bit (l s)) (g s) (ne_eqb _ _ c.if-g-eq-MEASURE.false))
+    let s = begun c.before.before.before in
+    covers-yes (l s) (g s) (tests c.before.before.before ∙ c.if-weight-heavy.true) (every-none (covers_bit (l s)) (g s) (ne_eqb _ _ c.if-g-eq-MEASURE.false))
 
 pub returns : goal.returns
 returns c = let s = begun c.before in covers_no (l s) (g s) (tests c.before ∙ c.if-weight-heavy.false)

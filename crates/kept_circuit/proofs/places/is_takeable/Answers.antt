@@ -66,29 +66,24 @@ read_gate-g-requires c = (inside c.before.before, sym c.are_up_to.ensures ∙ c.
 
 pub covers_gate-requires : goal.covers_gate-requires
 covers_gate-requires c =
-    let k = c.before in
-    ((s k).requires.0, bits-counted (sound-words (s k)) (s k).args.i (gate_of (g k).read_gate-g.result) (answer k ∙ c.if-is_accepted.true))
+    ((s c.before).requires.0, bits-counted (sound-words (s c.before)) (s c.before).args.i (gate_of (g c.before).read_gate-g.result) (answer c.before ∙ c.if-is_accepted.true))
 
 pub returns-then-is_accepted : goal.returns-then-is_accepted
 unfolding takeable
 returns-then-is_accepted c =
-    let t = c.before in
-    let k = t.before in
-    let e = c.covers_gate.ensures ∙ ap (covers (l (s k))) (g k).read_gate-g.ensures in
-    λ i. sym (words_up k) i && (sym (answer_in k ∙ t.if-is_accepted.true) i && e i)
+    let e = c.covers_gate.ensures ∙ ap (covers (l (s c.before.before))) (g c.before.before).read_gate-g.ensures in
+    λ i. sym (words_up c.before.before) i && (sym (answer_in c.before.before ∙ c.if-is_accepted.true) i && e i)
 
 pub returns-else-is_accepted : goal.returns-else-is_accepted
 unfolding takeable
 returns-else-is_accepted c =
-    let k = c.before in
-    λ i. sym (words_up k) i && (sym (answer_in k ∙ c.if-is_accepted.false) i && covers (l (s k)) (gate_in (l (s k)) (s k).args.i))
+    λ i. sym (words_up c.before) i && (sym (answer_in c.before ∙ c.if-is_accepted.false) i && covers (l (s c.before)) (gate_in (l (s c.before)) (s c.before).args.i))
 
 pub returns-else-are_up_to : goal.returns-else-are_up_to
 unfolding takeable
 returns-else-are_up_to c =
-    let b = c.before.before in
     λ i. sym (sym c.are_up_to.ensures ∙ c.if-are_up_to.false) i
-    && (accepted (first_no (ask_gate (l b) b.args.i (gate_in (l b) b.args.i))) && covers (l b) (gate_in (l b) b.args.i))
+    && (accepted (first_no (ask_gate (l c.before.before) c.args.i (gate_in (l c.before.before) c.args.i))) && covers (l c.before.before) (gate_in (l c.before.before) c.args.i))
 
 pub overflow_mul-at : goal.overflow_mul-at
 overflow_mul-at c = omega (arith, inside c)

@@ -44,16 +44,16 @@ pub follow-kind-requires : goal.follow-kind-requires
 follow-kind-requires c = (omega (arith, c.requires.0), (is_first c).0)
 
 pub follow-a-requires : goal.follow-a-requires
-follow-a-requires c = let s = c.before in (inside s 1 (omega arith), (is s 1 (omega arith)).0)
+follow-a-requires c = (inside c.before 1 (omega arith), (is c.before 1 (omega arith)).0)
 
 pub follow-b-requires : goal.follow-b-requires
-follow-b-requires c = let s = c.before.before in (inside s 2 (omega arith), (is s 2 (omega arith)).0)
+follow-b-requires c = (inside c.before.before 2 (omega arith), (is c.before.before 2 (omega arith)).0)
 
 pub follow-c-requires : goal.follow-c-requires
-follow-c-requires c = let s = c.before.before.before in (inside s 3 (omega arith), (is s 3 (omega arith)).0)
+follow-c-requires c = (inside c.before.before.before 3 (omega arith), (is c.before.before.before 3 (omega arith)).0)
 
 pub follow-k-requires : goal.follow-k-requires
-follow-k-requires c = let s = c.before.before.before.before in (inside s 4 (omega arith), (is s 4 (omega arith)).0)
+follow-k-requires c = (inside c.before.before.before.before 4 (omega arith), (is c.before.before.before.before 4 (omega arith)).0)
 
 -- as it is read
 small : {x y : ℕ} → x ≡ y → y ≤ max_word → x < 2 ^ 32

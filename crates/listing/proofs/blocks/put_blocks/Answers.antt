@@ -27,7 +27,7 @@ module _ (c : In-loop-left) where
   form : Formed c.args.s.now
   form = formed _ c.requires.0
 
-  walk : Onward c.args.s.now c.loop-left.false c.loop-left.place
+  walk : Onward c.args.s.now c.loop-left.left c.loop-left.place
   walk = c.loop-left.invariant.0
 
   inside : c.loop-left.place + 3 ≤ length c.args.s.now
@@ -38,32 +38,27 @@ follow-place-requires c = let e = c.requires.0 in (header_long _ e, first-index 
 
 pub loop-left-init : goal.loop-left-init
 loop-left-init c =
-    let s = c.before.before.before in
-    let l = s.args.s.now in (
-      subst₂ (Onward l) (sym s.requires.1.1.1) (sym c.follow-place.ensures) (onward_begin l s.requires.0),
-      left_is (λ i. concat_map (block_lines s.args.m s.args.w) (chain (channels (dim_at l)) l (sym s.requires.1.1.1 i) (sym c.follow-place.ensures i))) (left-all _ _),
+    let l = c.args.s.now in (
+      subst₂ (Onward l) (sym c.requires.1.1.1) (sym c.follow-place.ensures) (onward_begin l c.requires.0),
+      left_is (λ i. concat_map (block_lines c.args.m c.args.w) (chain (channels (dim_at l)) l (sym c.requires.1.1.1 i) (sym c.follow-place.ensures i))) (left-all _ _),
     )
 
 pub put_block-p-requires : goal.put_block-p-requires
 put_block-p-requires c =
-    let n = c.before in
-    let l = n.before in
-    let s = l.before.before.before in
-    let ws = s.args.s.now in
-    let at = l.loop-left.place in
-    let h = n.loop-left-test.true in (
-      subst (λ (w : ℕ). w ≤ 256) (sym s.requires.1.0) (form n).head.room.width,
+    let ws = c.args.s.now in
+    let at = c.loop-left.place in
+    let h = c.loop-left-test.true in (
+      subst (λ (w : ℕ). w ≤ 256) (sym c.requires.1.0) (form c.before).head.room.width,
       (
-        subst (λ (m : ℕ). store_ok ws at m ≡ true) (sym s.requires.1.1.0) (on_store (walk n) h),
-        entries_held ws l.loop-left.false at s.args.w (walk n) h s.requires.1.0,
+        subst (λ (m : ℕ). store_ok ws at m ≡ true) (sym c.requires.1.1.0) (on_store (walk c.before) h),
+        entries_held ws c.loop-left.left at c.args.w (walk c.before) h c.requires.1.0,
       ),
     )
 
 pub follow-place-requires-in-loop-left : goal.follow-place-requires-in-loop-left
 follow-place-requires-in-loop-left c =
-    let n = c.before.before.before.before.before in
-    let q = inside n in
-    (omega arith, on-index (walk n) n.loop-left-test.true)
+    let q = inside c.before.before.before.before.before in
+    (omega arith, on-index (walk c.before.before.before.before.before) c.loop-left-test.true)
 
 pub overflow_sub-left : goal.overflow_sub-left
 overflow_sub-left c = omega arith
@@ -73,14 +68,11 @@ loop-left-smaller c = omega arith
 
 pub loop-left-preserved : goal.loop-left-preserved
 loop-left-preserved c =
-    let n = c.before.before.before.before.before.before in
-    let l = n.before in
-    let s = l.before.before.before in
-    let ws = s.args.s.now in
-    let h = n.loop-left-test.true in (
-      subst (Onward ws (l.loop-left.false - 1)) (sym c.follow-place-in-loop-left.ensures) (on-next (walk n) h),
-      left_is (ap (λ (k : ℕ). concat_map (block_lines s.args.m s.args.w) (chain (channels (dim_at ws)) ws (l.loop-left.false - 1) k)) (sym c.follow-place-in-loop-left.ensures))
-          (left_less (left_is (ap (concat_map (block_lines s.args.m s.args.w)) (chain_more (channels (dim_at ws)) ws l.loop-left.false l.loop-left.place h)) l.loop-left.invariant.1) c.put_block-p.ensures),
+    let ws = c.args.s.now in
+    let h = c.loop-left-test.true in (
+      subst (Onward ws (c.loop-left.left - 1)) (sym c.follow-place-in-loop-left.ensures) (on-next (walk c.before.before.before.before.before.before) h),
+      left_is (ap (λ (k : ℕ). concat_map (block_lines c.args.m c.args.w) (chain (channels (dim_at ws)) ws (c.loop-left.left - 1) k)) (sym c.follow-place-in-loop-left.ensures))
+          (left_less (left_is (ap (concat_map (block_lines c.args.m c.args.w)) (chain_more (channels (dim_at ws)) ws c.loop-left.left c.loop-left.place h)) c.loop-left.invariant.1) c.put_block-p.ensures),
     )
 
 pub shape_of-out : goal.shape_of-out
@@ -88,6 +80,5 @@ shape_of-out c = c.loop-left.invariant.1.same
 
 pub returns : goal.returns
 returns c =
-    let l = c.before in
-    let a = l.args in
-    left-none (left_is (ap (concat_map (block_lines a.m a.w)) (chain-end (channels (dim_at a.s.now)) a.s.now l.loop-left.false l.loop-left.place c.loop-left-test.false)) l.loop-left.invariant.1)
+    let a = c.args in
+    left-none (left_is (ap (concat_map (block_lines a.m a.w)) (chain-end (channels (dim_at a.s.now)) a.s.now c.loop-left.left c.loop-left.place c.loop-left-test.false)) c.loop-left.invariant.1)

@@ -76,7 +76,7 @@ pub bounds-s-1 : goal.bounds-s-1
 bounds-s-1 c = let h = (head c.before.before).long in omega arith
 
 pub overflow_cast-bits : goal.overflow_cast-bits
-overflow_cast-bits c = let k = c.before.before.before in read (bits-fits c.before) (Casts w32) (cast_ok 64 (word (words k) 1) (head k).bits-1 (record { fits = lit< tt }))
+overflow_cast-bits c = read (bits-fits c.before) (Casts w32) (cast_ok 64 (word (words c.before.before.before) 1) (head c.before.before.before).bits-1 (record { fits = lit< tt }))
 
 pub bounds-s-2 : goal.bounds-s-2
 bounds-s-2 c = let h = (head c.before.before.before).long in omega arith
@@ -86,9 +86,8 @@ overflow_cast-count c = read (count_fits c.before) (Casts w64) (casts_up _ (word
 
 pub overflow_cast-bits-2 : goal.overflow_cast-bits-2
 overflow_cast-bits-2 c =
-    let k = c.before in
-    let l = words (begun k) in
-    let few = read (bits-fits k.before) (λ (z : ℤ). nat_abs z ≤ 64) (up-abs 64 (word l 1) (head (begun k)).bits-1) in
+    let l = words (begun c.before) in
+    let few = read (bits-fits c.before.before) (λ (z : ℤ). nat_abs z ≤ 64) (up-abs 64 (word l 1) (head (begun c.before)).bits-1) in
     record { fits = omega (arith, few) }
 
 pub overflow_mul-dim : goal.overflow_mul-dim
@@ -96,16 +95,12 @@ overflow_mul-dim c = let q = narrow c.before.before.before.before.before in omeg
 
 pub put_blocks-requires : goal.put_blocks-requires
 put_blocks-requires c =
-    let k = c.before.before.before.before.before in
-    ((begun k).requires, (ap (λ (z : ℤ). nat_abs z * nat_abs z) (dim_is k), (ap nat_abs (bits_is k), ap nat_abs (count_is k))))
+    ((begun c.before.before.before.before.before).requires, (ap (λ (z : ℤ). nat_abs z * nat_abs z) (dim_is c.before.before.before.before.before), (ap nat_abs (bits_is c.before.before.before.before.before), ap nat_abs (count_is c.before.before.before.before.before))))
 
 pub returns : goal.returns
 returns c =
-    let b = c.before.before.before in
-    let a = b.before.before.before.before in
-    let k = a.before.before in
-    let d = dim_is k in
-    let m = bits_is k in
-    let n = count_is k in
-    text (λ i. first_line (nat_abs (d i)) (nat_abs (m i)) (nat_abs (n i)) ++ concat_map (block_lines (nat_abs (m i)) (nat_abs (d i) * nat_abs (d i))) (read_back (words (begun k))))
-    (then a.put_first-a.ensures b.put_blocks.ensures)
+    let d = dim_is c.before.before.before.before.before.before.before.before.before in
+    let m = bits_is c.before.before.before.before.before.before.before.before.before in
+    let n = count_is c.before.before.before.before.before.before.before.before.before in
+    text (λ i. first_line (nat_abs (d i)) (nat_abs (m i)) (nat_abs (n i)) ++ concat_map (block_lines (nat_abs (m i)) (nat_abs (d i) * nat_abs (d i))) (read_back (words (begun c.before.before.before.before.before.before.before.before.before))))
+    (then c.put_first-a.ensures c.put_blocks.ensures)

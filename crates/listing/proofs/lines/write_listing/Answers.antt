@@ -23,14 +23,11 @@ right c = sym c.well_formed-2.ensures ∙ c.if-not-well_formed.false
 
 pub returns-then-not-well_formed : goal.returns-then-not-well_formed
 returns-then-not-well_formed c =
-    let k = c.before.before in
-    (text (unlisted (words k) (sym k.well_formed-2.ensures ∙ c.if-not-well_formed.true)) (none _)).is
+    (text (unlisted (words c.before) (sym c.well_formed-2.ensures ∙ c.if-not-well_formed.true)) (none _)).is
 
 pub put_channel-requires : goal.put_channel-requires
 put_channel-requires c = right c.before
 
 pub returns : goal.returns
 returns c =
-    let p = c.before.before.before in
-    let e = p.before.before in
-    (text (all_listed (words e.before) (right e)) p.put_channel.ensures).is
+    (text (all_listed (words c.before.before.before.before.before) (right c.before.before.before.before.before)) c.put_channel.ensures).is

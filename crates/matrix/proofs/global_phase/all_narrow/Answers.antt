@@ -30,15 +30,12 @@ overflow_mul-i c = omega arith
 
 pub read_cell-v-requires : goal.read_cell-v-requires
 read_cell-v-requires c =
-    let s = c.before.before in
     let i = c.loop-i.i in
-    (omega arith, (and_split (exponent_at s.args.s.now (i * cell_size)) (well_formed (entry_of s.args.s.now i)) (all-at s.args.n _ s.requires.1 i c.loop-i-test.true)).0)
+    (omega arith, (and_split (exponent_at c.args.s.now (i * cell_size)) (well_formed (entry_of c.args.s.now i)) (all-at c.args.n _ c.requires.1 i c.loop-i-test.true)).0)
 
 pub returns-then-not-is_narrow : goal.returns-then-not-is_narrow
 returns-then-not-is_narrow c =
-    let a = c.before.before in
-    let l = a.before.before in
-    sym (all_no l.args.n l.loop-i.i _ a.loop-i-test.true (sym (narrow-is c.before) ∙ c.if-not-is_narrow.true))
+    sym (all_no c.args.n c.loop-i.i _ c.loop-i-test.true (sym (narrow-is c.before) ∙ c.if-not-is_narrow.true))
 
 pub overflow_add-i : goal.overflow_add-i
 overflow_add-i c = omega arith
@@ -48,12 +45,9 @@ loop-i-smaller c = omega arith
 
 pub loop-i-preserved : goal.loop-i-preserved
 loop-i-preserved c =
-    let a = c.before.before in
-    let l = a.before.before in
-    (omega arith, all-step l.loop-i.i _ l.loop-i.invariant.1 (sym (narrow-is c.before) ∙ c.if-not-is_narrow.false))
+    (omega arith, all-step c.loop-i.i _ c.loop-i.invariant.1 (sym (narrow-is c.before) ∙ c.if-not-is_narrow.false))
 
 pub returns : goal.returns
 returns c =
-    let l = c.before in
-    let e : l.loop-i.i ≡ l.args.n = omega arith in
-    sym (ap (λ (n : ℕ). all_below n (λ (k : ℕ). narrow (entry_of l.args.s.now k))) (sym e) ∙ l.loop-i.invariant.1)
+    let e : c.loop-i.i ≡ c.args.n = omega arith in
+    sym (ap (λ (n : ℕ). all_below n (λ (k : ℕ). narrow (entry_of c.args.s.now k))) (sym e) ∙ c.loop-i.invariant.1)

@@ -33,41 +33,41 @@ Else-not-narrow = lts.Else3 tie.the-claims reads.Pre reads.Post
 -- the questions of the left matrix, and of the right one at a dim
 module _ (s : Start) where
   abbrev left_formed : Bool
-  left_formed = well_formed_matrix s.args.left-dim s.args.left.now
+  left_formed = well_formed_matrix s.args.left_dim s.args.left.now
 
   abbrev right_formed : ℕ → Bool
   right_formed k = well_formed_matrix k s.args.right.now
 
   abbrev left_narrow : Bool
-  left_narrow = narrow_matrix s.args.left-dim s.args.left.now
+  left_narrow = narrow_matrix s.args.left_dim s.args.left.now
 
   abbrev right_narrow : Bool
-  right_narrow = narrow_matrix s.args.left-dim s.args.right.now
+  right_narrow = narrow_matrix s.args.left_dim s.args.right.now
 
 -- what the tests before each place say
-both_is : (t : After-is_matrix-2) → (t.is_matrix.result && t.is_matrix-2.result) ≡ (left_formed t.before.before && right_formed t.before.before t.args.right-dim)
+both_is : (t : After-is_matrix-2) → (t.is_matrix.result && t.is_matrix-2.result) ≡ (left_formed t.before.before && right_formed t.before.before t.args.right_dim)
 both_is t = λ i. t.is_matrix.ensures i && t.is_matrix-2.ensures i
 
-passed : (t : Else-not-formed) → (left_formed t.before.before.before && right_formed t.before.before.before t.args.right-dim) ≡ true
+passed : (t : Else-not-formed) → (left_formed t.before.before.before && right_formed t.before.before.before t.args.right_dim) ≡ true
 passed t = sym (both_is t.before) ∙ t.if-not-formed.false
 
 module _ (e : Else-left_dim-right_dim) where
   abbrev start : Start
   start = e.before.before.before.before
 
-  parts : (left_formed start ≡ true) × (right_formed start start.args.right-dim ≡ true)
-  parts = and_split (left_formed start) (right_formed start start.args.right-dim) (passed e.before)
+  parts : (left_formed start ≡ true) × (right_formed start start.args.right_dim ≡ true)
+  parts = and_split (left_formed start) (right_formed start start.args.right_dim) (passed e.before)
 
-  right_is : right_formed start start.args.left-dim ≡ true
+  right_is : right_formed start start.args.left_dim ≡ true
   right_is = ap (right_formed start) e.if-left_dim-right_dim.false ∙ parts.1
 
-  left-formed : Formed start.args.left-dim start.args.left.now
+  left-formed : Formed start.args.left_dim start.args.left.now
   left-formed = formed parts.0
 
-  right-formed : Formed start.args.left-dim start.args.right.now
+  right-formed : Formed start.args.left_dim start.args.right.now
   right-formed = formed right_is
 
-  passed_same : (left_formed start && right_formed start start.args.left-dim) ≡ true
+  passed_same : (left_formed start && right_formed start start.args.left_dim) ≡ true
   passed_same = λ i. parts.0 i && right_is i
 
 narrow-is : (w : After-all_narrow-2) → (w.all_narrow.result && w.all_narrow-2.result) ≡ (left_narrow (start w.before.before) && right_narrow (start w.before.before))
@@ -78,18 +78,16 @@ narrow_both t = let s = start t.before.before.before in and_split (left_narrow s
 
 pub returns-then-not-formed : goal.returns-then-not-formed
 returns-then-not-formed c =
-    let t = c.before.before in
-    let s = t.args in
-    c.refused_phase.ensures ∙ sym (replied s.left-dim s.left.now s.right-dim s.right.now (sym (both_is t) ∙ c.if-not-formed.true) refl refl)
+    let s = c.args in
+    c.refused_phase.ensures ∙ sym (replied s.left_dim s.left.now s.right_dim s.right.now (sym (both_is c.before.before) ∙ c.if-not-formed.true) refl refl)
 
 pub returns-then-left_dim-right_dim : goal.returns-then-left_dim-right_dim
 returns-then-left_dim-right_dim c =
-    let t = c.before in
-    let s = t.args in
-    c.answered.ensures ∙ sym (replied s.left-dim s.left.now s.right-dim s.right.now (passed t.before) (ne_eqb s.left-dim s.right-dim t.if-left_dim-right_dim.true) refl)
+    let s = c.args in
+    c.answered.ensures ∙ sym (replied s.left_dim s.left.now s.right_dim s.right.now (passed c.before.before) (ne_eqb s.left_dim s.right_dim c.if-left_dim-right_dim.true) refl)
 
 pub overflow_mul-n : goal.overflow_mul-n
-overflow_mul-n c = let s = c.args in omega (arith, square_small s.left-dim (left-formed c).dim)
+overflow_mul-n c = let s = c.args in omega (arith, square_small s.left_dim (left-formed c).dim)
 
 pub all_narrow-requires : goal.all_narrow-requires
 all_narrow-requires c = (omega (arith, (left-formed c).long), (left-formed c).entries)
@@ -99,20 +97,15 @@ all_narrow-requires-2 c = (omega (arith, (right-formed c.before).long), (right-f
 
 pub returns-then-not-narrow : goal.returns-then-not-narrow
 returns-then-not-narrow c =
-    let w = c.before.before in
-    let e = w.before.before in
-    let s = e.args in
-    c.refused_phase-then-not-narrow.ensures ∙ sym (ap (λ (k : ℕ). phase_answer s.left-dim s.left.now k s.right.now) (sym e.if-left_dim-right_dim.false)
-    ∙ replied s.left-dim s.left.now s.left-dim s.right.now (passed_same e) (eq-eqb s.left-dim s.left-dim refl) (sym (narrow-is w) ∙ c.if-not-narrow.true))
+    let s = c.args in
+    c.refused_phase-then-not-narrow.ensures ∙ sym (ap (λ (k : ℕ). phase_answer s.left_dim s.left.now k s.right.now) (sym c.if-left_dim-right_dim.false)
+    ∙ replied s.left_dim s.left.now s.left_dim s.right.now (passed_same c.before.before.before.before) (eq-eqb s.left_dim s.left_dim refl) (sym (narrow-is c.before.before) ∙ c.if-not-narrow.true))
 
 pub in_phase-requires : goal.in_phase-requires
-in_phase-requires c = let w = c.before in let p = narrow_both c in (formed_operands (left-formed w.before.before) p.0, formed_operands (right-formed w.before.before) p.1)
+in_phase-requires c = let p = narrow_both c in (formed_operands (left-formed c.before.before.before) p.0, formed_operands (right-formed c.before.before.before) p.1)
 
 pub returns : goal.returns
 returns c =
-    let i = c.before in
-    let t = i.before in
-    let e = t.before.before.before in
-    let s = e.args in
-    c.answered-2.ensures ∙ ap answered i.in_phase.ensures ∙ sym (ap (λ (k : ℕ). phase_answer s.left-dim s.left.now k s.right.now) (sym e.if-left_dim-right_dim.false)
-    ∙ replied s.left-dim s.left.now s.left-dim s.right.now (passed_same e) (eq-eqb s.left-dim s.left-dim refl) (sym (narrow-is t.before) ∙ t.if-not-narrow.false))
+    let s = c.args in
+    c.answered-2.ensures ∙ ap answered c.in_phase.ensures ∙ sym (ap (λ (k : ℕ). phase_answer s.left_dim s.left.now k s.right.now) (sym c.if-left_dim-right_dim.false)
+    ∙ replied s.left_dim s.left.now s.left_dim s.right.now (passed_same c.before.before.before.before.before) (eq-eqb s.left_dim s.left_dim refl) (sym (narrow-is c.before.before.before) ∙ c.if-not-narrow.false))

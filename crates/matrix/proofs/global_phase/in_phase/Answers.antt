@@ -39,18 +39,16 @@ pub in_phase_at-requires : goal.in_phase_at-requires
 in_phase_at-requires c = (c.if-i-n.true, c.requires)
 
 pub is_zero-requires : goal.is_zero-requires
-is_zero-requires c = let s = c.before.before in omega (arith, s.requires.1.room)
+is_zero-requires c = omega (arith, c.requires.1.room)
 
 pub returns-then-i-n : goal.returns-then-i-n
 returns-then-i-n c =
-    let i = c.before.before in
-    let n = i.args.n in
-    c.in_phase_at.ensures ∙ ap (in_phase_at n (x i) (y i)) (found i) ∙ sym (phase-pivot n (x i) (y i) (subst (λ (k : ℕ). k < n) (found i) c.if-i-n.true))
+    let n = c.args.n in
+    c.in_phase_at.ensures ∙ ap (in_phase_at n (x c.before.before) (y c.before.before)) (found c.before.before) ∙ sym (phase-pivot n (x c.before.before) (y c.before.before) (subst (λ (k : ℕ). k < n) (found c.before.before) c.if-i-n.true))
 
 pub returns-else-i-n : goal.returns-else-i-n
 returns-else-i-n c =
-    let i = c.before.before in
-    let s = i.args in
+    let s = c.args in
     c.is_zero.ensures
     ∙ (λ t. all_below s.n (λ (k : ℕ). zero_at s.right.now (zero-add (k * cell_size) t)))
-    ∙ sym (phase-none s.n (x i) (y i) (subst (λ (k : ℕ). s.n ≤ k) (found i) c.if-i-n.false))
+    ∙ sym (phase-none s.n (x c.before.before) (y c.before.before) (subst (λ (k : ℕ). s.n ≤ k) (found c.before.before) c.if-i-n.false))

@@ -26,10 +26,10 @@ After-ratios_same = lts.After-ratios_same tie.the-claims reads.Pre reads.Post
 -- the pivot's two numbers
 module _ (r : After-read_cell-b) where
   a-operand : Operand (value r.read_cell-a.result)
-  a-operand = let s = r.before.before in subst (λ (v : Scalar). Operand (value v)) (sym r.read_cell-a.ensures) (s.requires.1.0.operand s.args.i s.requires.0)
+  a-operand = subst (λ (v : Scalar). Operand (value v)) (sym r.read_cell-a.ensures) (r.requires.1.0.operand r.args.i r.requires.0)
 
   b-operand : Operand (value r.read_cell-b.result)
-  b-operand = let s = r.before.before in subst (λ (v : Scalar). Operand (value v)) (sym r.read_cell-b.ensures) (s.requires.1.1.operand s.args.i s.requires.0)
+  b-operand = subst (λ (v : Scalar). Operand (value v)) (sym r.read_cell-b.ensures) (r.requires.1.1.operand r.args.i r.requires.0)
 
   abbrev left : ℕ → Exact
   left = entry_of r.args.left.now
@@ -45,17 +45,13 @@ module _ (r : After-read_cell-b) where
 
 moduli-is : (c : After-equals) → c.equals.result ≡ equal_modulus (left c.before.before.before (pivot c.before.before.before)) (right c.before.before.before (pivot c.before.before.before))
 moduli-is c =
-    let q = c.before in
-    let p = q.before in
-    let r = p.before in
     c.equals.ensures
-    ∙ (λ i. equal (value (p.squared_modulus-p.ensures i)) (value (q.squared_modulus-q.ensures i)))
-    ∙ (λ i. equal_modulus (value (r.read_cell-a.ensures i)) (value (r.read_cell-b.ensures i)))
+    ∙ (λ i. equal (value (c.squared_modulus-p.ensures i)) (value (c.squared_modulus-q.ensures i)))
+    ∙ (λ i. equal_modulus (value (c.read_cell-a.ensures i)) (value (c.read_cell-b.ensures i)))
 
 ratios-are : (c : After-ratios_same) → c.ratios_same.result ≡ ratios c.before.before.before.before.before
 ratios-are c =
-    let r = c.before.before.before.before.before in
-    c.ratios_same.ensures ∙ (λ i. equal_ratios r.args.n (left r) (right r) (value (r.read_cell-a.ensures i)) (value (r.read_cell-b.ensures i)))
+    c.ratios_same.ensures ∙ (λ i. equal_ratios c.args.n (left c.before.before.before.before.before) (right c.before.before.before.before.before) (value (c.read_cell-a.ensures i)) (value (c.read_cell-b.ensures i)))
 
 pub overflow_mul-i : goal.overflow_mul-i
 overflow_mul-i c = omega (arith, c.requires.1.0.room)
@@ -67,7 +63,7 @@ pub overflow_mul-i-2 : goal.overflow_mul-i-2
 overflow_mul-i-2 c = omega (arith, c.requires.1.1.room)
 
 pub read_cell-b-requires : goal.read_cell-b-requires
-read_cell-b-requires c = let s = c.before in (omega (arith, s.requires.1.1.room), s.requires.1.1.exponent s.args.i s.requires.0)
+read_cell-b-requires c = (omega (arith, c.requires.1.1.room), c.requires.1.1.exponent c.args.i c.requires.0)
 
 pub squared_modulus-p-requires : goal.squared_modulus-p-requires
 squared_modulus-p-requires c = a-operand c
@@ -80,10 +76,8 @@ returns-then-not-equals c = sym (ap (λ (b : Bool). b && ratios c.before.before.
 
 pub ratios_same-requires : goal.ratios_same-requires
 ratios_same-requires c =
-    let r = c.before.before.before.before in
-    (r.requires.1, (a-operand r, b-operand r))
+    (c.requires.1, (a-operand c.before.before.before.before, b-operand c.before.before.before.before))
 
 pub returns : goal.returns
 returns c =
-    let w = c.before.before in
-    ratios-are c ∙ sym (ap (λ (b : Bool). b && ratios w.before.before.before) (sym (moduli-is w) ∙ c.if-not-equals.false))
+    ratios-are c ∙ sym (ap (λ (b : Bool). b && ratios c.before.before.before.before.before) (sym (moduli-is c.before.before) ∙ c.if-not-equals.false))

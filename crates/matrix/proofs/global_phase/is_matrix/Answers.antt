@@ -46,6 +46,5 @@ all_well_formed-requires c = omega (arith, c.if-s-d.false)
 
 pub returns : goal.returns
 returns c =
-    let w = c.before in
-    let s = w.args in
-    c.all_well_formed.ensures ∙ sym (λ i. is-dim w.before i && (eq-eqb (length s.s.now) (s.d * s.d * cell_size) w.if-s-d.false i && all_below (s.d * s.d) (λ (i : ℕ). well_formed_at s.s.now (i * cell_size))))
+    let s = c.args in
+    c.all_well_formed.ensures ∙ sym (λ i. is-dim c.before.before i && (eq-eqb (length s.s.now) (s.d * s.d * cell_size) c.if-s-d.false i && all_below (s.d * s.d) (λ (i : ℕ). well_formed_at s.s.now (i * cell_size))))

@@ -35,51 +35,37 @@ equal_is : (c : After-equals)
     let j = t.loop-j.j in
     c.equals.result ≡ equal (entry_of s.left.now j · value s.b) (entry_of s.right.now j · value s.a))
 equal_is c =
-    let q = c.before in
-    let p = q.before in
-    let y = p.before in
-    let x = y.before in
-    let s = x.args in
+    let s = c.args in
     c.equals.ensures
-    ∙ (λ i. equal (value (p.times-p.ensures i)) (value (q.times-q.ensures i)))
-    ∙ (λ i. equal (value (x.read_cell-x.ensures i) · value s.b) (value (y.read_cell-y.ensures i) · value s.a))
+    ∙ (λ i. equal (value (c.times-p.ensures i)) (value (c.times-q.ensures i)))
+    ∙ (λ i. equal (value (c.read_cell-x.ensures i) · value s.b) (value (c.read_cell-y.ensures i) · value s.a))
 
 pub overflow_mul-j : goal.overflow_mul-j
-overflow_mul-j c = let s = c.before.before in omega (arith, s.requires.0.0.room)
+overflow_mul-j c = omega (arith, c.requires.0.0.room)
 
 pub read_cell-x-requires : goal.read_cell-x-requires
 read_cell-x-requires c =
-    let s = c.before.before in
-    (omega (arith, s.requires.0.0.room), s.requires.0.0.exponent c.loop-j.j c.loop-j-test.true)
+    (omega (arith, c.requires.0.0.room), c.requires.0.0.exponent c.loop-j.j c.loop-j-test.true)
 
 pub overflow_mul-j-in-loop-j : goal.overflow_mul-j-in-loop-j
-overflow_mul-j-in-loop-j c = let s = c.before.before.before in omega (arith, s.requires.0.0.room)
+overflow_mul-j-in-loop-j c = omega (arith, c.requires.0.0.room)
 
 pub read_cell-y-requires : goal.read_cell-y-requires
 read_cell-y-requires c =
-    let t = c.before in
-    let s = t.before.before in
-    (omega (arith, s.requires.0.1.room), s.requires.0.1.exponent t.loop-j.j t.loop-j-test.true)
+    (omega (arith, c.requires.0.1.room), c.requires.0.1.exponent c.loop-j.j c.loop-j-test.true)
 
 pub times-p-requires : goal.times-p-requires
 times-p-requires c =
-    let r = c.before in
-    let t = r.before in
-    let s = t.before.before in
-    (subst (λ (v : Scalar). Operand (value v)) (sym r.read_cell-x.ensures) (s.requires.0.0.operand t.loop-j.j t.loop-j-test.true), s.requires.1.1)
+    (subst (λ (v : Scalar). Operand (value v)) (sym c.read_cell-x.ensures) (c.requires.0.0.operand c.loop-j.j c.loop-j-test.true), c.requires.1.1)
 
 pub times-q-requires : goal.times-q-requires
 times-q-requires c =
-    let y = c.before in
-    let t = y.before.before in
-    let s = t.before.before in
-    (subst (λ (v : Scalar). Operand (value v)) (sym y.read_cell-y.ensures) (s.requires.0.1.operand t.loop-j.j t.loop-j-test.true), s.requires.1.0)
+    (subst (λ (v : Scalar). Operand (value v)) (sym c.read_cell-y.ensures) (c.requires.0.1.operand c.loop-j.j c.loop-j-test.true), c.requires.1.0)
 
 pub returns-then-not-equals : goal.returns-then-not-equals
 returns-then-not-equals c =
     let t = turn c.before in
-    let l = t.before in
-    sym (all_no l.args.n l.loop-j.j _ t.loop-j-test.true (sym (equal_is c.before) ∙ c.if-not-equals.true))
+    sym (all_no t.args.n t.loop-j.j _ t.loop-j-test.true (sym (equal_is c.before) ∙ c.if-not-equals.true))
 
 pub overflow_add-j : goal.overflow_add-j
 overflow_add-j c = omega arith
@@ -94,7 +80,6 @@ loop-j-preserved c =
 
 pub returns : goal.returns
 returns c =
-    let l = c.before in
-    let s = l.args in
-    let e : l.loop-j.j ≡ s.n = omega arith in
-    sym (ap (λ (n : ℕ). equal_ratios n (entry_of s.left.now) (entry_of s.right.now) (value s.a) (value s.b)) (sym e) ∙ l.loop-j.invariant.1)
+    let s = c.args in
+    let e : c.loop-j.j ≡ s.n = omega arith in
+    sym (ap (λ (n : ℕ). equal_ratios n (entry_of s.left.now) (entry_of s.right.now) (value s.a) (value s.b)) (sym e) ∙ c.loop-j.invariant.1)

@@ -19,7 +19,7 @@ conj-is : (c : After-conj-c) → c.conj-c.result.value ≡ scalar_of (conj (valu
 conj-is c = ap (λ (a : Answer). a.value) c.conj-c.ensures ∙ conj-value c.requires
 
 pub times-requires : goal.times-requires
-times-requires c = let s = c.before.before in (s.requires, subst (λ (v : Scalar). Operand (value v)) (sym (conj-is c.before)) (conj-operand s.requires))
+times-requires c = (c.requires, subst (λ (v : Scalar). Operand (value v)) (sym (conj-is c.before)) (conj-operand c.requires))
 
 pub returns : goal.returns
 returns c = c.times.ensures ∙ ap (λ (v : Scalar). scalar_of (value c.args.x · value v)) (conj-is c.before.before)

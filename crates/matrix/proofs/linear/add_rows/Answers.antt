@@ -42,23 +42,19 @@ module _ (t : In-loop-c) where
   right = cut (kept t.loop-c.invariant s.args.q (s.args.d * cell_size) s.requires.1.apart) cell_size t.loop-c.c (block_in_lem t.loop-c-test.true cell_size)
 
 pub combined_entry-v-requires : goal.combined_entry-v-requires
-combined_entry-v-requires c =
-    let t = c.before in (
-      ((s t).requires.0.scale, factor_same (left t) ((s t).requires.0.factor t.loop-c.c t.loop-c-test.true)),
-      ((s t).requires.1.scale, factor_same (right t) ((s t).requires.1.factor t.loop-c.c t.loop-c-test.true)),
-    )
+combined_entry-v-requires c = (
+  ((s c).requires.0.scale, factor_same (left c) ((s c).requires.0.factor c.loop-c.c c.loop-c-test.true)),
+  ((s c).requires.1.scale, factor_same (right c) ((s c).requires.1.factor c.loop-c.c c.loop-c-test.true)),
+)
 
 pub write_cell-requires : goal.write_cell-requires
-write_cell-requires c = let t = c.before.before.before in omega (arith, (s t).requires.0.to_room, t.loop-c-test.true, long t.loop-c.invariant)
+write_cell-requires c = omega (arith, (s c.before.before).requires.0.to_room, c.loop-c-test.true, long c.loop-c.invariant)
 
 pub loop-c-preserved : goal.loop-c-preserved
 loop-c-preserved c =
-    let w = c.before in
-    let v = w.before.before in
-    let t = v.before.before in
-    let a = (s t).args in
-    again t.loop-c.invariant t.loop-c-test.true w.write_cell.ensures
-    (ap cell_words (v.combined_entry-v.ensures ∙ (λ i. exact.◌⊕◌ (exact.◌⊗◌ (value a.x) (cell_same (left t) i)) (exact.◌⊗◌ (value a.y) (cell_same (right t) i)))))
+    let a = (s c.before.before.before.before).args in
+    again c.loop-c.invariant c.loop-c-test.true c.write_cell.ensures
+    (ap cell_words (c.combined_entry-v.ensures ∙ (λ i. exact.◌⊕◌ (exact.◌⊗◌ (value a.x) (cell_same (left c.before.before.before.before) i)) (exact.◌⊗◌ (value a.y) (cell_same (right c.before.before.before.before) i)))))
 
 pub returns : goal.returns
 returns c = done c.loop-c.invariant c.loop-c-test.false
@@ -76,10 +72,10 @@ pub overflow_add-b : goal.overflow_add-b
 overflow_add-b c = omega (arith, q_in c)
 
 pub overflow_mul-at : goal.overflow_mul-at
-overflow_mul-at c = let t = c.before.before in omega (arith, (s t).requires.0.to_room, t.loop-c-test.true)
+overflow_mul-at c = omega (arith, (s c.before).requires.0.to_room, c.loop-c-test.true)
 
 pub overflow_add-at : goal.overflow_add-at
-overflow_add-at c = let t = c.before.before in omega (arith, (s t).requires.0.to_room, t.loop-c-test.true)
+overflow_add-at c = omega (arith, (s c.before).requires.0.to_room, c.loop-c-test.true)
 
 pub overflow_add-c : goal.overflow_add-c
 overflow_add-c c = omega arith

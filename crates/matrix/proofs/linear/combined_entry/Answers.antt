@@ -30,38 +30,24 @@ q s = cell_at s.args.buf.now s.args.q
 
 pub returns-then-zero_at : goal.returns-then-zero_at
 returns-then-zero_at c =
-    let t = c.before in
-    let z = t.before in
-    let s = z.before in
-    c.scaled_entry.ensures ∙ sym (zero-first (x s) (p s) (y s) (q s) (by_zero (x s) (p s) (sym z.zero_at.ensures ∙ t.if-zero_at.true)))
+    c.scaled_entry.ensures ∙ sym (zero-first (x c.before.before.before) (p c.before.before.before) (y c.before.before.before) (q c.before.before.before) (by_zero (x c.before.before.before) (p c.before.before.before) (sym c.zero_at.ensures ∙ c.if-zero_at.true)))
 
 pub times-requires : goal.times-requires
 times-requires c =
-    let r = c.before.before in
-    let s = r.before.before.before in
-    (s.requires.0.0, subst (λ (v : Scalar). Coords 1 narrow_exponent (value v)) (sym r.read_cell-a.ensures) s.requires.0.1.coords)
+    (c.requires.0.0, subst (λ (v : Scalar). Coords 1 narrow_exponent (value v)) (sym c.read_cell-a.ensures) c.requires.0.1.coords)
 
 pub returns-then-zero_at-2 : goal.returns-then-zero_at-2
 returns-then-zero_at-2 c =
-    let t = c.before in
-    let z = t.before in
-    let r = z.before in
-    let s = r.before.before.before in
-    ap value c.times.ensures ∙ (λ i. exact.◌⊗◌ (x s) (value (r.read_cell-a.ensures i)))
-    ∙ sym (zero_right (exact.◌⊗◌ (x s) (p s)) (y s) (q s) (mul-lowest (x s) (p s)) (sym z.zero_at-2.ensures ∙ t.if-zero_at-2.true))
+    ap value c.times.ensures ∙ (λ i. exact.◌⊗◌ (x c.before.before.before.before.before.before) (value (c.read_cell-a.ensures i)))
+    ∙ sym (zero_right (exact.◌⊗◌ (x c.before.before.before.before.before.before) (p c.before.before.before.before.before.before)) (y c.before.before.before.before.before.before) (q c.before.before.before.before.before.before) (mul-lowest (x c.before.before.before.before.before.before) (p c.before.before.before.before.before.before)) (sym c.zero_at-2.ensures ∙ c.if-zero_at-2.true))
 
 pub sum_of_products-requires : goal.sum_of_products-requires
-sum_of_products-requires c =
-    let r = c.before.before.before in
-    let s = r.before.before.before in (
-      (s.requires.0.0, subst (λ (v : Scalar). Coords 1 narrow_exponent (value v)) (sym r.read_cell-a.ensures) s.requires.0.1.coords),
-      (s.requires.1.0, subst (λ (v : Scalar). Coords 1 narrow_exponent (value v)) (sym c.read_cell-b.ensures) s.requires.1.1.coords),
-    )
+sum_of_products-requires c = (
+  (c.requires.0.0, subst (λ (v : Scalar). Coords 1 narrow_exponent (value v)) (sym c.read_cell-a.ensures) c.requires.0.1.coords),
+  (c.requires.1.0, subst (λ (v : Scalar). Coords 1 narrow_exponent (value v)) (sym c.read_cell-b.ensures) c.requires.1.1.coords),
+)
 
 pub returns : goal.returns
 returns c =
-    let b = c.before in
-    let r = b.before.before.before in
-    let s = r.before.before.before in
     ap value c.sum_of_products.ensures
-    ∙ (λ i. exact.◌⊕◌ (exact.◌⊗◌ (x s) (value (r.read_cell-a.ensures i))) (exact.◌⊗◌ (y s) (value (b.read_cell-b.ensures i))))
+    ∙ (λ i. exact.◌⊕◌ (exact.◌⊗◌ (x c.before.before.before.before.before.before.before) (value (c.read_cell-a.ensures i))) (exact.◌⊗◌ (y c.before.before.before.before.before.before.before) (value (c.read_cell-b.ensures i))))

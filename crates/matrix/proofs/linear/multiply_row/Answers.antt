@@ -37,18 +37,14 @@ module _ (t : In-loop-c) where
 
 pub scaled_entry-v-requires : goal.scaled_entry-v-requires
 scaled_entry-v-requires c =
-    let t = c.before in
-    ((s t).requires.scale, factor_same (src t) ((s t).requires.factor t.loop-c.c t.loop-c-test.true))
+    ((s c).requires.scale, factor_same (src c) ((s c).requires.factor c.loop-c.c c.loop-c-test.true))
 
 pub write_cell-requires : goal.write_cell-requires
-write_cell-requires c = let t = c.before.before.before in omega (arith, (s t).requires.to_room, t.loop-c-test.true, long t.loop-c.invariant)
+write_cell-requires c = omega (arith, (s c.before.before).requires.to_room, c.loop-c-test.true, long c.loop-c.invariant)
 
 pub loop-c-preserved : goal.loop-c-preserved
 loop-c-preserved c =
-    let w = c.before in
-    let v = w.before.before in
-    let t = v.before.before in
-    again t.loop-c.invariant t.loop-c-test.true w.write_cell.ensures (ap cell_words (v.scaled_entry-v.ensures ∙ ap (exact.◌⊗◌ (value (s t).args.x)) (cell_same (src t))))
+    again c.loop-c.invariant c.loop-c-test.true c.write_cell.ensures (ap cell_words (c.scaled_entry-v.ensures ∙ ap (exact.◌⊗◌ (value (s c.before.before.before.before).args.x)) (cell_same (src c.before.before.before.before))))
 
 pub returns : goal.returns
 returns c = done c.loop-c.invariant c.loop-c-test.false
@@ -60,10 +56,10 @@ pub overflow_add-q : goal.overflow_add-q
 overflow_add-q c = omega (arith, q_in c)
 
 pub overflow_mul-at : goal.overflow_mul-at
-overflow_mul-at c = let t = c.before.before in omega (arith, (s t).requires.to_room, t.loop-c-test.true)
+overflow_mul-at c = omega (arith, (s c.before).requires.to_room, c.loop-c-test.true)
 
 pub overflow_add-at : goal.overflow_add-at
-overflow_add-at c = let t = c.before.before in omega (arith, (s t).requires.to_room, t.loop-c-test.true)
+overflow_add-at c = omega (arith, (s c.before).requires.to_room, c.loop-c-test.true)
 
 pub overflow_add-c : goal.overflow_add-c
 overflow_add-c c = omega arith

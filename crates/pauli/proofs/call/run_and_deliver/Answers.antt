@@ -15,19 +15,19 @@ use Rattle.pauli.proofs.call.run_and_deliver.Tie as tie
 use Rattle.pauli.proofs.call.run_and_deliver.Goals as goal
 
 abbrev After-power-rows : Type 0
-After-power-rows = lts.After-power tie.the-claims reads.Pre reads.Post
+After-power-rows = lts.After-power tie.the-claims reads.Pre reads.Post tie.handed_clauses
 
 abbrev Start : Type 0
-Start = lts.Start tie.the-claims reads.Pre reads.Post
+Start = lts.Start tie.the-claims reads.Pre reads.Post tie.handed_clauses
 
 abbrev After-power-branches : Type 0
-After-power-branches = lts.After-power2 tie.the-claims reads.Pre reads.Post
+After-power-branches = lts.After-power2 tie.the-claims reads.Pre reads.Post tie.handed_clauses
 
 abbrev After-work_words-used : Type 0
-After-work_words-used = lts.After-work_words tie.the-claims reads.Pre reads.Post
+After-work_words-used = lts.After-work_words tie.the-claims reads.Pre reads.Post tie.handed_clauses
 
 abbrev After-run_program-at : Type 0
-After-run_program-at = lts.After-run_program tie.the-claims reads.Pre reads.Post
+After-run_program-at = lts.After-run_program tie.the-claims reads.Pre reads.Post tie.handed_clauses
 
 -- the start, from the first power on
 abbrev start : After-power-rows → Start
@@ -45,23 +45,17 @@ many c = c.power-branches.ensures ∙ ap (λ (f : ProgramFootprint). 2 ^ f.count
 
 pub run_program-at-requires : goal.run_program-at-requires
 run_program-at-requires c =
-    let p = c.before.before.before in
-    let s = start p in
-    record { bits = s.args.bits; result = s.args.res.now; accepted = s.requires.1; dim = p.power-rows.ensures; count = many c.before.before }
+    let s = start c.before.before.before in
+    record { bits = s.args.bits; result = s.args.res.now; accepted = s.requires.1; dim = c.power-rows.ensures; count = many c.before.before }
 
 pub deliver-requires : goal.deliver-requires
 deliver-requires c =
-    let g = c.before.before.before.before in
-    let b = g.before.before in
-    let p = b.before in
-    delivers (start p).requires.1 p.power-rows.ensures (many b) g.run_program-at.ensures
+    delivers (start c.before.before.before.before.before.before).requires.1 c.power-rows.ensures (many c.before.before.before.before.before) c.run_program-at.ensures
 
 pub work_words-used-requires : goal.work_words-used-requires
 work_words-used-requires c =
-    let b = c.before.before.before.before.before.before.before.before in
-    let p = b.before in
-    let s = start p in
-    (omega (arith, few-named s.requires.1, ap (λ (f : ProgramFootprint). f.nodes) s.requires.0), omega (arith, few-branches s.requires.1, many b), omega (arith, few-rows s.requires.1, p.power-rows.ensures))
+    let s = start c.before.before.before.before.before.before.before.before in
+    (omega (arith, few-named s.requires.1, ap (λ (f : ProgramFootprint). f.nodes) s.requires.0), omega (arith, few-branches s.requires.1, many c.before.before.before.before.before.before.before), omega (arith, few-rows s.requires.1, c.power-rows.ensures))
 
 -- the words that are cleared, as they are counted
 module _ (q : After-work_words-used) where
@@ -79,13 +73,8 @@ module _ (q : After-work_words-used) where
 
 pub clear-requires : goal.clear-requires
 clear-requires c =
-    let q = c.before.before in
-    omega (arith, used-room (given q).requires.1 (banked q).power-rows.ensures (many (banked q)) (ran q).run_program-at.ensures (used_is q))
+    omega (arith, used-room (given c.before.before).requires.1 (banked c.before.before).power-rows.ensures (many (banked c.before.before)) (ran c.before.before).run_program-at.ensures (used_is c.before.before))
 
 pub returns : goal.returns
 returns c =
-    let z = c.before.before in
-    let q = z.before.before in (
-      delivered (given q).requires.1 (banked q).power-rows.ensures (many (banked q)) (ran q).run_program-at.ensures q.deliver.ensures,
-      cleared (given q).requires.1 (banked q).power-rows.ensures (many (banked q)) (ran q).run_program-at.ensures (used_is q) z.clear.ensures,
-    )
+    record { res_after = delivered (given c.before.before.before.before).requires.1 (banked c.before.before.before.before).power-rows.ensures (many (banked c.before.before.before.before)) (ran c.before.before.before.before).run_program-at.ensures c.deliver.ensures; work_after = cleared (given c.before.before.before.before).requires.1 (banked c.before.before.before.before).power-rows.ensures (many (banked c.before.before.before.before)) (ran c.before.before.before.before).run_program-at.ensures (used_is c.before.before.before.before) c.clear.ensures }

@@ -34,20 +34,16 @@ pub writes_bit-requires : goal.writes_bit-requires
 writes_bit-requires c = tt
 
 -- operation i writes the bit, or the answer is that of the operations after it
-here : (c : After-writes_bit) → let p = c.before.before.before in let a = p.args in
-    had a.words.now a.bit a.from ≡ c.writes_bit.result || had a.words.now a.bit (p.loop-i.i + 1)
+here : (c : After-writes_bit) → let a = c.args in
+    had a.words.now a.bit a.from ≡ c.writes_bit.result || had a.words.now a.bit (c.loop-i.i + 1)
 here c =
-    let g = c.before in
-    let p = g.before.before in
-    let a = p.args in
-    p.loop-i.invariant ∙ written-more a.words.now a.bit p.loop-i.i (gate_of g.read_gate-w.result) c.writes_bit.result g.loop-i-test.true g.read_gate-w.ensures c.writes_bit.ensures
+    let a = c.args in
+    c.loop-i.invariant ∙ written-more a.words.now a.bit c.loop-i.i (gate_of c.read_gate-w.result) c.writes_bit.result c.loop-i-test.true c.read_gate-w.ensures c.writes_bit.ensures
 
 pub returns-then-writes_bit : goal.returns-then-writes_bit
 returns-then-writes_bit c =
-    let w = c.before.before in
-    let p = w.before.before.before in
-    let a = p.args in
-    sym (here w ∙ ap (λ (t : Bool). t || had a.words.now a.bit (p.loop-i.i + 1)) c.if-writes_bit.true)
+    let a = c.args in
+    sym (here c.before.before ∙ ap (λ (t : Bool). t || had a.words.now a.bit (c.loop-i.i + 1)) c.if-writes_bit.true)
 
 pub overflow_add-i : goal.overflow_add-i
 overflow_add-i c = omega arith
@@ -57,13 +53,10 @@ loop-i-smaller c = omega arith
 
 pub loop-i-preserved : goal.loop-i-preserved
 loop-i-preserved c =
-    let w = c.before.before in
-    let p = w.before.before.before in
-    let a = p.args in
-    here w ∙ ap (λ (t : Bool). t || had a.words.now a.bit (p.loop-i.i + 1)) c.if-writes_bit.false
+    let a = c.args in
+    here c.before.before ∙ ap (λ (t : Bool). t || had a.words.now a.bit (c.loop-i.i + 1)) c.if-writes_bit.false
 
 pub returns : goal.returns
 returns c =
-    let p = c.before.before in
-    let a = p.args in
-    sym (p.loop-i.invariant ∙ ap (some (λ (g : Gate). writes (operation_of g) a.bit)) (gates-none a.words.now (length a.words.now / gate_size) p.loop-i.i c.loop-i-test.false))
+    let a = c.args in
+    sym (c.loop-i.invariant ∙ ap (some (λ (g : Gate). writes (operation_of g) a.bit)) (gates-none a.words.now (length a.words.now / gate_size) c.loop-i.i c.loop-i-test.false))

@@ -17,7 +17,7 @@ use Rattle.pauli_judge.proofs.questions.judge_lists.Tie as tie
 use Rattle.pauli_judge.proofs.questions.judge_lists.Goals as goal
 
 abbrev Start : Type 0
-Start = lts.Start tie.the-claims reads.Pre reads.Post
+Start = lts.Start tie.the-claims reads.Pre reads.Post tie.handed_clauses
 
 -- the questions of the operations
 abbrev asked : Start → List Question
@@ -25,22 +25,15 @@ asked s = operations_questions (axis_fits s.args.n (nodes_of s.args.nodes.now)) 
 
 pub returns-then-is_accepted : goal.returns-then-is_accepted
 returns-then-is_accepted c =
-    let t = c.before.before.before in
-    let i = t.before in
-    let j = i.before.before in
-    let s = j.before.before.before.before in
-    let a = s.args in
-    let good = sym i.is_accepted.ensures ∙ t.if-is_accepted.true in
-    after-yes (nodes_questions a.n 0 (gates_of a.nodes.now)) (asked s) (nodes_refuse a.n 0 (gates_of a.nodes.now)) j.judge_nodes-v.ensures.0 good
+    let a = c.args in
+    let good = sym c.is_accepted.ensures ∙ c.if-is_accepted.true in
+    after-yes (nodes_questions a.n 0 (gates_of a.nodes.now)) (asked c.before.before.before.before.before.before.before.before.before.before) (nodes_refuse a.n 0 (gates_of a.nodes.now)) c.judge_nodes-v.ensures.value good
     (c.judge_operations.ensures
     ∙ ap (λ (fits : Reference → Bool). first_no (operations_questions fits a.bits 0 0 (gates_of a.operations.now)))
-    (fits-same a.n s.requires.0 a.nodes.now j.judge_nodes-v.new.1.1.0 j.judge_nodes-v.ensures.0 good (j.judge_nodes-v.ensures.1 good)))
+    (fits-same a.n c.requires.0 a.nodes.now c.judge_nodes-v.new.n.1.0 c.judge_nodes-v.ensures.value good (c.judge_nodes-v.ensures.gate_size_after good)))
 
 pub returns : goal.returns
 returns c =
-    let i = c.before.before in
-    let j = i.before.before in
-    let s = j.before.before.before.before in
-    let a = s.args in
-    after_no (nodes_questions a.n 0 (gates_of a.nodes.now)) (asked s) (nodes_refuse a.n 0 (gates_of a.nodes.now)) j.judge_nodes-v.ensures.0
-    (sym i.is_accepted.ensures ∙ c.if-is_accepted.false)
+    let a = c.args in
+    after_no (nodes_questions a.n 0 (gates_of a.nodes.now)) (asked c.before.before.before.before.before.before.before.before) (nodes_refuse a.n 0 (gates_of a.nodes.now)) c.judge_nodes-v.ensures.value
+    (sym c.is_accepted.ensures ∙ c.if-is_accepted.false)

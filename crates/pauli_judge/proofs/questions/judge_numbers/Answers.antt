@@ -30,7 +30,7 @@ After-has_room = lts.After-has_room tie.the-claims reads.Pre reads.Post
 
 -- ---- what is known where the sizes are about to be worked out, and after that
 abbrev begun : Then-bits-l → Start
-begun c = let t = c.before.before.before.before in t.before.before.before.before
+begun c = c.before.before.before.before.before.before.before.before
 
 low : (c : Then-bits-l) → Low (begun c).args.l
 low c = all-low (begun c).args.l (begun c).requires.0
@@ -40,16 +40,13 @@ stored c = sym c.is_store.ensures
 
 within : (c : After-is_within) → let a = (begun c.before.before).args in program_within a.f a.n a.bits a.l ≡ c.is_within.result
 within c =
-    let o = c.before in
-    let a = (begun o.before).args in
-    within-found a.l a.f a.n a.bits (low o.before) o.if-bits-l.true o.of-s.ensures.0 c.is_within.ensures
+    let a = (begun c.before.before).args in
+    within-found a.l a.f a.n a.bits (low c.before.before) c.if-bits-l.true c.of-s.ensures.0 c.is_within.ensures
 
-room : (c : After-has_room) → let o = c.before.before.before.before.before in
-    let a = (begun o.before).args in program_room a.f.nodes (sizes_of a.f.counts a.n) a.res a.work ≡ c.has_room.result
+room : (c : After-has_room) → let a = (begun c.before.before.before.before.before.before).args in program_room a.f.nodes (sizes_of a.f.counts a.n) a.res a.work ≡ c.has_room.result
 room c =
-    let o = c.before.before.before.before.before in
-    let a = (begun o.before).args in
-    ap (λ (s : Sizes). program_room a.f.nodes s a.res a.work) (sym o.of-s.ensures.0) ∙ sym c.has_room.ensures
+    let a = (begun c.before.before.before.before.before.before).args in
+    ap (λ (s : Sizes). program_room a.f.nodes s a.res a.work) (sym c.of-s.ensures.0) ∙ sym c.has_room.ensures
 
 pub of-s-requires : goal.of-s-requires
 of-s-requires c = let a = (begun c.before).args in few-small a.l a.f.counts a.n a.bits (low c.before) c.if-bits-l.true
@@ -58,17 +55,14 @@ pub is_within-requires : goal.is_within-requires
 is_within-requires c = (c.of-s.ensures.1, (begun c.before.before).requires.2, omega (arith, (low c.before.before).operations_low, (begun c.before.before).requires.1))
 
 pub has_room-requires : goal.has_room-requires
-has_room-requires c = let o = c.before.before.before.before.before in (o.of-s.ensures.1, (begun o.before).requires.2)
+has_room-requires c = (c.of-s.ensures.1, (begun c.before.before.before.before.before.before).requires.2)
 
 -- every answer but the last is yes
 last : (c : After-has_room) {d : Bool} → c.has_room.result ≡ d → let a = (begun c.before.before.before.before.before.before).args in
     cond d Accepted ShortBuffer ≡ first_no (program_number_questions a.f a.n a.bits a.store.now a.l a.res a.work)
 last c e =
-    let t = c.before.before.before in
-    let i = t.before in
-    let s = i.before.before in
-    let a = (begun s).args in
-    four_answers a.f a.n a.bits a.store.now a.l a.res a.work (stored s ∙ s.if-is_store.true) (within i ∙ t.if-is_within.true)
+    let a = (begun c.before.before.before.before.before.before).args in
+    four_answers a.f a.n a.bits a.store.now a.l a.res a.work (stored c.before.before.before.before.before.before ∙ c.if-is_store.true) (within c.before.before.before.before ∙ c.if-is_within.true)
     (le-leb _ _ c.if-counts-le-MAX_WEIGHT.true) (room c ∙ e)
 
 pub returns-then-has_room : goal.returns-then-has_room
@@ -79,31 +73,22 @@ returns-then-counts-le-MAX_WEIGHT c = last c.before.before c.if-has_room.false
 
 pub returns-then-is_within : goal.returns-then-is_within
 returns-then-is_within c =
-    let t = c.before.before.before in
-    let i = t.before in
-    let s = i.before.before in
-    let a = (begun s).args in
-    four_answers a.f a.n a.bits a.store.now a.l a.res a.work (stored s ∙ s.if-is_store.true) (within i ∙ t.if-is_within.true)
+    let a = (begun c.before.before.before.before.before.before).args in
+    four_answers a.f a.n a.bits a.store.now a.l a.res a.work (stored c.before.before.before.before.before.before ∙ c.if-is_store.true) (within c.before.before.before.before ∙ c.if-is_within.true)
     (lt-leb _ _ c.if-counts-le-MAX_WEIGHT.false) refl
 
 pub returns-else-is_within : goal.returns-else-is_within
 returns-else-is_within c =
-    let i = c.before.before in
-    let s = i.before.before in
-    let a = (begun s).args in
-    four_answers a.f a.n a.bits a.store.now a.l a.res a.work (stored s ∙ s.if-is_store.true) (within i ∙ c.if-is_within.false) refl refl
+    let a = (begun c.before.before.before.before).args in
+    four_answers a.f a.n a.bits a.store.now a.l a.res a.work (stored c.before.before.before.before ∙ c.if-is_store.true) (within c.before.before ∙ c.if-is_within.false) refl refl
 
 pub returns-else-bits-l : goal.returns-else-bits-l
 returns-else-bits-l c =
-    let t = c.before.before.before.before.before in
-    let k = t.before in
-    let s = k.before.before.before in
-    let a = s.args in
-    four_answers a.f a.n a.bits a.store.now a.l a.res a.work (sym k.is_store.ensures ∙ t.if-is_store.true)
-    (too_many a.l a.f a.n a.bits (all-low a.l s.requires.0) c.if-bits-l.false) refl refl
+    let a = c.args in
+    four_answers a.f a.n a.bits a.store.now a.l a.res a.work (sym c.is_store.ensures ∙ c.if-is_store.true)
+    (too_many a.l a.f a.n a.bits (all-low a.l c.requires.0) c.if-bits-l.false) refl refl
 
 pub returns : goal.returns
 returns c =
-    let k = c.before.before in
-    let a = k.args in
-    four_answers a.f a.n a.bits a.store.now a.l a.res a.work (sym k.is_store.ensures ∙ c.if-is_store.false) refl refl refl
+    let a = c.args in
+    four_answers a.f a.n a.bits a.store.now a.l a.res a.work (sym c.is_store.ensures ∙ c.if-is_store.false) refl refl refl

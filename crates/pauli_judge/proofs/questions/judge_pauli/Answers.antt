@@ -2,4 +2,4 @@
 use Rattle.pauli_judge.proofs.questions.judge_pauli.Goals as goal
 
 pub returns : goal.returns
-returns c = c.judge_program-j.ensures.0
+returns c = c.judge_program-j.ensures.verdict_value

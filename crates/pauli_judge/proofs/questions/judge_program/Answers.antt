@@ -26,19 +26,21 @@ judge_numbers-u-requires c =
 
 pub returns-then-is_accepted : goal.returns-then-is_accepted
 returns-then-is_accepted c =
-    let a = c.args in (
-      after-yes (program_word_questions a.n a.bits a.l a.nodes.now a.operations.now)
+    let a = c.args in
+    record {
+      verdict_value = after-yes (program_word_questions a.n a.bits a.l a.nodes.now a.operations.now)
           (program_number_questions (program_footprint a.n a.bits (operations_of a.operations.now)) a.n a.bits a.store.now a.l a.res a.work)
           (words_refuse a.n a.bits a.l a.nodes.now a.operations.now) c.judge_words-v.ensures (sym c.is_accepted.ensures ∙ c.if-is_accepted.true)
-          (c.judge_numbers-u.ensures ∙ ap (λ (f : ProgramFootprint). first_no (program_number_questions f a.n a.bits a.store.now a.l a.res a.work)) c.of-f.ensures),
-      c.of-f.ensures,
-    )
+          (c.judge_numbers-u.ensures ∙ ap (λ (f : ProgramFootprint). first_no (program_number_questions f a.n a.bits a.store.now a.l a.res a.work)) c.of-f.ensures);
+      footprint_value = c.of-f.ensures;
+    }
 
 pub returns : goal.returns
 returns c =
-    let a = c.args in (
-      after_no (program_word_questions a.n a.bits a.l a.nodes.now a.operations.now)
+    let a = c.args in
+    record {
+      verdict_value = after_no (program_word_questions a.n a.bits a.l a.nodes.now a.operations.now)
           (program_number_questions (program_footprint a.n a.bits (operations_of a.operations.now)) a.n a.bits a.store.now a.l a.res a.work)
-          (words_refuse a.n a.bits a.l a.nodes.now a.operations.now) c.judge_words-v.ensures (sym c.is_accepted.ensures ∙ c.if-is_accepted.false),
-      c.of-f.ensures,
-    )
+          (words_refuse a.n a.bits a.l a.nodes.now a.operations.now) c.judge_words-v.ensures (sym c.is_accepted.ensures ∙ c.if-is_accepted.false);
+      footprint_value = c.of-f.ensures;
+    }

@@ -24,48 +24,34 @@ low c = λ i. sym c.are_matrix_limits_low-matrix.ensures i && sym c.are_branch_l
 
 pub judge_lists-requires : goal.judge_lists-requires
 judge_lists-requires c =
-    let q = c.before.before in
-    let t = q.before.before.before in
-    let b = t.before in
-    let a = b.args in
-    let k = few_known a.n a.bits a.l a.nodes.now a.operations.now q.are_few.ensures c.if-are_few.true in
-    (k.1, k.2, omega (arith, k.0, (all-low a.l (low b ∙ t.if-matrix-branch.true)).operations_low))
+    let a = c.args in
+    let k = few_known a.n a.bits a.l a.nodes.now a.operations.now c.are_few.ensures c.if-are_few.true in
+    (k.1, k.2, omega (arith, k.0, (all-low a.l (low c.before.before.before.before.before.before ∙ c.if-matrix-branch.true)).operations_low))
 
 pub returns-then-are_few : goal.returns-then-are_few
 returns-then-are_few c =
-    let f = c.before.before in
-    let q = f.before in
-    let t = q.before in
-    let b = t.before.before.before in
-    let a = b.args in
-    word_answers a.n a.bits a.l a.nodes.now a.operations.now (low b ∙ t.if-matrix-branch.true) (eq-eqb (length a.nodes.now % gate_size) 0 t.if-nodes-eq0.true)
-    (eq-eqb (length a.operations.now % gate_size) 0 t.if-operations-eq0.true) (sym q.are_few.ensures ∙ f.if-are_few.true) (sym c.judge_lists.ensures)
+    let a = c.args in
+    word_answers a.n a.bits a.l a.nodes.now a.operations.now (low c.before.before.before.before.before.before.before ∙ c.if-matrix-branch.true) (eq-eqb (length a.nodes.now % gate_size) 0 c.if-nodes-eq0.true)
+    (eq-eqb (length a.operations.now % gate_size) 0 c.if-operations-eq0.true) (sym c.are_few.ensures ∙ c.if-are_few.true) (sym c.judge_lists.ensures)
 
 pub returns-then-operations-eq0 : goal.returns-then-operations-eq0
 returns-then-operations-eq0 c =
-    let q = c.before.before in
-    let t = q.before in
-    let b = t.before.before.before in
-    let a = b.args in
-    word_answers a.n a.bits a.l a.nodes.now a.operations.now (low b ∙ t.if-matrix-branch.true) (eq-eqb (length a.nodes.now % gate_size) 0 t.if-nodes-eq0.true)
-    (eq-eqb (length a.operations.now % gate_size) 0 t.if-operations-eq0.true) (sym q.are_few.ensures ∙ c.if-are_few.false) refl
+    let a = c.args in
+    word_answers a.n a.bits a.l a.nodes.now a.operations.now (low c.before.before.before.before.before.before ∙ c.if-matrix-branch.true) (eq-eqb (length a.nodes.now % gate_size) 0 c.if-nodes-eq0.true)
+    (eq-eqb (length a.operations.now % gate_size) 0 c.if-operations-eq0.true) (sym c.are_few.ensures ∙ c.if-are_few.false) refl
 
 pub returns-then-nodes-eq0 : goal.returns-then-nodes-eq0
 returns-then-nodes-eq0 c =
-    let t = c.before.before in
-    let b = t.before.before in
-    let a = b.args in
-    word_answers a.n a.bits a.l a.nodes.now a.operations.now (low b ∙ t.if-matrix-branch.true) (eq-eqb (length a.nodes.now % gate_size) 0 t.if-nodes-eq0.true)
+    let a = c.args in
+    word_answers a.n a.bits a.l a.nodes.now a.operations.now (low c.before.before.before.before ∙ c.if-matrix-branch.true) (eq-eqb (length a.nodes.now % gate_size) 0 c.if-nodes-eq0.true)
     (ne_eqb (length a.operations.now % gate_size) 0 c.if-operations-eq0.false) refl refl
 
 pub returns-then-matrix-branch : goal.returns-then-matrix-branch
 returns-then-matrix-branch c =
-    let b = c.before.before.before in
-    let a = b.args in
-    word_answers a.n a.bits a.l a.nodes.now a.operations.now (low b ∙ c.if-matrix-branch.true) (ne_eqb (length a.nodes.now % gate_size) 0 c.if-nodes-eq0.false) refl refl refl
+    let a = c.args in
+    word_answers a.n a.bits a.l a.nodes.now a.operations.now (low c.before.before.before ∙ c.if-matrix-branch.true) (ne_eqb (length a.nodes.now % gate_size) 0 c.if-nodes-eq0.false) refl refl refl
 
 pub returns : goal.returns
 returns c =
-    let b = c.before.before in
-    let a = b.args in
-    word_answers a.n a.bits a.l a.nodes.now a.operations.now (low b ∙ c.if-matrix-branch.false) refl refl refl refl
+    let a = c.args in
+    word_answers a.n a.bits a.l a.nodes.now a.operations.now (low c.before.before ∙ c.if-matrix-branch.false) refl refl refl refl

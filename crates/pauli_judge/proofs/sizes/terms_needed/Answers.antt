@@ -31,8 +31,7 @@ overflow_mul-result-4 c = omega (arith, mul-le-mul c.requires.2 c.fourth.ensures
 
 pub overflow_add-result-2 : goal.overflow_add-result-2
 overflow_add-result-2 c =
-    let s = c.before.before in
-    omega (arith, mul-le-mul (both s) c.cube.ensures.1, mul-le-mul s.requires.2 c.fourth.ensures.1)
+    omega (arith, mul-le-mul (both c.before.before) c.cube.ensures.1, mul-le-mul c.requires.2 c.fourth.ensures.1)
 
 pub returns : goal.returns
 returns c = simp (c.cube.ensures.0, c.fourth.ensures.0)

@@ -68,8 +68,7 @@ branch_size-requires c = dim_small c.before.before.before.before
 
 bank-small : (c : After-branch_size) → let a = c.args in 2 * (a.banks * c.branch_size.result) ≤ length a.work.now
 bank-small c =
-    let s = c.before.before.before.before in
-    omega (arith, s.requires.1.room, ap (λ (k : ℕ). s.args.banks * k) c.branch_size.ensures)
+    omega (arith, c.requires.1.room, ap (λ (k : ℕ). c.args.banks * k) c.branch_size.ensures)
 
 pub overflow_mul-bank : goal.overflow_mul-bank
 overflow_mul-bank c = omega (arith, bank-small c.before)
@@ -78,7 +77,7 @@ pub overflow_mul-slots : goal.overflow_mul-slots
 overflow_mul-slots c = omega (arith, bank-small c.before)
 
 pub start_branch-requires : goal.start_branch-requires
-start_branch-requires c = let s = c.before.before.before.before.before.before in (dim_small s, (omega (arith, first_fits s.requires.1), (s.requires.1.short, s.requires.1.bytes)))
+start_branch-requires c = (dim_small c.before.before.before.before.before.before, (omega (arith, first_fits c.requires.1), (c.requires.1.short, c.requires.1.bytes)))
 
 pub loop-i-init : goal.loop-i-init
 loop-i-init c = λ nodes r. begins r c.args.work.now c.start_branch.ensures
@@ -90,15 +89,11 @@ pub read_gate-w-requires : goal.read_gate-w-requires
 read_gate-w-requires c = omega (arith, c.loop-i-test.true)
 
 pub overflow_sub-to : goal.overflow_sub-to
-overflow_sub-to c = let t = c.before.before in let a = t.before in
-    place_le (runs (given a).requires.1 (begun a).start_branch.ensures) (a.loop-i.invariant (given a).requires.0 (runs (given a).requires.1 (begun a).start_branch.ensures)) t.loop-i-test.true (sized a).branch_size.ensures
+overflow_sub-to c = place_le (runs (given c.before.before.before).requires.1 (begun c.before.before.before).start_branch.ensures) (c.loop-i.invariant (given c.before.before.before).requires.0 (runs (given c.before.before.before).requires.1 (begun c.before.before.before).start_branch.ensures)) c.loop-i-test.true (sized c.before.before.before).branch_size.ensures
 
 pub step_operation-count-requires : goal.step_operation-count-requires
 step_operation-count-requires c =
-    let g = c.before.before in
-    let t = g.before in
-    let a = t.before in
-    ready (runs (given a).requires.1 (begun a).start_branch.ensures) (a.loop-i.invariant (given a).requires.0 (runs (given a).requires.1 (begun a).start_branch.ensures)) t.loop-i-test.true (sized a).branch_size.ensures g.read_gate-w.ensures
+    ready (runs (given c.before.before.before.before).requires.1 (begun c.before.before.before.before).start_branch.ensures) (c.loop-i.invariant (given c.before.before.before.before).requires.0 (runs (given c.before.before.before.before).requires.1 (begun c.before.before.before.before).start_branch.ensures)) c.loop-i-test.true (sized c.before.before.before.before).branch_size.ensures c.read_gate-w.ensures
 
 -- the parts of a turn
 module _ (c : After-splits_of-made) where
@@ -134,9 +129,9 @@ loop-i-preserved c = let a = (turn c.before).before in λ nodes r.
     (stepped c.before).step_operation-count.ensures.0 (ap (λ (k : ℕ). a.loop-i.made + k) (made_is c.before)) (stepped c.before).step_operation-count.ensures.1
 
 left : (c : After-loop-i) → let s = (given c.before).args in
-    (nodes : List Node) → Runs s.work.now s.operations.now s.masks.now s.store.now s.n s.d s.banks nodes
+    (nodes :.before List Node) → Runs s.work.now s.operations.now s.masks.now s.store.now s.n s.d s.banks nodes
     → Ran s.work.now c.loop-i.work s.operations.now s.store.now s.n s.d s.banks c.loop-i.from nodes
-left c nodes r = let a = c.before in ends r (begun a).start_branch.ensures (a.loop-i.invariant nodes (runs r (begun a).start_branch.ensures)) c.loop-i-test.false
+left c nodes r = ends r (begun c.before).start_branch.ensures (c.loop-i.invariant nodes (runs r (begun c.before).start_branch.ensures)) c.loop-i-test.false
 
 pub shape_of-work : goal.shape_of-work
 shape_of-work c = (left c.before (given c.before.before).requires.0 (given c.before.before).requires.1).long

@@ -30,13 +30,13 @@ Start = lts.Start tie.the-claims reads.Pre reads.Post
 
 -- src/run.rt:60:5
 pub write_operators-requires : goal.write_operators-requires
-write_operators-requires c = let s = c.before.before.before.before.before.before in (s.requires.ranges.formed, (s.requires.dim, s.requires.room))
+write_operators-requires c = (c.requires.ranges.formed, (c.requires.dim, c.requires.room))
 
 pub shift_of-shift-requires : goal.shift_of-shift-requires
-shift_of-shift-requires c = let s = c.before.before.before.before.before.before.before.before in s.requires.ranges.outcome
+shift_of-shift-requires c = c.requires.ranges.outcome
 
 pub bit_of-bit-requires : goal.bit_of-bit-requires
-bit_of-bit-requires c = let s = c.before.before.before.before.before.before.before.before.before in s.requires.ranges.formed
+bit_of-bit-requires c = c.requires.ranges.formed
 
 -- after the calls before the step
 module _ (q : After-splits_of) where
@@ -64,13 +64,13 @@ pub overflow_cast-ops : goal.overflow_cast-ops
 overflow_cast-ops c = omega (arith, ops_are c.before, splits-two (operation_of (gate_of (s c.before).args.w)))
 
 pub step-requires : goal.step-requires
-step-requires c = let q = c.before.before in operating_ready (s q).requires (t q).turn-m.ensures (o q).write_operators.ensures (h q).Shift-of.ensures (ops_are q)
+step-requires c = operating_ready (s c.before.before).requires (t c.before.before).turn-m.ensures (o c.before.before).write_operators.ensures (h c.before.before).shift_of-shift.ensures (ops_are c.before.before)
 
 pub overflow_mul-result : goal.overflow_mul-result
-overflow_mul-result c = let q = c.before.before.before.before in omega (arith, total_le (operating_ready (s q).requires (t q).turn-m.ensures (o q).write_operators.ensures (h q).Shift-of.ensures (ops_are q)))
+overflow_mul-result c = omega (arith, total_le (operating_ready (s c.before.before.before.before).requires (t c.before.before.before.before).turn-m.ensures (o c.before.before.before.before).write_operators.ensures (h c.before.before.before.before).shift_of-shift.ensures (ops_are c.before.before.before.before)))
 
 pub returns : goal.returns
-returns c = let q = c.before.before.before.before in (
-  ap (λ (k : ℕ). (s q).args.count * k) (ops_are q),
-  operating_done (s q).requires (t q).turn-m.ensures (o q).write_operators.ensures (h q).Shift-of.ensures (ops_are q) q.bit_of-bit.ensures c.step.ensures,
+returns c = (
+  ap (λ (k : ℕ). (s c.before.before.before.before).args.count * k) (ops_are c.before.before.before.before),
+  operating_done (s c.before.before.before.before).requires (t c.before.before.before.before).turn-m.ensures (o c.before.before.before.before).write_operators.ensures (h c.before.before.before.before).shift_of-shift.ensures (ops_are c.before.before.before.before) c.bit_of-bit.ensures c.step.ensures,
 )

@@ -37,7 +37,7 @@ pub loop-r-init : goal.loop-r-init
 loop-r-init c = begin (λ k. le_refl cell_size)
 
 pub signed-y-requires : goal.signed-y-requires
-signed-y-requires c = let s = c.before.before.before.before in s.requires.0.0
+signed-y-requires c = c.requires.0.0
 
 pub overflow_mul-to : goal.overflow_mul-to
 overflow_mul-to c = omega arith
@@ -93,12 +93,10 @@ module _ (v : After-signed-y) where
 
 pub write_cell-requires-in-loop-r : goal.write_cell-requires-in-loop-r
 write_cell-requires-in-loop-r c =
-    let w = c.before.before in
-    let v = w.before.before in
-    let a = (s v).args in
-    let i : r v * 2 < a.d * 2 = omega (arith, in_row v) in
-    let room : a.at + (r v * 2 + 1) * cell_size + cell_size ≤ length a.buf.now = omega (arith, in_row v, (s v).requires.1.0) in
-    subst (λ (k : ℕ). a.at + (r v * 2 + 1) * cell_size + cell_size ≤ k) (sym (long (again v.loop-r.invariant i w.write_cell.ensures (own-words v)))) room
+    let a = (s c.before.before.before.before).args in
+    let i : r c.before.before.before.before * 2 < a.d * 2 = omega (arith, in_row c.before.before.before.before) in
+    let room : a.at + (r c.before.before.before.before * 2 + 1) * cell_size + cell_size ≤ length a.buf.now = omega (arith, in_row c.before.before.before.before, (s c.before.before.before.before).requires.1.0) in
+    subst (λ (k : ℕ). a.at + (r c.before.before.before.before * 2 + 1) * cell_size + cell_size ≤ k) (sym (long (again c.loop-r.invariant i c.write_cell.ensures (own-words c.before.before.before.before)))) room
 
 pub overflow_add-r : goal.overflow_add-r
 overflow_add-r c = omega arith
@@ -108,26 +106,19 @@ loop-r-smaller c = omega arith
 
 pub loop-r-preserved : goal.loop-r-preserved
 loop-r-preserved c =
-    let o = c.before in
-    let w = o.before.before.before in
-    let v = w.before.before in
-    let t = v.before in
-    let a = (s v).args in
-    let i : r v * 2 < a.d * 2 = omega (arith, in_row v) in
-    let own = again t.loop-r.invariant i w.write_cell.ensures (own-words v) in
-    let next : r v * 2 + 1 + 1 ≡ (r v + 1) * 2 = omega arith in
-    subst (Writing cell_size a.buf.now a.at (a.d * 2) (λ (i : ℕ). cell_words (written (value a.p) (value (plus v)) (value (minus v)) a.x a.z i)) _) next
-    (again own (in_row v) o.write_cell-in-loop-r.ensures (other-words v))
+    let a = (s c.before.before.before.before.before.before).args in
+    let i : r c.before.before.before.before.before.before * 2 < a.d * 2 = omega (arith, in_row c.before.before.before.before.before.before) in
+    let own = again c.loop-r.invariant i c.write_cell.ensures (own-words c.before.before.before.before.before.before) in
+    let next : r c.before.before.before.before.before.before * 2 + 1 + 1 ≡ (r c.before.before.before.before.before.before + 1) * 2 = omega arith in
+    subst (Writing cell_size a.buf.now a.at (a.d * 2) (λ (i : ℕ). cell_words (written (value a.p) (value (plus c.before.before.before.before.before.before)) (value (minus c.before.before.before.before.before.before)) a.x a.z i)) _) next
+    (again own (in_row c.before.before.before.before.before.before) c.write_cell-in-loop-r.ensures (other-words c.before.before.before.before.before.before))
 
 pub shape_of-buf : goal.shape_of-buf
 shape_of-buf c = long c.loop-r.invariant
 
 pub returns : goal.returns
 returns c =
-    let h = c.before.before in
-    let g = h.before in
-    let b = g.before in
-    let a = b.args in
+    let a = c.args in
     let all : a.d * 2 ≤ c.loop-r.r * 2 = omega (arith, c.loop-r-test.false) in
     done c.loop-r.invariant all
-    ∙ blocks-same cell_size a.buf.now a.at (a.d * 2) _ _ (λ i k. ap cell_words (written_is (value a.p) (value a.q) a.x a.z a.t (ap value g.turn-plus.ensures) (ap value h.turn-minus.ensures) i))
+    ∙ blocks-same cell_size a.buf.now a.at (a.d * 2) _ _ (λ i k. ap cell_words (written_is (value a.p) (value a.q) a.x a.z a.t (ap value c.turn-plus.ensures) (ap value c.turn-minus.ensures) i))

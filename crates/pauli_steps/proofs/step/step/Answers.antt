@@ -56,10 +56,9 @@ module _ (t : In-loop-j) where
 
 pub apply_operator-requires : goal.apply_operator-requires
 apply_operator-requires c =
-    let t = c.before in
-    let a = (s t).args in
-    subst₂ (λ (v k : ℕ). Applying t.loop-j.work a.m (a.slots + v * (a.d * row_size)) (a.from + k * branch_size a.d) (a.to + j t * branch_size a.d) a.d) (sym (number_is t)) (sym (branch_is (s t).requires (j t)))
-    (turn_applying (s t).requires t.loop-j-test.true a.bit t.loop-j.invariant)
+    let a = (s c.before).args in
+    subst₂ (λ (v k : ℕ). Applying c.loop-j.work a.m (a.slots + v * (a.d * row_size)) (a.from + k * branch_size a.d) (a.to + j c.before * branch_size a.d) a.d) (sym (number_is c.before)) (sym (branch_is (s c.before).requires (j c.before)))
+    (turn_applying (s c.before).requires c.loop-j-test.true a.bit c.loop-j.invariant)
 
 -- after the product: m are the words
 module _ (t : In-loop-j) where
@@ -92,25 +91,21 @@ module _ (t : In-loop-j) where
 
 pub write_store-requires : goal.write_store-requires
 write_store-requires c =
-    let q = c.before.before in
-    let t = q.before.before in
-    let a = (s t).args in (
-      omega (arith, number_is t, bit_lt t),
+    let a = (s c.before.before.before.before).args in (
+      omega (arith, number_is c.before.before.before.before, bit_lt c.before.before.before.before),
       (
-        turn-room (s t).requires t.loop-j-test.true a.bit t.loop-j.invariant (applied t q.apply_operator.ensures),
-        store_at t q.apply_operator.ensures (turn-store (s t).requires t.loop-j-test.true a.bit t.loop-j.invariant (applied t q.apply_operator.ensures)),
+        turn-room (s c.before.before.before.before).requires c.loop-j-test.true a.bit c.loop-j.invariant (applied c.before.before.before.before c.apply_operator.ensures),
+        store_at c.before.before.before.before c.apply_operator.ensures (turn-store (s c.before.before.before.before).requires c.loop-j-test.true a.bit c.loop-j.invariant (applied c.before.before.before.before c.apply_operator.ensures)),
       ),
     )
 
 pub overflow_add-j : goal.overflow_add-j
-overflow_add-j c = let t = c.before.before.before.before.before.before in omega (arith, t.loop-j-test.true, total_le (s t).requires)
+overflow_add-j c = omega (arith, c.loop-j-test.true, total_le (s c.before.before.before.before.before.before).requires)
 
 pub loop-j-preserved : goal.loop-j-preserved
 loop-j-preserved c =
-    let q = c.before.before.before.before in
-    let t = q.before.before in
-    let a = (s t).args in
-    turn_more (s t).requires t.loop-j-test.true a.bit t.loop-j.invariant (applied t q.apply_operator.ensures) (outcome-is t q.apply_operator.ensures c.write_Store.ensures)
+    let a = (s c.before.before.before.before.before.before).args in
+    turn_more (s c.before.before.before.before.before.before).requires c.loop-j-test.true a.bit c.loop-j.invariant (applied c.before.before.before.before.before.before c.apply_operator.ensures) (outcome-is c.before.before.before.before.before.before c.apply_operator.ensures c.write_store.ensures)
 
 pub returns : goal.returns
 returns c = done c.loop-j.invariant c.loop-j-test.false
@@ -162,10 +157,10 @@ pub overflow_add-new : goal.overflow_add-new
 overflow_add-new c = omega (arith, new-at c)
 
 pub overflow_add-old-in-loop-j : goal.overflow_add-old-in-loop-j
-overflow_add-old-in-loop-j c = let t = c.before.before.before.before in omega (arith, old-at t)
+overflow_add-old-in-loop-j c = omega (arith, old-at c.before.before.before.before)
 
 pub overflow_add-new-in-loop-j : goal.overflow_add-new-in-loop-j
-overflow_add-new-in-loop-j c = let t = c.before.before.before.before in omega (arith, new-at t)
+overflow_add-new-in-loop-j c = omega (arith, new-at c.before.before.before.before)
 
 pub loop-j-smaller : goal.loop-j-smaller
 loop-j-smaller c = omega arith

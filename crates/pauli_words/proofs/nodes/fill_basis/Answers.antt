@@ -23,8 +23,8 @@ loop-q-init c =
     (omega arith, refl, laid_none a.n a.masks.now (omega (arith, c.requires.1)))
 
 -- the two places of qubit q are there
-room : (c : In-loop-q) → let p = c.before in 2 + 2 * p.loop-q.q < length p.loop-q.masks
-room c = let p = c.before in omega (arith, p.loop-q.invariant.1, c.loop-q-test.true, p.requires.1, length-set p.args.masks.now 0 0)
+room : (c : In-loop-q) → 2 + 2 * c.loop-q.q < length c.loop-q.masks
+room c = omega (arith, c.loop-q.invariant.1, c.loop-q-test.true, c.requires.1, length-set c.args.masks.now 0 0)
 
 pub weight_of-w-requires : goal.weight_of-w-requires
 weight_of-w-requires c = (c.loop-q-test.true, c.requires.0)
@@ -48,32 +48,29 @@ pub single-requires-in-loop-q : goal.single-requires-in-loop-q
 single-requires-in-loop-q c = (c.weight_of-w.ensures.1, omega arith)
 
 pub overflow_add-masks : goal.overflow_add-masks
-overflow_add-masks c = let p = c.before.before.before in omega (arith, p.loop-q-test.true, p.requires.0)
+overflow_add-masks c = omega (arith, c.loop-q-test.true, c.requires.0)
 
 pub offset_bounds-masks-at-in-loop-q : goal.offset_bounds-masks-at-in-loop-q
-offset_bounds-masks-at-in-loop-q c = let p = c.before.before.before in omega (arith, p.loop-q-test.true, p.requires.0)
+offset_bounds-masks-at-in-loop-q c = omega (arith, c.loop-q-test.true, c.requires.0)
 
 pub bounds-masks-at-in-loop-q : goal.bounds-masks-at-in-loop-q
 bounds-masks-at-in-loop-q c =
-    let p = c.before.before.before in
-    omega (arith, room p, length-set p.loop-q.masks (1 + 2 * p.loop-q.q) c.single.result)
+    omega (arith, room c.before.before.before, length-set c.loop-q.masks (1 + 2 * c.loop-q.q) c.single.result)
 
 pub overflow_add-q : goal.overflow_add-q
-overflow_add-q c = let p = c.before.before.before in omega (arith, p.loop-q-test.true, p.requires.0)
+overflow_add-q c = omega (arith, c.loop-q-test.true, c.requires.0)
 
 pub loop-q-smaller : goal.loop-q-smaller
-loop-q-smaller c = let p = c.before.before.before in omega (arith, p.loop-q-test.true)
+loop-q-smaller c = omega (arith, c.loop-q-test.true)
 
 pub loop-q-preserved : goal.loop-q-preserved
 loop-q-preserved c =
-    let w = c.before.before in
-    let p = w.before in
-    let l = p.loop-q in
+    let l = c.loop-q in
     let x = c.single.result in
     let z = c.single-in-loop-q.result in (
-      omega (arith, p.loop-q-test.true),
+      omega (arith, c.loop-q-test.true),
       omega (arith, l.invariant.1, length-set l.masks (1 + 2 * l.q) x, length-set (set l.masks (1 + 2 * l.q) x) (1 + 2 * l.q + 1) z),
-      laid_qubit p.args.n l.invariant.2 p.loop-q-test.true (room p) w.weight_of-w.result x z w.weight_of-w.ensures.0 c.single.ensures c.single-in-loop-q.ensures,
+      laid_qubit c.args.n l.invariant.2 c.loop-q-test.true (room c.before.before.before) c.weight_of-w.result x z c.weight_of-w.ensures.0 c.single.ensures c.single-in-loop-q.ensures,
     )
 
 pub shape_of-masks : goal.shape_of-masks

@@ -16,20 +16,17 @@ After-is_sound = lts.After-is_sound tie.the-claims reads.Pre reads.Post
 
 fits : (c : After-is_sound) {b : Bool} → c.is_sound.result ≡ b → let a = c.args in sound a.n (number_of a.n a.i) (node_of (gate_of a.w)) ≡ b
 fits c e =
-    let s = c.before.before.before in
-    ap (λ (k : ℕ). sound s.args.n k (node_of (gate_of s.args.w))) (sym s.requires) ∙ sym c.is_sound.ensures ∙ e
+    ap (λ (k : ℕ). sound c.args.n k (node_of (gate_of c.args.w))) (sym c.requires) ∙ sym c.is_sound.ensures ∙ e
 
 pub returns-then-is_sound : goal.returns-then-is_sound
 returns-then-is_sound c =
-    let t = c.before.before in
-    let a = t.args in
-    node_answers a.n a.i (gate_of a.w) (sym t.is_formed.ensures ∙ t.if-is_formed.true) (fits c.before c.if-is_sound.true)
+    let a = c.args in
+    node_answers a.n a.i (gate_of a.w) (sym c.is_formed.ensures ∙ c.if-is_formed.true) (fits c.before c.if-is_sound.true)
 
 pub returns-then-is_formed : goal.returns-then-is_formed
 returns-then-is_formed c =
-    let t = c.before.before in
-    let a = t.args in
-    node_answers a.n a.i (gate_of a.w) (sym t.is_formed.ensures ∙ t.if-is_formed.true) (fits c.before c.if-is_sound.false)
+    let a = c.args in
+    node_answers a.n a.i (gate_of a.w) (sym c.is_formed.ensures ∙ c.if-is_formed.true) (fits c.before c.if-is_sound.false)
 
 pub returns : goal.returns
 returns c =

@@ -18,8 +18,7 @@ Then-w-eq-TIMES = lts.Then1 tie.the-claims reads.Pre reads.Post
 -- both nodes of a product are there
 both : (c : Then-w-eq-TIMES) → let a = c.args in (a.w.a < a.number) × (a.w.c < a.number)
 both c =
-    let s = c.before.before.before in
-    earlier (gate_of s.args.w) s.args.n s.args.number c.if-w-eq-TIMES.true s.requires.3
+    earlier (gate_of c.args.w) c.args.n c.args.number c.if-w-eq-TIMES.true c.requires.3
 
 pub bounds-masks-w : goal.bounds-masks-w
 bounds-masks-w c = omega (arith, both c.before.before.before)
@@ -29,31 +28,24 @@ bounds-masks-w-then-w-eq-TIMES c = omega (arith, both c.before.before.before.bef
 
 pub returns-then-w-eq-TIMES : goal.returns-then-w-eq-TIMES
 returns-then-w-eq-TIMES c =
-    let y = c.before.before in
-    let x = y.before.before.before in
-    let t = x.before.before.before in
-    let a = t.args in
-    let h = both t in
+    let a = c.args in
+    let h = both c.before.before.before.before.before.before.before.before in
     c.times.ensures
     ∙ ap₂ times_mask
-    (turned-read a.masks.now a.number a.w.a a.w.b x.turn-a.result h.0 x.turn-a.ensures)
-    (turned-read a.masks.now a.number a.w.c a.w.k y.turn-c.result h.1 y.turn-c.ensures)
-    ∙ sym (ap (mask_after a.n (masks_in a.masks.now a.number)) (product-of (gate_of a.w) t.if-w-eq-TIMES.true))
+    (turned-read a.masks.now a.number a.w.a a.w.b c.turn-a.result h.0 c.turn-a.ensures)
+    (turned-read a.masks.now a.number a.w.c a.w.k c.turn-c.result h.1 c.turn-c.ensures)
+    ∙ sym (ap (mask_after a.n (masks_in a.masks.now a.number)) (product-of (gate_of a.w) c.if-w-eq-TIMES.true))
 
 pub weight_of-requires : goal.weight_of-requires
 weight_of-requires c =
-    let s = c.before.before.before.before in
-    (on_qubit (gate_of s.args.w) s.args.n s.args.number c.if-w-eq-TIMES.false s.requires.3, s.requires.0)
+    (on_qubit (gate_of c.args.w) c.args.n c.args.number c.if-w-eq-TIMES.false c.requires.3, c.requires.0)
 
 pub single-requires : goal.single-requires
 single-requires c =
-    let e = c.before.before in
-    let s = e.before.before.before in
-    (c.weight_of.ensures.1, known (gate_of s.args.w) e.if-w-eq-TIMES.false s.requires.2)
+    (c.weight_of.ensures.1, known (gate_of c.args.w) c.if-w-eq-TIMES.false c.requires.2)
 
 pub returns : goal.returns
 returns c =
-    let e = c.before.before.before in
-    let a = e.args in
+    let a = c.args in
     c.single.ensures ∙ ap (λ (v : ℕ). pauli_mask v a.w.kind) c.weight_of.ensures.0
-    ∙ sym (ap (mask_after a.n (masks_in a.masks.now a.number)) (single_of (gate_of a.w) e.if-w-eq-TIMES.false))
+    ∙ sym (ap (mask_after a.n (masks_in a.masks.now a.number)) (single_of (gate_of a.w) c.if-w-eq-TIMES.false))

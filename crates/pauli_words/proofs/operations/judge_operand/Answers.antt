@@ -49,6 +49,5 @@ returns-then-w-eq-MEASURE_INTO c = bit c.before.before (le-ltb _ _ c.if-w-bits.f
 
 pub returns : goal.returns
 returns c =
-    let e = c.before.before in
-    let a = e.args in
-    no_operand (gate_of a.w) a.bits a.made a.i e.if-w-eq-ROTATE_IF.false c.if-w-eq-MEASURE_INTO.false
+    let a = c.args in
+    no_operand (gate_of a.w) a.bits a.made a.i c.if-w-eq-ROTATE_IF.false c.if-w-eq-MEASURE_INTO.false

@@ -18,21 +18,20 @@ name-end : (s : Start) → s.args.e * 8 + get_or s.args.lengths.now s.args.e 0 �
 name-end s = omega (arith, ap (λ (l : List ℕ). get_or l s.args.e 0) s.requires.0.1, name_inside s.args.e s.requires.1)
 
 pub bounds-lengths-e : goal.bounds-lengths-e
-bounds-lengths-e c = let s = c.before.before.before.before.before in omega (arith, ap length s.requires.0.1, s.requires.1)
+bounds-lengths-e c = omega (arith, ap length c.requires.0.1, c.requires.1)
 
 pub overflow_cast-end : goal.overflow_cast-end
-overflow_cast-end c = let s = c.before.before.before.before.before in omega (arith, name-end s)
+overflow_cast-end c = omega (arith, name-end c.before.before.before.before.before)
 
 pub overflow_add-end : goal.overflow_add-end
-overflow_add-end c = let s = c.before.before.before.before.before in omega (arith, name-end s)
+overflow_add-end c = omega (arith, name-end c.before.before.before.before.before)
 
 pub slice_bounds-is_same-end : goal.slice_bounds-is_same-end
-slice_bounds-is_same-end c = let s = c.before.before.before.before.before in omega (arith, name-end s, ap length s.requires.0.0)
+slice_bounds-is_same-end c = omega (arith, name-end c.before.before.before.before.before, ap length c.requires.0.0)
 
 pub returns : goal.returns
 returns c =
-    let s = c.before.before.before.before.before.before.before in
-    let a = s.args in
+    let a = c.args in
     c.is_same.ensures
-    ∙ (λ i. same (take (a.e * 8 + get_or (s.requires.0.1 i) a.e 0 - a.e * 8) (drop (a.e * 8) (s.requires.0.0 i))) a.word.now)
-    ∙ ap (λ (bs : List ℕ). same bs a.word.now) (name_is a.e s.requires.1)
+    ∙ (λ i. same (take (a.e * 8 + get_or (c.requires.0.1 i) a.e 0 - a.e * 8) (drop (a.e * 8) (c.requires.0.0 i))) a.word.now)
+    ∙ ap (λ (bs : List ℕ). same bs a.word.now) (name_is a.e c.requires.1)

@@ -17,37 +17,28 @@ no_number_lem c = sym c.is_numeric.ensures ∙ c.if-is_numeric.false
 
 pub returns-then-is_numeric : goal.returns-then-is_numeric
 returns-then-is_numeric c =
-    let k = c.before.before in
-    let a = k.args in
-    fits-number a.text.now a.s a.piece a.ok a.begin a.end (sym k.is_numeric.ensures ∙ c.if-is_numeric.true)
+    let a = c.args in
+    fits-number a.text.now a.s a.piece a.ok a.begin a.end (sym c.is_numeric.ensures ∙ c.if-is_numeric.true)
 
 pub returns-then-piece : goal.returns-then-piece
 returns-then-piece c =
-    let p = c.before.before.before in
-    let f = p.before.before in
-    let a = f.args in
-    (λ i. c.is_small.ensures i && not (p.is_part-q.ensures i || p.is_part-c.ensures i))
-    ∙ fits_fresh a.text.now a.s a.piece a.ok a.begin a.end (no_number_lem f.before) f.if-piece.true
+    let a = c.args in
+    (λ i. c.is_small.ensures i && not (c.is_part-q.ensures i || c.is_part-c.ensures i))
+    ∙ fits_fresh a.text.now a.s a.piece a.ok a.begin a.end (no_number_lem c.before.before.before.before.before.before) c.if-piece.true
 
 pub returns-then-piece-eq113 : goal.returns-then-piece-eq113
 returns-then-piece-eq113 c =
-    let f = c.before.before.before in
-    let a = f.args in
-    c.is_part.ensures ∙ fits-quantum a.text.now a.s a.piece a.ok a.begin a.end (no_number_lem f.before) f.if-piece.false (eq-eqb a.piece 113 c.if-piece-eq113.true)
+    let a = c.args in
+    c.is_part.ensures ∙ fits-quantum a.text.now a.s a.piece a.ok a.begin a.end (no_number_lem c.before.before.before.before) c.if-piece.false (eq-eqb a.piece 113 c.if-piece-eq113.true)
 
 pub returns-then-piece-eq99 : goal.returns-then-piece-eq99
 returns-then-piece-eq99 c =
-    let q = c.before.before.before in
-    let f = q.before in
-    let a = f.args in
+    let a = c.args in
     c.is_part-then-piece-eq99.ensures
-    ∙ fits-classical a.text.now a.s a.piece a.ok a.begin a.end (no_number_lem f.before) f.if-piece.false (ne_eqb a.piece 113 q.if-piece-eq113.false) (eq-eqb a.piece 99 c.if-piece-eq99.true)
+    ∙ fits-classical a.text.now a.s a.piece a.ok a.begin a.end (no_number_lem c.before.before.before.before.before) c.if-piece.false (ne_eqb a.piece 113 c.if-piece-eq113.false) (eq-eqb a.piece 99 c.if-piece-eq99.true)
 
 pub returns : goal.returns
 returns c =
-    let h = c.before.before.before in
-    let q = h.before in
-    let f = q.before in
-    let a = f.args in
+    let a = c.args in
     c.is_fixed.ensures
-    ∙ fits_fixed a.text.now a.s a.piece a.ok a.begin a.end (no_number_lem f.before) f.if-piece.false (ne_eqb a.piece 113 q.if-piece-eq113.false) (ne_eqb a.piece 99 h.if-piece-eq99.false)
+    ∙ fits_fixed a.text.now a.s a.piece a.ok a.begin a.end (no_number_lem c.before.before.before.before.before.before) c.if-piece.false (ne_eqb a.piece 113 c.if-piece-eq113.false) (ne_eqb a.piece 99 c.if-piece-eq99.false)

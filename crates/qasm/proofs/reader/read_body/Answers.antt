@@ -12,21 +12,21 @@ returns-then-s-ne0 c =
     let v = c in
     let a = v.args in
     let s = v.run-s.result in
-    fault-replied a.text.now a.at a.gates.now _ s v.run-s.ensures v.if-s-ne0.true (c.refused.ensures ∙ ap (λ (v : Verdict). refusal v s.position) v.verdict_of-verdict.ensures)
+    let all = fault-replied a.text.now a.at a.gates.now _ s v.run-s.ensures v.if-s-ne0.true (c.refused.ensures ∙ ap (λ (v : Verdict). refusal v s.position) v.verdict_of-verdict.ensures) in record { reply = all.0; gates = all.1 }
 
 pub returns-then-piece_at-ne-STOP : goal.returns-then-piece_at-ne-STOP
 returns-then-piece_at-ne-STOP c =
     let a = c.args in
-    short-replied a.text.now a.at a.gates.now _ c.run-s.result c.run-s.ensures c.if-s-ne0.false (λ e. c.if-piece_at-ne-STOP.true (c.piece_at.ensures ∙ e)) c.refused-then-piece_at-ne-STOP.ensures
+    let all = short-replied a.text.now a.at a.gates.now _ c.run-s.result c.run-s.ensures c.if-s-ne0.false (λ e. c.if-piece_at-ne-STOP.true (c.piece_at.ensures ∙ e)) c.refused-then-piece_at-ne-STOP.ensures in record { reply = all.0; gates = all.1 }
 
 pub returns-then-gates-s : goal.returns-then-gates-s
 returns-then-gates-s c =
     let a = c.args in
     let kept = ap length (untouched a.text.now a.at a.gates.now _ c.run-s.result c.run-s.ensures) in
-    room-replied a.text.now a.at a.gates.now _ c.run-s.result c.run-s.ensures c.if-s-ne0.false (sym c.piece_at.ensures ∙ c.if-piece_at-ne-STOP.false) (omega (arith, c.if-gates-s.true)) c.refused-then-gates-s.ensures
+    let all = room-replied a.text.now a.at a.gates.now _ c.run-s.result c.run-s.ensures c.if-s-ne0.false (sym c.piece_at.ensures ∙ c.if-piece_at-ne-STOP.false) (omega (arith, c.if-gates-s.true)) c.refused-then-gates-s.ensures in record { reply = all.0; gates = all.1 }
 
 pub returns : goal.returns
 returns c =
     let a = c.args in
     let kept = ap length (untouched a.text.now a.at a.gates.now _ c.run-s.result c.run-s.ensures) in
-    all-replied a.text.now a.at a.gates.now _ c.run-s.result c.run-s.ensures c.if-s-ne0.false (sym c.piece_at.ensures ∙ c.if-piece_at-ne-STOP.false) (omega (arith, c.if-gates-s.false)) c.run.ensures
+    let all = all-replied a.text.now a.at a.gates.now _ c.run-s.result c.run-s.ensures c.if-s-ne0.false (sym c.piece_at.ensures ∙ c.if-piece_at-ne-STOP.false) (omega (arith, c.if-gates-s.false)) c.run.ensures in record { reply = all.0; gates = all.1 }

@@ -18,7 +18,7 @@ use Rattle.qasm.proofs.reader.read_qasm.Tie as tie
 use Rattle.qasm.proofs.reader.read_qasm.Goals as goal
 
 abbrev After-blanks_end-begin : Type 0
-After-blanks_end-begin = lts.After-blanks_end tie.the-claims reads.Pre reads.Post
+After-blanks_end-begin = lts.After-blanks_end tie.the-claims reads.Pre reads.Post tie.handed_clauses
 
 module _ (c : After-blanks_end-begin) where
   abbrev t : List ℕ
@@ -34,33 +34,23 @@ module _ (c : After-blanks_end-begin) where
   header-inside e = omega (arith, begin_inside, begins_long header (drop i t) e, length-drop i t)
 
 pub begins_with-requires : goal.begins_with-requires
-begins_with-requires c = begin_inside c.before.before
+begins_with-requires c = begin_inside c.before.before.before
 
 pub returns-then-not-begins_with : goal.returns-then-not-begins_with
 returns-then-not-begins_with c =
-    let b = c.before.before.before in
-    let k = b.before.before in
-    let s = k.before.before.before in
-    let l = s.args.gates.now in
-    replied_no l l (sym (header_read (t k) k.blanks_end-begin.ensures (sym b.begins_with.ensures ∙ c.if-not-begins_with.true))) c.refused.ensures refl
+    let l = c.args.gates.now in
+    let all = replied_no l l (sym (header_read (t c.before.before.before.before.before.before) c.blanks_end-begin.ensures (sym c.begins_with.ensures ∙ c.if-not-begins_with.true))) c.refused.ensures refl in record { reply = all.0; gates = all.1 }
 
 pub overflow_add-begin : goal.overflow_add-begin
 overflow_add-begin c =
-    let b = c.before.before in
-    omega (arith, header-inside b.before.before (sym b.begins_with.ensures ∙ c.if-not-begins_with.false))
+    omega (arith, header-inside c.before.before.before.before.before (sym c.begins_with.ensures ∙ c.if-not-begins_with.false))
 
 pub read_body-requires : goal.read_body-requires
 read_body-requires c =
-    let e = c.before.before in
-    let b = e.before in
-    header-inside b.before.before (sym b.begins_with.ensures ∙ e.if-not-begins_with.false)
+    header-inside c.before.before.before.before.before.before (sym c.begins_with.ensures ∙ c.if-not-begins_with.false)
 
 pub returns : goal.returns
 returns c =
-    let r = c.before.before.before in
-    let e = r.before.before in
-    let b = e.before in
-    let k = b.before.before in
-    let l = k.args.gates.now in
-    let o = header_read (t k) k.blanks_end-begin.ensures (sym b.begins_with.ensures ∙ e.if-not-begins_with.false) in
-    (r.read_body.ensures.0 ∙ ap (reply (length l)) o, r.read_body.ensures.1 ∙ ap (filled l) o)
+    let l = c.args.gates.now in
+    let o = header_read (t c.before.before.before.before.before.before.before.before.before) c.blanks_end-begin.ensures (sym c.begins_with.ensures ∙ c.if-not-begins_with.false) in
+    record { reply = c.read_body.ensures.reply ∙ ap (reply (length l)) o; gates = c.read_body.ensures.gates ∙ ap (filled l) o }

@@ -22,51 +22,38 @@ begun c = c.before.before.before.before.before.before.before.before.before
 inside : (c : After-line_end-i) → c.line_end-i.result ≤ length (begun c).args.text.now
 unfolding begun
 inside c =
-    let k = c.before.before in
-    let e = k.before in
-    let n = e.before.before.before in
-    let a = n.args in
-    comment_inside a.text.now a.at n.loop-i.invariant n.loop-i-test.true (sym e.is_blank.ensures ∙ e.if-is_blank.false) (sym k.is_comment.ensures ∙ c.if-not-is_comment.false) c.line_end-i.ensures
+    let a = c.args in
+    comment_inside a.text.now a.at c.loop-i.invariant c.loop-i-test.true (sym c.is_blank.ensures ∙ c.if-is_blank.false) (sym c.is_comment.ensures ∙ c.if-not-is_comment.false) c.line_end-i.ensures
 
 pub loop-i-init : goal.loop-i-init
-loop-i-init c = let s = c.before.before in passing_none s.args.text.now s.args.at s.requires
+loop-i-init c = passing_none c.args.text.now c.args.at c.requires
 
 pub loop-i-preserved-then-is_blank : goal.loop-i-preserved-then-is_blank
 loop-i-preserved-then-is_blank c =
-    let k = c.before.before in
-    let n = k.before.before in
-    let a = n.args in
-    passing_blank a.text.now a.at n.loop-i.invariant n.loop-i-test.true (sym k.is_blank.ensures ∙ c.if-is_blank.true)
+    let a = c.args in
+    passing_blank a.text.now a.at c.loop-i.invariant c.loop-i-test.true (sym c.is_blank.ensures ∙ c.if-is_blank.true)
 
 pub is_comment-requires : goal.is_comment-requires
 is_comment-requires c = c.loop-i-test.true
 
 pub returns-then-not-is_comment : goal.returns-then-not-is_comment
 returns-then-not-is_comment c =
-    let k = c.before.before in
-    let e = k.before in
-    let n = e.before.before.before in
-    let a = n.args in
-    passed_here a.text.now a.at n.loop-i.invariant n.loop-i-test.true (sym e.is_blank.ensures ∙ e.if-is_blank.false) (sym k.is_comment.ensures ∙ c.if-not-is_comment.true)
+    let a = c.args in
+    passed_here a.text.now a.at c.loop-i.invariant c.loop-i-test.true (sym c.is_blank.ensures ∙ c.if-is_blank.false) (sym c.is_comment.ensures ∙ c.if-not-is_comment.true)
 
 pub loop-i-smaller : goal.loop-i-smaller
 loop-i-smaller c =
-    let n = c.before.before.before.before.before.before.before in
-    omega (arith, inside c.before, n.loop-i-test.true, c.line_end-i.ensures)
+    omega (arith, inside c.before, c.loop-i-test.true, c.line_end-i.ensures)
 
 pub loop-i-preserved : goal.loop-i-preserved
 loop-i-preserved c =
-    let k = c.before.before.before in
-    let e = k.before in
-    let n = e.before.before.before in
-    let a = n.args in
-    passing_comment a.text.now a.at n.loop-i.invariant n.loop-i-test.true (sym e.is_blank.ensures ∙ e.if-is_blank.false) (sym k.is_comment.ensures ∙ c.if-not-is_comment.false) c.line_end-i.ensures
+    let a = c.args in
+    passing_comment a.text.now a.at c.loop-i.invariant c.loop-i-test.true (sym c.is_blank.ensures ∙ c.if-is_blank.false) (sym c.is_comment.ensures ∙ c.if-not-is_comment.false) c.line_end-i.ensures
 
 pub returns : goal.returns
 returns c =
-    let l = c.before.before in
-    let a = l.args in
-    passed_all a.text.now a.at l.loop-i.invariant c.loop-i-test.false
+    let a = c.args in
+    passed_all a.text.now a.at c.loop-i.invariant c.loop-i-test.false
 
 pub bounds-text-i : goal.bounds-text-i
 bounds-text-i c = omega arith

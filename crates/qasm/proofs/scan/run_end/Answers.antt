@@ -30,27 +30,24 @@ module _ (c : After-is_digit) where
   tested = λ i. word && c.opens_word.ensures i || c.is_digit.ensures i
 
 pub loop-i-init : goal.loop-i-init
-loop-i-init c = let s = c.before.before in run-begins (in_run s.args.word) s.args.text.now s.args.at s.requires
+loop-i-init c = run-begins (in_run c.args.word) c.args.text.now c.args.at c.requires
 
 pub returns-then-not-word-opens_word : goal.returns-then-not-word-opens_word
 returns-then-not-word-opens_word c =
-    let k = c.before.before in
-    let l = head k in
+    let l = head c.before.before in
     let a = l.args in
-    run-stopped (in_run a.word) a.text.now a.at l.loop-i.invariant k.loop-i-test.true (sym (tested k) ∙ c.if-not-word-opens_word.true)
+    run-stopped (in_run a.word) a.text.now a.at l.loop-i.invariant c.loop-i-test.true (sym (tested c.before.before) ∙ c.if-not-word-opens_word.true)
 
 pub loop-i-preserved : goal.loop-i-preserved
 loop-i-preserved c =
-    let k = c.before.before in
-    let l = head k in
+    let l = head c.before.before in
     let a = l.args in
-    run_again (in_run a.word) a.text.now a.at l.loop-i.invariant k.loop-i-test.true (sym (tested k) ∙ c.if-not-word-opens_word.false)
+    run_again (in_run a.word) a.text.now a.at l.loop-i.invariant c.loop-i-test.true (sym (tested c.before.before) ∙ c.if-not-word-opens_word.false)
 
 pub returns : goal.returns
 returns c =
-    let l = c.before.before in
-    let a = l.args in
-    run-ended (in_run a.word) a.text.now a.at l.loop-i.invariant c.loop-i-test.false
+    let a = c.args in
+    run-ended (in_run a.word) a.text.now a.at c.loop-i.invariant c.loop-i-test.false
 
 pub bounds-text-i : goal.bounds-text-i
 bounds-text-i c = omega arith

@@ -51,32 +51,21 @@ module _ (c : Else-opens_word) where
 
 pub returns-then-is_digit : goal.returns-then-is_digit
 returns-then-is_digit c =
-    let k = c.before.before.before in
-    let s = k.before.before.before in
-    let a = s.args in
-    omega (arith, c.run_end.ensures, more-digit a.text.now a.at s.requires.0 s.requires.1 (sym k.is_digit.ensures ∙ c.if-is_digit.true))
+    let a = c.args in
+    omega (arith, c.run_end.ensures, more-digit a.text.now a.at c.requires.0 c.requires.1 (sym c.is_digit.ensures ∙ c.if-is_digit.true))
 
 pub returns-then-opens_word : goal.returns-then-opens_word
 returns-then-opens_word c =
-    let w = c.before.before.before in
-    let d = w.before in
-    let s = d.before.before.before.before in
-    let a = s.args in
-    omega (arith, c.run_end-then-opens_word.ensures, more-word a.text.now a.at s.requires.0 s.requires.1 (sym d.is_digit.ensures ∙ d.if-is_digit.false) (sym w.opens_word.ensures ∙ c.if-opens_word.true))
+    let a = c.args in
+    omega (arith, c.run_end-then-opens_word.ensures, more-word a.text.now a.at c.requires.0 c.requires.1 (sym c.is_digit.ensures ∙ c.if-is_digit.false) (sym c.opens_word.ensures ∙ c.if-opens_word.true))
 
 pub returns-then-begins_with : goal.returns-then-begins_with
-returns-then-begins_with c = let b = c.before.before in omega (arith, sign-arrow b.before.before (sym b.begins_with.ensures ∙ c.if-begins_with.true))
+returns-then-begins_with c = omega (arith, sign-arrow c.before.before.before.before.before (sym c.begins_with.ensures ∙ c.if-begins_with.true))
 
 pub returns-then-begins_with-2 : goal.returns-then-begins_with-2
 returns-then-begins_with-2 c =
-    let l = c.before.before in
-    let e = l.before.before in
-    let b = e.before in
-    omega (arith, sign-library b.before.before (sym b.begins_with.ensures ∙ e.if-begins_with.false) (sym l.begins_with-2.ensures ∙ c.if-begins_with-2.true))
+    omega (arith, sign-library c.before.before.before.before.before.before (sym c.begins_with.ensures ∙ c.if-begins_with.false) (sym c.begins_with-2.ensures ∙ c.if-begins_with-2.true))
 
 pub returns : goal.returns
 returns c =
-    let l = c.before.before in
-    let e = l.before.before in
-    let b = e.before in
-    omega (arith, sign-none b.before.before (sym b.begins_with.ensures ∙ e.if-begins_with.false) (sym l.begins_with-2.ensures ∙ c.if-begins_with-2.false))
+    omega (arith, sign-none c.before.before.before.before.before.before (sym c.begins_with.ensures ∙ c.if-begins_with.false) (sym c.begins_with-2.ensures ∙ c.if-begins_with-2.false))

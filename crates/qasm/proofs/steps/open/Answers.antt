@@ -39,36 +39,26 @@ entry-there c =
 
 pub returns-then-s-is_same : goal.returns-then-s-is_same
 returns-then-s-is_same c =
-    let k = c.before.before.before in
-    let s = start k in
+    let s = start c.before.before.before in
     let a = s.args in
-    open_creg a.text.now a.room a.s a.gates.now a.begin a.end s.requires.0 s.requires.1 (sym (tested k) ∙ c.if-s-is_same.true) c.go_to.ensures
+    open_creg a.text.now a.room a.s a.gates.now a.begin a.end s.requires.0 s.requires.1 (sym (tested c.before.before.before) ∙ c.if-s-is_same.true) c.go_to.ensures
 
 pub returns-then-e-eq-ENTRIES : goal.returns-then-e-eq-ENTRIES
 returns-then-e-eq-ENTRIES c =
-    let f = c.before.before.before.before.before in
-    let o = f.before.before in
-    let k = o.before in
-    let s = start k in
+    let s = start c.before.before.before.before.before.before.before.before in
     let a = s.args in
-    open_none a.text.now a.room a.s a.gates.now a.begin a.end s.requires.0 s.requires.1 (sym (tested k) ∙ o.if-s-is_same.false) (sym f.find-e.ensures ∙ c.if-e-eq-ENTRIES.true)
+    open_none a.text.now a.room a.s a.gates.now a.begin a.end s.requires.0 s.requires.1 (sym (tested c.before.before.before.before.before.before.before.before) ∙ c.if-s-is_same.false) (sym c.find-e.ensures ∙ c.if-e-eq-ENTRIES.true)
     (c.refuse.ensures ∙ ap (λ (n : ℕ). refused a.s n a.begin) c.wrong-number.ensures)
 
 pub open_gate-requires : goal.open_gate-requires
 open_gate-requires c =
-    let e = c.before.before in
-    let s = start e.before.before.before.before in
+    let s = start c.before.before.before.before.before.before in
     let m = s.requires.0 in
     let none = ap length s.requires.1 in
-    ((m.wide, omega (arith, m.few, m.inside.some, m.inside.within)), entry-there e)
+    ((m.wide, omega (arith, m.few, m.inside.some, m.inside.within)), entry-there c.before.before)
 
 pub returns : goal.returns
 returns c =
-    let g = c.before.before.before in
-    let e = g.before.before in
-    let f = e.before in
-    let o = f.before.before in
-    let k = o.before in
-    let s = start k in
+    let s = start c.before.before.before.before.before.before.before.before.before in
     let a = s.args in
-    open_gate a.text.now a.room a.s a.gates.now a.begin a.end s.requires.0 s.requires.1 (sym (tested k) ∙ o.if-s-is_same.false) f.find-e.ensures (entry-there e) g.open_gate.ensures
+    open_gate a.text.now a.room a.s a.gates.now a.begin a.end s.requires.0 s.requires.1 (sym (tested c.before.before.before.before.before.before.before.before.before) ∙ c.if-s-is_same.false) c.find-e.ensures (entry-there c.before.before.before.before.before) c.open_gate.ensures

@@ -22,7 +22,7 @@ digit c =
     (leb-true 49 p low, leb-true p 51 high)
 
 pub overflow_sub-words : goal.overflow_sub-words
-overflow_sub-words c = let t = c.before in t.requires.1 t.if-piece.true
+overflow_sub-words c = c.requires.1 c.if-piece.true
 
 pub overflow_sub-piece : goal.overflow_sub-piece
 overflow_sub-piece c = omega (arith, digit c.before)
@@ -32,10 +32,8 @@ overflow_add-words c = omega (arith, digit c.before)
 
 pub returns-then-piece : goal.returns-then-piece
 returns-then-piece c =
-    let p = c.before.before.before in
-    let t = p.before.before in
-    let a = t.args in
-    p.put.ensures ∙ ap (λ (b : Bool). cond b (put_word a.gates.now a.room (a.words - 5 + (a.piece - 48)) a.v) a.gates.now) (sym t.if-piece.true)
+    let a = c.args in
+    c.put.ensures ∙ ap (λ (b : Bool). cond b (put_word a.gates.now a.room (a.words - 5 + (a.piece - 48)) a.v) a.gates.now) (sym c.if-piece.true)
 
 pub returns-else-piece : goal.returns-else-piece
 returns-else-piece c =

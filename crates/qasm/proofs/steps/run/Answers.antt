@@ -34,8 +34,7 @@ gap_end-begin-requires c = c.requires.0
 
 pub loop-begin-init : goal.loop-begin-init
 loop-begin-init c =
-    let s = c.before.before.before.before.before.before in
-    let a = s.args in
+    let a = c.args in
     going_top a.text.now a.at a.room a.gates.now c.top-s.ensures c.gap_end-begin.ensures
 
 pub token_end-end-requires : goal.token_end-end-requires
@@ -46,42 +45,32 @@ step-s-requires c = (refl, may c.before.before)
 
 pub shape_of-gates-then-s-ne0 : goal.shape_of-gates-then-s-ne0
 shape_of-gates-then-s-ne0 c =
-    let p = c.before.before.before.before.before in
-    let k = p.before.before in
-    let a = (start k).args in
-    stepped-length a.text.now a.at a.room a.gates.now (head k).loop-begin.invariant k.loop-begin-test.true k.token_end-end.ensures p.step-s.ensures
+    let a = (start c.before.before.before.before.before.before.before).args in
+    stepped-length a.text.now a.at a.room a.gates.now (head c.before.before.before.before.before.before.before).loop-begin.invariant c.loop-begin-test.true c.token_end-end.ensures c.step-s.ensures
 
 pub returns-then-s-ne0 : goal.returns-then-s-ne0
 returns-then-s-ne0 c =
-    let p = c.before.before.before.before.before in
-    let k = p.before.before in
-    let a = (start k).args in
-    going_fault a.text.now a.at a.room a.gates.now (head k).loop-begin.invariant k.loop-begin-test.true k.token_end-end.ensures p.step-s.ensures c.if-s-ne0.true
+    let a = (start c.before.before.before.before.before.before.before).args in
+    going_fault a.text.now a.at a.room a.gates.now (head c.before.before.before.before.before.before.before).loop-begin.invariant c.loop-begin-test.true c.token_end-end.ensures c.step-s.ensures c.if-s-ne0.true
 
 pub gap_end-begin-requires-in-loop-begin : goal.gap_end-begin-requires-in-loop-begin
-gap_end-begin-requires-in-loop-begin c = let k = c.before.before.before.before.before.before.before in (may k).inside.within
+gap_end-begin-requires-in-loop-begin c = (may c.before.before.before.before.before.before.before).inside.within
 
 pub loop-begin-smaller : goal.loop-begin-smaller
 loop-begin-smaller c =
-    let k = c.before.before.before.before.before.before.before.before in
-    omega (arith, (may k).inside.some, (may k).inside.within, c.gap_end-begin-in-loop-begin.ensures.along, c.gap_end-begin-in-loop-begin.ensures.inside, k.loop-begin-test.true)
+    omega (arith, (may c.before.before.before.before.before.before.before.before).inside.some, (may c.before.before.before.before.before.before.before.before).inside.within, c.gap_end-begin-in-loop-begin.ensures.along, c.gap_end-begin-in-loop-begin.ensures.inside, c.loop-begin-test.true)
 
 pub loop-begin-preserved : goal.loop-begin-preserved
 loop-begin-preserved c =
-    let e = c.before.before in
-    let p = e.before.before.before.before in
-    let k = p.before.before in
-    let a = (start k).args in
-    going_on a.text.now a.at a.room a.gates.now (head k).loop-begin.invariant k.loop-begin-test.true k.token_end-end.ensures p.step-s.ensures e.if-s-ne0.false c.gap_end-begin-in-loop-begin.ensures
+    let a = (start c.before.before.before.before.before.before.before.before).args in
+    going_on a.text.now a.at a.room a.gates.now (head c.before.before.before.before.before.before.before.before).loop-begin.invariant c.loop-begin-test.true c.token_end-end.ensures c.step-s.ensures c.if-s-ne0.false c.gap_end-begin-in-loop-begin.ensures
 
 pub shape_of-gates : goal.shape_of-gates
 shape_of-gates c =
-    let l = c.before.before in
-    let a = l.args in
-    going_length a.text.now a.at a.room a.gates.now l.loop-begin.invariant
+    let a = c.args in
+    going_length a.text.now a.at a.room a.gates.now c.loop-begin.invariant
 
 pub returns : goal.returns
 returns c =
-    let l = c.before.before in
-    let a = l.args in
-    going_end a.text.now a.at a.room a.gates.now l.loop-begin.invariant c.loop-begin-test.false
+    let a = c.args in
+    going_end a.text.now a.at a.room a.gates.now c.loop-begin.invariant c.loop-begin-test.false

@@ -86,23 +86,16 @@ module _ (c : tie.After-fits2) where
 
 pub open-requires : goal.open-requires
 open-requires c =
-    let k = c.before.before.before in
-    let s = k.before.before.before.before in
-    (s.requires.1, due_none s.args.s.place s.requires.1.ready.place (sym k.piece_at-piece.ensures ∙ c.if-piece-eq-STOP.true))
+    (c.requires.1, due_none c.args.s.place c.requires.1.ready.place (sym c.piece_at-piece.ensures ∙ c.if-piece-eq-STOP.true))
 
 pub returns-then-not-fits : goal.returns-then-not-fits
 returns-then-not-fits c =
-    let w = c.before.before in
-    let e = w.before.before in
-    let f = e.before in
-    refused-here f (e.if-not-fits.true)
-    (c.refuse.ensures ∙ ap (λ (k : ℕ). refused (s f) k (start f).args.begin) (w.wrong-fault.ensures ∙ ap (λ (p : ℕ). wrong_by (eqb p 113 || eqb p 99) (get_or (t f) (start f).args.begin 0)) (is_b f)))
+    refused-here c.before.before.before.before (c.if-not-fits.true)
+    (c.refuse.ensures ∙ ap (λ (k : ℕ). refused (s c.before.before.before.before) k (start c.before.before.before.before).args.begin) (c.wrong-fault.ensures ∙ ap (λ (p : ℕ). wrong_by (eqb p 113 || eqb p 99) (get_or (t c.before.before.before.before) (start c.before.before.before.before).args.begin 0)) (is_b c.before.before.before.before)))
 
 pub put_index-requires : goal.put_index-requires
-put_index-requires c = let f = c.before.before.before in ((start f).requires.1.wide, index_held f)
+put_index-requires c = ((start c.before.before).requires.1.wide, index_held c.before.before)
 
 pub returns : goal.returns
 returns c =
-    let p = c.before.before.before.before in
-    let e = p.before.before in
-    moved_here e.before (e.if-not-fits.false) c.taken.ensures p.put_index.ensures
+    moved_here c.before.before.before.before.before.before (c.if-not-fits.false) c.taken.ensures c.put_index.ensures

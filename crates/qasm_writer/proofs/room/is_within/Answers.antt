@@ -44,7 +44,7 @@ loop-i-preserved c =
 
 pub returns : goal.returns
 returns c =
-    sym (c.loop-i.invariant ∙ none_left c.args.words.now c.loop-i.i c.loop-i.false c.loop-i-test.false)
+    sym (c.loop-i.invariant ∙ none_left c.args.words.now c.loop-i.i c.loop-i.left c.loop-i-test.false)
 
 pub decimal_length-requires : goal.decimal_length-requires
 decimal_length-requires c = tt

@@ -9,5 +9,5 @@ pub returns : goal.returns
 returns c =
     let s = c.args in
     let t = s.text.now in
-    c.check_effects.ensures ∙ (λ i. with_effects t s.seen (c.classical_blocks-v.ensures.0 i) (c.classical_blocks-v.ensures.1 i))
+    c.check_effects.ensures ∙ (λ i. with_effects t s.seen (c.classical_blocks-v.ensures.verdict i) (c.classical_blocks-v.ensures.words i))
     ∙ ap (with_blocks t s.seen s.channel.now) c.mark.ensures

@@ -9,5 +9,5 @@ pub returns : goal.returns
 returns c =
     let s = c.args in
     let t = s.text.now in
-    c.check_effects.ensures ∙ (λ i. with_effects t s.seen (c.povm_effects-v.ensures.0 i) (c.povm_effects-v.ensures.1 i))
+    c.check_effects.ensures ∙ (λ i. with_effects t s.seen (c.povm_effects-v.ensures.verdict i) (c.povm_effects-v.ensures.words i))
     ∙ ap (with_povm t s.seen s.channel.now) c.mark.ensures

@@ -12,8 +12,9 @@ returns c =
     let w = c.read-size.ensures in
     let e = fitted c.read-size.result.next c.read-size.result.size n c.fitting-start.ensures c.fitting.ensures in
     let b = fitted (c.read-size.result.next + c.read-size.result.size) 1 n e c.fitting-2.ensures in
-    let u : c.fitting-start.result ≤ c.fitting-start.result + c.fitting.result = omega arith in (
-      (λ i. record { start = c.fitting-start.ensures i; end = e i; next = b i })
-          ∙ (λ i. record { start = min (w i).next n; end = min ((w i).next + (w i).size) n; next = min ((w i).next + (w i).size + 1) n }),
-      (u, fitted_less (c.read-size.result.next + c.read-size.result.size) n e),
-    )
+    let u : c.fitting-start.result ≤ c.fitting-start.result + c.fitting.result = omega arith in
+    record {
+      line = (λ i. record { start = c.fitting-start.ensures i; end = e i; next = b i })
+          ∙ (λ i. record { start = min (w i).next n; end = min ((w i).next + (w i).size) n; next = min ((w i).next + (w i).size + 1) n });
+      inside = (u, fitted_less (c.read-size.result.next + c.read-size.result.size) n e);
+    }

@@ -39,4 +39,4 @@ returns c =
     let s = f.args in
     let e = sym (all_read 256 s.text.now s.at s.buf.now f.fitting-len.result c.loop-i.invariant c.loop-i-test.false) in
     let n = f.fitting-len.ensures ∙ ap (λ (w : Word). min w.size (length s.buf.now)) f.read-count.ensures in
-    ((λ i. record { len = n i; next = (e i).next }), (omega (arith, f.fitting-len.ensures), ap (λ (f : Filled ℕ). f.words) e))
+    record { part = (λ i. record { len = n i; next = (e i).next }); room = omega (arith, f.fitting-len.ensures); words = ap (λ (f : Filled ℕ). f.words) e }

@@ -28,7 +28,7 @@ loop-left-preserved c =
     let t = c.args.text.now in
     let v = a_word t c.read-place.result.next c.read-word.ensures in
     let e = c.put.ensures ∙ ap (set c.loop-left.buf c.read-place.result.size) v in
-    (search rules, c.loop-left.invariant.1 ∙ placed-more t c.loop-left.false c.loop-left.next c.loop-left.buf c.loop-left-test.true c.read-place.ensures c.read-word.ensures e)
+    (search rules, c.loop-left.invariant.1 ∙ placed-more t c.loop-left.left c.loop-left.next c.loop-left.buf c.loop-left-test.true c.read-place.ensures c.read-word.ensures e)
 
 pub returns : goal.returns
 returns c =
@@ -36,6 +36,6 @@ returns c =
     let t = s.text.now in
     let q0 = c.read-length.ensures in
     let q1 = following t s.at 0 q0 c.read-count.ensures in
-    let e = sym (sym (λ i. placed t (q1 i).size (q1 i).next (c.clear.ensures i)) ∙ c.loop-left.invariant.1 ∙ placed_end t c.loop-left.false c.loop-left.next c.loop-left.buf c.loop-left-test.false) in
+    let e = sym (sym (λ i. placed t (q1 i).size (q1 i).next (c.clear.ensures i)) ∙ c.loop-left.invariant.1 ∙ placed_end t c.loop-left.left c.loop-left.next c.loop-left.buf c.loop-left-test.false) in
     let n = c.fitting.ensures ∙ ap (λ (w : Word). min w.size (length s.buf.now)) q0 in
-    ((λ i. record { len = n i; next = (e i).next }), (omega (arith, c.fitting.ensures), ap (λ (f : Filled ℤ). f.words) e))
+    record { part = (λ i. record { len = n i; next = (e i).next }); room = omega (arith, c.fitting.ensures); words = ap (λ (f : Filled ℤ). f.words) e }

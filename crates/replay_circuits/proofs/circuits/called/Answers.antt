@@ -16,17 +16,17 @@ returns c =
     let s = c.args in
     let t = s.text.now in
     let n = s.kind in
-    let x = c.read_circuit-c.ensures.0 in
-    let store = taken (ap (λ (y : Circuit). y.stored) x) c.read_circuit-c.ensures.1.1.0 in
-    let gates = taken (ap (λ (y : Circuit). y.gates) x) c.read_circuit-c.ensures.1.1.1 in
-    let part = c.read_ends-layers.ensures.0 ∙ (λ i. ends_part n t (x i).next no_ends) in
-    let words = c.read_ends-layers.ensures.1.1 ∙ (λ i. ends_read n t (x i).next no_ends) in
+    let x = c.read_circuit-c.ensures.circuit in
+    let store = taken (ap (λ (y : Circuit). y.stored) x) c.read_circuit-c.ensures.store in
+    let gates = taken (ap (λ (y : Circuit). y.gates) x) c.read_circuit-c.ensures.gates in
+    let part = c.read_ends-layers.ensures.part ∙ (λ i. ends_part n t (x i).next no_ends) in
+    let words = c.read_ends-layers.ensures.ends ∙ (λ i. ends_read n t (x i).next no_ends) in
     let ends = taken (ap (λ (y : Part). y.len) part) words in
     let begin = c.begin.ensures ∙ (λ i. begun (part i).next) in
-    let v = c.asked-v.ensures.0 ∙ (λ i. asked_verdict n (x i) (store i) (gates i) (ends i) (c.mark.ensures i) (c.mark-2.ensures i)) in
-    let r = c.asked-v.ensures.1.0 ∙ (λ i. asked_result n (x i) (store i) (gates i) (ends i) (c.mark.ensures i) (c.mark-2.ensures i)) in
-    let w = c.asked-v.ensures.1.1 ∙ (λ i. asked_work n (x i) (store i) (gates i) (ends i) (c.mark.ensures i) (c.mark-2.ensures i)) in
-    (c.check_call.ensures ∙ (λ i. with_call t (begin i) (v i) (r i) (w i)), r)
+    let v = c.asked-v.ensures.verdict ∙ (λ i. asked_verdict n (x i) (store i) (gates i) (ends i) (c.mark.ensures i) (c.mark-2.ensures i)) in
+    let r = c.asked-v.ensures.res ∙ (λ i. asked_result n (x i) (store i) (gates i) (ends i) (c.mark.ensures i) (c.mark-2.ensures i)) in
+    let w = c.asked-v.ensures.work ∙ (λ i. asked_work n (x i) (store i) (gates i) (ends i) (c.mark.ensures i) (c.mark-2.ensures i)) in
+    record { held = c.check_call.ensures ∙ (λ i. with_call t (begin i) (v i) (r i) (w i)); res = r }
 
 pub slice_bounds-asked-end : goal.slice_bounds-asked-end
 slice_bounds-asked-end c = sym (length-take-le _ _ (search rules))

@@ -13,6 +13,6 @@ unfolding listing_case
 returns c =
     let s = c.args in
     let t = s.text.now in
-    let e = c.read_line-line.ensures.0 in
-    let answer = c.list-count.ensures.0 ∙ (λ i. write (page (replicate 202727 0) 0) (answer_of (line_is t s.at e i) (room 5200) (room 2000))) in
+    let e = c.read_line-line.ensures.line in
+    let answer = c.list-count.ensures.answer ∙ (λ i. write (page (replicate 202727 0) 0) (answer_of (line_is t s.at e i) (room 5200) (room 2000))) in
     c.said.ensures ∙ (λ i. with_said t (begun (e i).next) (answer i))

@@ -12,17 +12,13 @@ returns-then-kind-eq-LAYERED c =
     let s = c.args in
     let t = s.text.now in
     let l = s.ends.now in
-    let yes = eq-eqb s.kind layered c.if-kind-eq-LAYERED.true in (
-      c.read_u32s.ensures.0 ∙ sym (ap (λ (b : Bool). cond b (numbers_part 4294967296 t s.at l) (no_part s.at)) yes),
-      (c.read_u32s.ensures.1.0, c.read_u32s.ensures.1.1 ∙ sym (ap (λ (b : Bool). cond b (numbers_at 4294967296 t s.at l).words l) yes)),
-    )
+    let yes = eq-eqb s.kind layered c.if-kind-eq-LAYERED.true in
+    record { part = c.read_u32s.ensures.part ∙ sym (ap (λ (b : Bool). cond b (numbers_part 4294967296 t s.at l) (no_part s.at)) yes); room = c.read_u32s.ensures.room; ends = c.read_u32s.ensures.words ∙ sym (ap (λ (b : Bool). cond b (numbers_at 4294967296 t s.at l).words l) yes) }
 
 pub returns : goal.returns
 returns c =
     let s = c.args in
     let t = s.text.now in
     let l = s.ends.now in
-    let no = ne_eqb s.kind layered c.if-kind-eq-LAYERED.false in (
-      sym (ap (λ (b : Bool). cond b (numbers_part 4294967296 t s.at l) (no_part s.at)) no),
-      (zero-le, sym (ap (λ (b : Bool). cond b (numbers_at 4294967296 t s.at l).words l) no)),
-    )
+    let no = ne_eqb s.kind layered c.if-kind-eq-LAYERED.false in
+    record { part = sym (ap (λ (b : Bool). cond b (numbers_part 4294967296 t s.at l) (no_part s.at)) no); room = zero-le; ends = sym (ap (λ (b : Bool). cond b (numbers_at 4294967296 t s.at l).words l) no) }

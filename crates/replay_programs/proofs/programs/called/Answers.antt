@@ -15,7 +15,7 @@ returns c =
     let l = c.defaults.ensures in
     let r = c.mark.ensures in
     let w = c.mark-2.ensures in
-    let (verdict, (result, work)) = c.pauli_channel-v.ensures in
+    let record { value = verdict; res_after = result; work_after = work } = c.pauli_channel-v.ensures in
     let first = verdict ∙ (λ i. verdict_of n m σ (l i) ns os (r i) (w i)) in
     let after = result ∙ (λ i. result_after n m σ (l i) ns os (r i) (w i)) in
     let spent = work ∙ (λ i. work_after n m σ (l i) ns os (r i) (w i)) in

@@ -16,7 +16,7 @@ returns c =
     let x = c in
     let s = x.args in
     let t = s.text.now in
-    let e = x.read_line-line.ensures.0 in
+    let e = x.read_line-line.ensures.line in
     let q = x.read-room.ensures ∙ ap (λ (x : Line). word_at t x.next) e in
     let room = take-fitting x.fitting-n.result x.read-room.result.size no_words (x.fitting-n.ensures ∙ ap (min x.read-room.result.size) (sym (length-replicate {A = ℕ} 1024 0))) in
     x.was_read.ensures ∙ (λ i. with_read t (begun (q i).next) (line_is t s.at e i) ((room ∙ (λ j. take (q j).size no_words)) i))

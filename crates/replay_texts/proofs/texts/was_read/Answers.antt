@@ -6,4 +6,4 @@ use Rattle.replay_texts.proofs.texts.was_read.Goals as goal
 pub returns : goal.returns
 returns c =
     let t = c.args.text.now in
-    c.check_reading.ensures ∙ (λ i. with_reading t (c.begin.ensures i) (c.read_qasm-r.ensures.0 i) (c.read_qasm-r.ensures.1 i))
+    c.check_reading.ensures ∙ (λ i. with_reading t (c.begin.ensures i) (c.read_qasm-r.ensures.reply i) (c.read_qasm-r.ensures.gates i))

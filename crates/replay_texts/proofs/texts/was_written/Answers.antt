@@ -6,4 +6,4 @@ use Rattle.replay_texts.proofs.texts.was_written.Goals as goal
 pub returns : goal.returns
 returns c =
     let t = c.args.text.now in
-    c.check_writing.ensures ∙ (λ i. with_writing t (c.begin.ensures i) (c.write_qasm-r.ensures.0 i) (c.write_qasm-r.ensures.1 i))
+    c.check_writing.ensures ∙ (λ i. with_writing t (c.begin.ensures i) (c.write_qasm-r.ensures.value i) (c.write_qasm-r.ensures.out_after i))

@@ -10,8 +10,8 @@ pub returns : goal.returns
 returns c =
     let s = c.args in
     let t = s.text.now in
-    let m = c.edited-v.ensures.1 in
-    let first = c.check_verdict-first.ensures ∙ (λ i. with_verdict t (c.begin.ensures i) (c.edited-v.ensures.0 i)) in
+    let m = c.edited-v.ensures.words in
+    let first = c.check_verdict-first.ensures ∙ (λ i. with_verdict t (c.begin.ensures i) (c.edited-v.ensures.verdict i)) in
     let sum = c.checksum.ensures ∙ (λ i. checksum_of (m i)) in
     let left = c.number-left.ensures ∙ (λ i. with_number t (first i) (sum i)) in
     let kept = c.check_kept-kept.ensures ∙ (λ i. with_kept t (left i) (m i) s.store.now s.res s.work) in

@@ -8,5 +8,5 @@ pub returns : goal.returns
 returns c =
     let s = c.args in
     let t = s.text.now in
-    let judged = c.check_verdict-judged.ensures ∙ (λ i. with_verdict t s.seen (c.copy_gates-v.ensures.0 i)) in
-    c.check_words.ensures ∙ (λ i. with_numbers t (judged i) (c.copy_gates-v.ensures.1 i))
+    let judged = c.check_verdict-judged.ensures ∙ (λ i. with_verdict t s.seen (c.copy_gates-v.ensures.value i)) in
+    c.check_words.ensures ∙ (λ i. with_numbers t (judged i) (c.copy_gates-v.ensures.out_after i))

@@ -18,11 +18,11 @@ unfolding edit_case
 returns c =
     let s = c.args in
     let t = s.text.now in
-    let p = c.read_words-part.ensures.0 in
-    let words = taken (λ i. (p i).len) c.read_words-part.ensures.1.1 in
+    let p = c.read_words-part.ensures.part in
+    let words = taken (λ i. (p i).len) c.read_words-part.ensures.words in
     let e = c.read_edit-e.ensures ∙ (λ i. edit_at t (p i).next) in
-    let q = c.read_bytes-bytes.ensures.0 ∙ (λ i. numbers_part 256 t (e i).next (replicate 65 0)) in
-    let store = taken (λ i. (q i).len) (c.read_bytes-bytes.ensures.1.1 ∙ (λ i. (numbers_at 256 t (e i).next (replicate 65 0)).words-1)) in
+    let q = c.read_bytes-bytes.ensures.part ∙ (λ i. numbers_part 256 t (e i).next (replicate 65 0)) in
+    let store = taken (λ i. (q i).len) (c.read_bytes-bytes.ensures.words ∙ (λ i. (numbers_at 256 t (e i).next (replicate 65 0)).words-1)) in
     let n = (bytes t s.at).next in
     let w0 = c.read-result.ensures ∙ (λ i. word_at t (q i).next) in
     let w1 = following t n 0 w0 c.read-work.ensures in

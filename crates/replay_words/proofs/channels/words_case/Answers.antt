@@ -16,13 +16,13 @@ pub returns : goal.returns
 returns c =
     let s = c.args in
     let t = s.text.now in
-    let pl = c.read_words-l.ensures.0 in
-    let vl = c.read_words-l.ensures.1.1 in
-    let pr = c.read_words-r.ensures.0 ∙ (λ i. placed_part t (pl i).next (room 1300)) in
-    let vr = c.read_words-r.ensures.1.1 ∙ (λ i. (placed_at t (pl i).next (room 1300)).words) in
+    let pl = c.read_words-l.ensures.part in
+    let vl = c.read_words-l.ensures.words in
+    let pr = c.read_words-r.ensures.part ∙ (λ i. placed_part t (pl i).next (room 1300)) in
+    let vr = c.read_words-r.ensures.words ∙ (λ i. (placed_at t (pl i).next (room 1300)).words) in
     let n = c.read-length.ensures ∙ (λ i. word_at t (pr i).next) in
-    let pb = c.read_bytes-bytes.ensures.0 ∙ (λ i. numbers_part 256 t (n i).next (replicate 65 0)) in
-    let vb = c.read_bytes-bytes.ensures.1.1 ∙ (λ i. (numbers_at 256 t (n i).next (replicate 65 0)).words) in
+    let pb = c.read_bytes-bytes.ensures.part ∙ (λ i. numbers_part 256 t (n i).next (replicate 65 0)) in
+    let vb = c.read_bytes-bytes.ensures.words ∙ (λ i. (numbers_at 256 t (n i).next (replicate 65 0)).words) in
     let fits = c.fitting-e.ensures ∙ ap (min c.read-length.result.size) (sym (length-replicate {A = ℤ} 100 (pos 0))) in
     let effects = take-fitting c.fitting-e.result c.read-length.result.size (room 100) fits ∙ (λ i. take (n i).size (room 100)) in
     c.called.ensures ∙ (λ i. with_four t (begun (pb i).next) (take (pl i).len (vl i)) (take (pr i).len (vr i)) (take (pb i).len (vb i)) (effects i) (effects i))

@@ -15,11 +15,11 @@ pub returns : goal.returns
 returns c =
     let t = c.args.text.now in
     let pd = c.read-d.ensures in
-    let pl = c.read_words-l.ensures.0 ∙ (λ i. placed_part t (pd i).next (room 5120)) in
-    let vl = c.read_words-l.ensures.1.1 ∙ (λ i. (placed_at t (pd i).next (room 5120)).words) in
+    let pl = c.read_words-l.ensures.part ∙ (λ i. placed_part t (pd i).next (room 5120)) in
+    let vl = c.read_words-l.ensures.words ∙ (λ i. (placed_at t (pd i).next (room 5120)).words) in
     let pe = c.read-e.ensures ∙ (λ i. word_at t (pl i).next) in
-    let pr = c.read_words-r.ensures.0 ∙ (λ i. placed_part t (pe i).next (room 5120)) in
-    let vr = c.read_words-r.ensures.1.1 ∙ (λ i. (placed_at t (pe i).next (room 5120)).words) in
+    let pr = c.read_words-r.ensures.part ∙ (λ i. placed_part t (pe i).next (room 5120)) in
+    let vr = c.read_words-r.ensures.words ∙ (λ i. (placed_at t (pe i).next (room 5120)).words) in
     let answer = c.equivalent_up_to_global_phase-a.ensures ∙ (λ i. phase_answer (pd i).size (take (pl i).len (vl i)) (pe i).size (take (pr i).len (vr i))) in
     let begin = c.begin.ensures ∙ (λ i. begun (pr i).next) in
     c.check_phase.ensures ∙ (λ i. with_phase t (begin i) (answer i))

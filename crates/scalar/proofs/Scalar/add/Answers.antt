@@ -33,8 +33,7 @@ each-formed c = and_split (well_formed (left c.before.before)) (well_formed (rig
 
 pub returns-then-not-are_well_formed : goal.returns-then-not-are_well_formed
 returns-then-not-are_well_formed c =
-    let s = c.before.before.before in
-    c.refused.ensures ∙ sym (both_no (left s) (right s) (fitting (exact.◌⊕◌ (left s) (right s))) (sym c.are_well_formed.ensures ∙ c.if-not-are_well_formed.true))
+    c.refused.ensures ∙ sym (both_no (left c.before.before.before) (right c.before.before.before) (fitting (exact.◌⊕◌ (left c.before.before.before) (right c.before.before.before))) (sym c.are_well_formed.ensures ∙ c.if-not-are_well_formed.true))
 
 pub add_ordered-requires : goal.add_ordered-requires
 add_ordered-requires c = let g = each-formed c.before in (g.0, (g.1, omega arith))
@@ -44,12 +43,8 @@ add_ordered-requires-else-e-f c = let g = each-formed c.before in (g.1, (g.0, om
 
 pub returns-then-e-f : goal.returns-then-e-f
 returns-then-e-f c =
-    let k = c.before.before in
-    let s = k.before.before in
-    c.add_ordered.ensures ∙ sym (both_yes (left s) (right s) (fitting (exact.◌⊕◌ (left s) (right s))) (formed k))
+    c.add_ordered.ensures ∙ sym (both_yes (left c.before.before.before.before) (right c.before.before.before.before) (fitting (exact.◌⊕◌ (left c.before.before.before.before) (right c.before.before.before.before))) (formed c.before.before))
 
 pub returns-else-e-f : goal.returns-else-e-f
 returns-else-e-f c =
-    let k = c.before.before in
-    let s = k.before.before in
-    c.add_ordered-else-e-f.ensures ∙ ap fitting (exacts.add_comm (right s) (left s)) ∙ sym (both_yes (left s) (right s) (fitting (exact.◌⊕◌ (left s) (right s))) (formed k))
+    c.add_ordered-else-e-f.ensures ∙ ap fitting (exacts.add_comm (right c.before.before.before.before) (left c.before.before.before.before)) ∙ sym (both_yes (left c.before.before.before.before) (right c.before.before.before.before) (fitting (exact.◌⊕◌ (left c.before.before.before.before) (right c.before.before.before.before))) (formed c.before.before))

@@ -11,7 +11,7 @@ use Rattle.scalar.proofs.Questions.{asked-yes, formed, malformed}
 use Rattle.scalar.proofs.Scalar.conj.Goals as goal
 
 pub returns-then-not-is_well_formed : goal.returns-then-not-is_well_formed
-returns-then-not-is_well_formed c = let x = value c.args.self in malformed x c.is_well_formed.ensures (accepted (conj x)) c.refused.ensures c.if-not-is_well_formed.true
+returns-then-not-is_well_formed c = let x = value c.args.self in malformed x c.is_well_formed.ensures (accepted (conj x)) c.refused.ensures c.if-not-is_well_formed.true-raw
 
 pub neg4-y-requires : goal.neg4-y-requires
 neg4-y-requires c = let x = value c.args.self in well_within x (formed x c.is_well_formed.ensures c.if-not-is_well_formed.false-raw)

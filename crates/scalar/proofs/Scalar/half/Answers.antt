@@ -11,7 +11,7 @@ use Rattle.scalar.proofs.Questions.{asked-yes, formed, malformed}
 use Rattle.scalar.proofs.Scalar.half.Goals as goal
 
 pub returns-then-not-is_well_formed : goal.returns-then-not-is_well_formed
-returns-then-not-is_well_formed c = let x = value c.args.self in malformed x c.is_well_formed.ensures (fitting (half x)) c.refused.ensures c.if-not-is_well_formed.true
+returns-then-not-is_well_formed c = let x = value c.args.self in malformed x c.is_well_formed.ensures (fitting (half x)) c.refused.ensures c.if-not-is_well_formed.true-raw
 
 pub overflow_add-e : goal.overflow_add-e
 overflow_add-e c = let x = value c.args.self in omega (arith, well_exponent x (formed x c.is_well_formed.ensures c.if-not-is_well_formed.false-raw))

@@ -42,37 +42,25 @@ each-narrow c = and_split (narrow (left c.before.before.before.before)) (narrow 
 
 pub returns-then-not-are_well_formed : goal.returns-then-not-are_well_formed
 returns-then-not-are_well_formed c =
-    let s = c.before.before.before in
-    c.refused.ensures ∙ sym (both_no (left s) (right s) (narrow_answer (left s) (right s)) (sym c.are_well_formed.ensures ∙ c.if-not-are_well_formed.true))
+    c.refused.ensures ∙ sym (both_no (left c.before.before.before) (right c.before.before.before) (narrow_answer (left c.before.before.before) (right c.before.before.before)) (sym c.are_well_formed.ensures ∙ c.if-not-are_well_formed.true))
 
 pub returns-then-not-are_narrow : goal.returns-then-not-are_narrow
 returns-then-not-are_narrow c =
-    let n = c.before.before in
-    let s = n.before.before.before in
-    c.refused-then-not-are_narrow.ensures ∙ sym (mul_wide (left s) (right s) (formed n.before) (sym n.are_narrow.ensures ∙ c.if-not-are_narrow.true))
+    c.refused-then-not-are_narrow.ensures ∙ sym (mul_wide (left c.before.before.before.before.before) (right c.before.before.before.before.before) (formed c.before.before.before) (sym c.are_narrow.ensures ∙ c.if-not-are_narrow.true))
 
 pub product-z-requires : goal.product-z-requires
 product-z-requires c =
-    let k = c.before.before in
-    let s = k.before.before.before.before in
-    (narrow_bound (left s) (each-narrow k).0, narrow_bound (right s) (each-narrow k).1)
+    (narrow_bound (left c.before.before.before.before.before.before) (each-narrow c.before.before).0, narrow_bound (right c.before.before.before.before.before.before) (each-narrow c.before.before).1)
 
 pub overflow_add-e : goal.overflow_add-e
 overflow_add-e c =
-    let k = c.before.before.before in
-    let s = k.before.before.before.before in
-    omega (arith, narrow_exponent_lem (left s) (each-narrow k).0, narrow_exponent_lem (right s) (each-narrow k).1)
+    omega (arith, narrow_exponent_lem (left c.before.before.before.before.before.before.before) (each-narrow c.before.before.before).0, narrow_exponent_lem (right c.before.before.before.before.before.before.before) (each-narrow c.before.before.before).1)
 
 pub reduce-requires : goal.reduce-requires
 reduce-requires c =
-    let k = c.before.before.before in
-    let s = k.before.before.before.before in
-    omega (arith, narrow_exponent_lem (left s) (each-narrow k).0, narrow_exponent_lem (right s) (each-narrow k).1)
+    omega (arith, narrow_exponent_lem (left c.before.before.before.before.before.before.before) (each-narrow c.before.before.before).0, narrow_exponent_lem (right c.before.before.before.before.before.before.before) (each-narrow c.before.before.before).1)
 
 pub returns : goal.returns
 returns c =
-    let m = c.before in
-    let k = m.before.before.before in
-    let s = k.before.before.before.before in
-    ap accepted_as (c.reduce.ensures ∙ ap (λ (l : List ℤ). scalar_of (lowest (number_of l) ((left s).exp + (right s).exp))) m.product-z.ensures)
-    ∙ sym (mul-yes (left s) (right s) (formed k.before.before) (narrows k))
+    ap accepted_as (c.reduce.ensures ∙ ap (λ (l : List ℤ). scalar_of (lowest (number_of l) ((left c.before.before.before.before.before.before.before.before).exp + (right c.before.before.before.before.before.before.before.before).exp))) c.product-z.ensures)
+    ∙ sym (mul-yes (left c.before.before.before.before.before.before.before.before) (right c.before.before.before.before.before.before.before.before) (formed c.before.before.before.before.before.before) (narrows c.before.before.before.before))

@@ -9,7 +9,7 @@ use Rattle.scalar.proofs.Questions.{asked-yes, formed, malformed}
 use Rattle.scalar.proofs.Scalar.neg.Goals as goal
 
 pub returns-then-not-is_well_formed : goal.returns-then-not-is_well_formed
-returns-then-not-is_well_formed c = let x = value c.args.self in malformed x c.is_well_formed.ensures (accepted (exact.neg x)) c.refused.ensures c.if-not-is_well_formed.true
+returns-then-not-is_well_formed c = let x = value c.args.self in malformed x c.is_well_formed.ensures (accepted (exact.neg x)) c.refused.ensures c.if-not-is_well_formed.true-raw
 
 pub neg4-requires : goal.neg4-requires
 neg4-requires c = let x = value c.args.self in well_within x (formed x c.is_well_formed.ensures c.if-not-is_well_formed.false-raw)

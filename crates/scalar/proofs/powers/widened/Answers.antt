@@ -32,15 +32,13 @@ module _ (c : After-x-1) where
 
 pub returns : goal.returns
 returns c =
-    let last = c.before in
-    let x = last.before.before.before.before in
     λ i. record {
-      n = kept (numerator x 0) last.result-1.given i
-          ∷ kept (numerator x 1) last.result-2-1.given i
-          ∷ kept (numerator x 2) last.result-3-1.given i
-          ∷ kept (numerator x 3) last.result-4-1.given i
+      n = kept (numerator c.before.before.before.before.before 0) c.result-1.given i
+          ∷ kept (numerator c.before.before.before.before.before 1) c.result-2-1.given i
+          ∷ kept (numerator c.before.before.before.before.before 2) c.result-3-1.given i
+          ∷ kept (numerator c.before.before.before.before.before 3) c.result-4-1.given i
           ∷ [];
-      e = x.args.s.e;
+      e = c.args.s.e;
     }
 
 pub overflow_cast-result : goal.overflow_cast-result

@@ -46,10 +46,8 @@ loop-i-init c = read_none c.args.piece.now
 
 pub returns-then-not-is_digit : goal.returns-then-not-is_digit
 returns-then-not-is_digit c =
-    let k = c.before.before.before in
-    let l = k.before.before.before in
-    let bad = sym k.is_digit.ensures ∙ c.if-not-is_digit.true in
-    c.none-then-not-is_digit.ensures ∙ no_number_lem (piece l) (bad_digit (piece l) (sized l) (read_bad (piece l) l.loop-i.invariant k.loop-i-test.true bad))
+    let bad = sym c.is_digit.ensures ∙ c.if-not-is_digit.true in
+    c.none-then-not-is_digit.ensures ∙ no_number_lem (piece c.before.before.before.before.before.before) (bad_digit (piece c.before.before.before.before.before.before) (sized c.before.before.before.before.before.before) (read_bad (piece c.before.before.before.before.before.before) c.loop-i.invariant c.loop-i-test.true bad))
 
 pub with_digit-v-requires : goal.with_digit-v-requires
 with_digit-v-requires c =
@@ -66,26 +64,21 @@ loop-i-smaller c = omega arith
 
 pub loop-i-preserved : goal.loop-i-preserved
 loop-i-preserved c =
-    let k = c.before.before in
-    let l = at k in
-    subst (λ (v : ℕ). Reading (piece l) v (l.loop-i.i + 1)) (sym c.with_digit-v.ensures) (read_more (piece l) l.loop-i.invariant k.loop-i-test.true (right k))
+    let l = at c.before.before in
+    subst (λ (v : ℕ). Reading (piece l) v (l.loop-i.i + 1)) (sym c.with_digit-v.ensures) (read_more (piece l) l.loop-i.invariant c.loop-i-test.true (right c.before.before))
 
 pub returns-then-v-gt-MAX_NUMBER : goal.returns-then-v-gt-MAX_NUMBER
 returns-then-v-gt-MAX_NUMBER c =
-    let a = c.before.before.before in
-    let l = a.before in
-    let p = piece l in
-    let v = read-value p l.loop-i.invariant a.loop-i-test.false in
-    c.none-then-v-gt-MAX_NUMBER.ensures ∙ no_number_lem p (judged p (sized l) false (read-digits p l.loop-i.invariant a.loop-i-test.false) (lt-leb (value p) max_number (omega arith)))
+    let p = piece c.before.before.before.before in
+    let v = read-value p c.loop-i.invariant c.loop-i-test.false in
+    c.none-then-v-gt-MAX_NUMBER.ensures ∙ no_number_lem p (judged p (sized c.before.before.before.before) false (read-digits p c.loop-i.invariant c.loop-i-test.false) (lt-leb (value p) max_number (omega arith)))
 
 pub overflow_cast-result : goal.overflow_cast-result
 overflow_cast-result c = omega arith
 
 pub returns : goal.returns
 returns c =
-    let a = c.before.before in
-    let l = a.before in
-    let p = piece l in
-    let v = read-value p l.loop-i.invariant a.loop-i-test.false in
-    let yes = judged p (sized l) true (read-digits p l.loop-i.invariant a.loop-i-test.false) (le-leb (value p) max_number (omega arith)) in
+    let p = piece c.before.before.before in
+    let v = read-value p c.loop-i.invariant c.loop-i-test.false in
+    let yes = judged p (sized c.before.before.before) true (read-digits p c.loop-i.invariant c.loop-i-test.false) (le-leb (value p) max_number (omega arith)) in
     ap (λ (n : ℕ). record { ok = true; value = n }) (sym v) ∙ is_number_lem p yes

@@ -44,16 +44,12 @@ slice_bounds-put_refused-end c = let h = room c.before.before in search rules
 
 pub returns-then-s-names_gate : goal.returns-then-s-names_gate
 returns-then-s-names_gate c =
-    let p = c.before.before.before in
-    let t = p.before.before.before in
-    let a = (start t).args in
-    let e = gate_is a.gates.now a.s t.names_gate.ensures t.index-i.ensures t.if-s-names_gate.true in
-    text (ap (λ (gate : List ℕ). refused_text a.which a.r gate (length a.gates.now / gate_size)) e) p.Put-refused.ensures
+    let a = (start c.before.before.before.before.before.before).args in
+    let e = gate_is a.gates.now a.s c.names_gate.ensures c.index-i.ensures c.if-s-names_gate.true in
+    text (ap (λ (gate : List ℕ). refused_text a.which a.r gate (length a.gates.now / gate_size)) e) c.put_refused.ensures
 
 pub returns : goal.returns
 returns c =
-    let p = c.before.before.before in
-    let u = p.before.before.before in
-    let a = u.args in
-    let e = no_gate a.gates.now a.s u.names_gate.ensures u.index-i.ensures u.if-s-names_gate.false in
-    text (ap (λ (gate : List ℕ). refused_text a.which a.r gate (length a.gates.now / gate_size)) e) p.put_refused-2.ensures
+    let a = c.args in
+    let e = no_gate a.gates.now a.s c.names_gate.ensures c.index-i.ensures c.if-s-names_gate.false in
+    text (ap (λ (gate : List ℕ). refused_text a.which a.r gate (length a.gates.now / gate_size)) e) c.put_refused-2.ensures

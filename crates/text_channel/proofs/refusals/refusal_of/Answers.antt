@@ -8,7 +8,7 @@ use Rattle.text_channel.proofs.refusals.refusal_of.Goals as goal
 pub returns-then-names_gate : goal.returns-then-names_gate
 returns-then-names_gate c =
     let a = c.args in
-    at-gate a.text.now a.s c.if-s.true (sym c.names_gate.ensures ∙ c.if-names_gate.true) c.index.ensures c.find_gate-spot.ensures.0 c.refusal_at.ensures
+    at-gate a.text.now a.s c.if-s.true (sym c.names_gate.ensures ∙ c.if-names_gate.true) c.index.ensures c.find_gate-spot.ensures.position c.refusal_at.ensures
 
 pub returns-then-s : goal.returns-then-s
 returns-then-s c =
@@ -18,7 +18,7 @@ returns-then-s c =
 pub returns-then-number-eq8 : goal.returns-then-number-eq8
 returns-then-number-eq8 c =
     let a = c.args in
-    for_many a.text.now a.s c.if-s.false (eq-eqb (verdict_number a.s.verdict) 8 (sym c.number.ensures ∙ c.if-number-eq8.true)) c.find_gate-all.ensures.1 c.no_place-then-number-eq8.ensures
+    for_many a.text.now a.s c.if-s.false (eq-eqb (verdict_number a.s.verdict) 8 (sym c.number.ensures ∙ c.if-number-eq8.true)) (c.find_gate-all.ensures.position, c.find_gate-all.ensures.before) c.no_place-then-number-eq8.ensures
 
 pub returns : goal.returns
 returns c =

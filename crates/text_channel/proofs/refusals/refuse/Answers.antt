@@ -14,4 +14,4 @@ returns c =
     let a = c.args in
     let e = c.refusal_of-refusal.ensures in
     let g = a.gates.now in
-    (e, c.put_side-bytes.ensures.is ∙ ap (λ (x : Refusal). write (page a.out.now 0) (refused_text a.which x (faulty_gate g a.s) (length g / gate_size))) e)
+    record { refusal = e; text = c.put_side-bytes.ensures.is ∙ ap (λ (x : Refusal). write (page a.out.now 0) (refused_text a.which x (faulty_gate g a.s) (length g / gate_size))) e }

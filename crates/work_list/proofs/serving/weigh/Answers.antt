@@ -15,13 +15,13 @@ use Rattle.work_list.proofs.serving.weigh.Tie as tie
 use Rattle.work_list.proofs.serving.weigh.Goals as goal
 
 abbrev After-judge_circuit-j : Type 0
-After-judge_circuit-j = lts.After-judge_circuit tie.the-claims reads.Pre reads.Post
+After-judge_circuit-j = lts.After-judge_circuit tie.the-claims reads.Pre reads.Post tie.handed_clauses
 
 abbrev Start : Type 0
-Start = lts.Start tie.the-claims reads.Pre reads.Post
+Start = lts.Start tie.the-claims reads.Pre reads.Post tie.handed_clauses
 
 abbrev Then-is_accepted : Type 0
-Then-is_accepted = lts.Then1 tie.the-claims reads.Pre reads.Post
+Then-is_accepted = lts.Then1 tie.the-claims reads.Pre reads.Post tie.handed_clauses
 
 module _ (j : After-judge_circuit-j) where
   abbrev s : Start
@@ -39,22 +39,18 @@ yes t = sym t.is_accepted.ensures ∙ t.if-is_accepted.true
 
 pub count_terms-requires : goal.count_terms-requires
 count_terms-requires c =
-    let j = c.before.before.before in
-    let a = (s j).args in
-    let k = circuit j in
-    let m = small k.qubits k.bits k.store a.limits k.gates a.res a.work (sym (ap accepted j.judge_circuit-j.ensures.0) ∙ yes c.before) in
-    let same = ap (λ (n : ℕ). n / gate_size) (gates_long j) in
-    (m.qubits, omega (arith, m.splitting, j.judge_circuit-j.ensures.1 (yes c.before)), omega (arith, m.gates, same))
+    let a = (s c.before.before.before).args in
+    let k = circuit c.before.before.before in
+    let m = small k.qubits k.bits k.store a.limits k.gates a.res a.work (sym (ap accepted c.judge_circuit-j.ensures.verdict_value) ∙ yes c.before) in
+    let same = ap (λ (n : ℕ). n / gate_size) (gates_long c.before.before.before) in
+    (m.qubits, omega (arith, m.splitting, c.judge_circuit-j.ensures.splits_value (yes c.before)), omega (arith, m.gates, same))
 
 pub returns-then-is_accepted : goal.returns-then-is_accepted
 returns-then-is_accepted c =
-    let t = c.before.before in
-    let j = t.before.before in
-    let a = (s j).args in
-    weight-yes (circuit j) a.limits a.res a.work j.judge_circuit-j.ensures.0 (yes t) (ap (λ (n : ℕ). n / gate_size) (gates_long j)) (j.judge_circuit-j.ensures.1 (yes t)) c.count_terms.ensures
+    let a = (s c.before.before.before.before).args in
+    weight-yes (circuit c.before.before.before.before) a.limits a.res a.work c.judge_circuit-j.ensures.verdict_value (yes c.before.before) (ap (λ (n : ℕ). n / gate_size) (gates_long c.before.before.before.before)) (c.judge_circuit-j.ensures.splits_value (yes c.before.before)) c.count_terms.ensures
 
 pub returns : goal.returns
 returns c =
-    let j = c.before.before.before in
-    let a = (s j).args in
-    weight_no (circuit j) a.limits a.res a.work j.judge_circuit-j.ensures.0 (sym c.is_accepted.ensures ∙ c.if-is_accepted.false)
+    let a = (s c.before.before.before).args in
+    weight_no (circuit c.before.before.before) a.limits a.res a.work c.judge_circuit-j.ensures.verdict_value (sym c.is_accepted.ensures ∙ c.if-is_accepted.false)

@@ -19,9 +19,8 @@ returns-then-b-eq45 c = let s = c.args in sym (byte_is s.self s.b (eq-eqb s.b 45
 
 pub returns-then-not-is_digit : goal.returns-then-not-is_digit
 returns-then-not-is_digit c =
-    let a = c.before.before in
-    let s = a.args in
-    sym (byte_is s.self s.b (ne_eqb s.b 45 a.if-b-eq45.false) (sym c.is_digit.ensures ∙ c.if-not-is_digit.true) refl)
+    let s = c.args in
+    sym (byte_is s.self s.b (ne_eqb s.b 45 c.if-b-eq45.false) (sym c.is_digit.ensures ∙ c.if-not-is_digit.true) refl)
 
 -- the byte is a digit
 right : (c : Else-not-is_digit) → is_digit c.args.b ≡ true
@@ -29,17 +28,14 @@ right c = sym c.is_digit.ensures ∙ c.if-not-is_digit.false
 
 pub returns-then-size-gt-MAX_TENTH : goal.returns-then-size-gt-MAX_TENTH
 returns-then-size-gt-MAX_TENTH c =
-    let a = c.before.before.before in
-    let s = a.args in
-    sym (byte_is s.self s.b (ne_eqb s.b 45 a.if-b-eq45.false) (right c.before) (lt-ltb max_tenth s.self.size c.if-size-gt-MAX_TENTH.true))
+    let s = c.args in
+    sym (byte_is s.self s.b (ne_eqb s.b 45 c.if-b-eq45.false) (right c.before) (lt-ltb max_tenth s.self.size c.if-size-gt-MAX_TENTH.true))
 
 pub with_digit-requires : goal.with_digit-requires
 with_digit-requires c = (c.if-size-gt-MAX_TENTH.false, right c.before)
 
 pub returns : goal.returns
 returns c =
-    let e = c.before in
-    let a = e.before.before.before in
-    let s = a.args in
+    let s = c.args in
     (λ i. digits (c.with_digit.ensures i) s.self.negative)
-    ∙ sym (byte_is s.self s.b (ne_eqb s.b 45 a.if-b-eq45.false) (right e.before) (le-ltb max_tenth s.self.size e.if-size-gt-MAX_TENTH.false))
+    ∙ sym (byte_is s.self s.b (ne_eqb s.b 45 c.if-b-eq45.false) (right c.before.before) (le-ltb max_tenth s.self.size c.if-size-gt-MAX_TENTH.false))
