@@ -35,12 +35,13 @@ loop-i-preserved c =
     let s = c.args in
     let x = get_or s.s.now (s.at + c.loop-i.i) (pos 0) in
     let e = edge-word x c.x-1.given in
-    let v = c.loop-i.invariant.1 in
-    let g = or_lt 64 c.loop-i.g-bits _ v.0 (subst (λ (m : ℕ). m < 2 ^ 64) (sym e) (edge-fits x c.x-1.given)) in
-    (omega arith, (g, more (λ (i : ℕ). edge (get_or s.s.now (s.at + i) (pos 0))) v.1 e))
+    let bits = c.loop-i.auto.g in
+    let g = or_lt 64 c.loop-i.g-bits _ bits.fits (subst (λ (m : ℕ). m < 2 ^ 64) (sym e) (edge-fits x c.x-1.given)) in
+    (omega arith, of_z-to_z {w = w64} (record { fits = g })
+    ∙ more (λ (i : ℕ). edge (get_or s.s.now (s.at + i) (pos 0))) (sym (of_z-to_z {w = w64} bits) ∙ c.loop-i.invariant.1) e)
 
 pub returns : goal.returns
 returns c =
     let s = c.args in
     let e : c.loop-i.i ≡ s.n = omega arith in
-    of_z-to_z {w = w64} (record { fits = c.loop-i.invariant.1.0 }) ∙ c.loop-i.invariant.1.1 ∙ ap (edges s.s.now s.at) e
+    c.loop-i.invariant.1 ∙ ap (edges s.s.now s.at) e

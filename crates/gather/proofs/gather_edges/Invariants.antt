@@ -14,7 +14,7 @@ use mir.Val.{of_z}
 use Rattle.gather.proofs.gather_edges.Given as goal
 
 abbrev pub invariant-loop-i : goal.invariant-loop-i
-invariant-loop-i l = (l.i ≤ l.n) × (((of_z w64 l.g) < 2 ^ 64) × ((of_z w64 l.g) ≡ edges l.s l.at l.i))
+invariant-loop-i l = (l.i ≤ l.n) × (of_z w64 l.g ≡ edges l.s l.at l.i)
 
 abbrev pub decreases-loop-i : goal.decreases-loop-i
 decreases-loop-i l = l.n - l.i

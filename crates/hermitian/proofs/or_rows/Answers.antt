@@ -20,12 +20,10 @@ After-or_row-g = lts.After-or_row tie.the-claims reads.Pre reads.Post goal.the-i
 pub loop-r-init : goal.loop-r-init
 loop-r-init c =
     let none : 0 ≡ 0 * c.args.w * 4 = omega arith in
-    (omega arith, (omega arith, (ap (or_words c.args.s.now c.args.at) none, λ i h. absurd (omega arith))))
+    (omega arith, (ap (or_words c.args.s.now c.args.at) none, λ i h. absurd (omega arith)))
 
 pub or_row-g-requires : goal.or_row-g-requires
-or_row-g-requires c =
-    let v = c.loop-r.invariant.1 in
-    (c.requires.rows c.loop-r.r c.loop-r-test.true, of_z-to_z {w = w64} (record { fits = v.0 }) ∙ v.1.0)
+or_row-g-requires c = (c.requires.rows c.loop-r.r c.loop-r-test.true, c.loop-r.invariant.1.0)
 
 pub overflow_add-r : goal.overflow_add-r
 overflow_add-r c = omega arith
@@ -40,18 +38,16 @@ loop-r-preserved c =
     let more : r * n.w * 4 + n.w * 4 ≡ (r + 1) * n.w * 4 = omega arith in (
       omega arith,
       (
-        (Fits-of_z {w = w64} {z = c.or_row-g.result} (record { sfits = c.or_row-g.type_inv })).fits,
-        (
-          c.or_row-g.ensures.bits ∙ ap (or_words n.s.now n.at) more,
-          λ i h. fit c i (dec_lt i (r * n.w * 4)) (omega arith),
-        ),
+        of_z-to_z {w = w64} (Fits-of_z {w = w64} {z = c.or_row-g.result} (record { sfits = c.or_row-g.type_inv }))
+            ∙ c.or_row-g.ensures.bits ∙ ap (or_words n.s.now n.at) more,
+        λ i h. fit c i (dec_lt i (r * n.w * 4)) (omega arith),
       ),
     )
   where
     fit : (c : After-or_row-g) (i : ℕ)
         → let n = c.args in
         Dec (i < c.loop-r.r * n.w * 4) → i < c.loop-r.r * n.w * 4 + n.w * 4 → SFits w64 (get_or n.s.now (n.at + i) (pos 0))
-    fit c i (yes p) h = c.loop-r.invariant.1.1.1 i p
+    fit c i (yes p) h = c.loop-r.invariant.1.1 i p
     fit c i (no p) h = c.or_row-g.ensures.fit i (omega arith) h
 
 pub returns : goal.returns
@@ -60,4 +56,4 @@ returns c =
     let v = c.loop-r.invariant.1 in
     let q : c.loop-r.r ≡ n.w = omega (arith, c.loop-r.invariant.0) in
     let e = ap (λ (k : ℕ). k * n.w * 4) q in
-    record { bits = of_z-to_z {w = w64} (record { fits = v.0 }) ∙ v.1.0 ∙ ap (or_words n.s.now n.at) e; fit = λ i h. v.1.1 i (omega (arith, e)) }
+    record { bits = v.0 ∙ ap (or_words n.s.now n.at) e; fit = λ i h. v.1 i (omega (arith, e)) }

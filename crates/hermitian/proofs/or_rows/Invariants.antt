@@ -12,7 +12,7 @@ use Rattle.share.specs.Share.{or_words}
 use Rattle.hermitian.proofs.or_rows.Given as goal
 
 abbrev pub invariant-loop-r : goal.invariant-loop-r
-invariant-loop-r l = (l.r ≤ l.w) × (((of_z w64 l.g) < 2 ^ 64) × (((of_z w64 l.g) ≡ or_words l.s l.at (l.r * l.w * 4)) × ((i : ℕ) → i < l.r * l.w * 4 → SFits w64 (get_or l.s (l.at + i) (pos 0)))))
+invariant-loop-r l = (l.r ≤ l.w) × ((of_z w64 l.g ≡ or_words l.s l.at (l.r * l.w * 4)) × ((i : ℕ) → i < l.r * l.w * 4 → SFits w64 (get_or l.s (l.at + i) (pos 0))))
 
 abbrev pub decreases-loop-r : goal.decreases-loop-r
 decreases-loop-r l = l.w - l.r

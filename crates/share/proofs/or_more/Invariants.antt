@@ -16,7 +16,7 @@ use Rattle.share.specs.Share.{or_words}
 use Rattle.share.proofs.or_more.Given as goal
 
 abbrev pub invariant-loop-i : goal.invariant-loop-i
-invariant-loop-i l = (l.k ≤ l.i) × ((l.i ≤ l.k + l.n) × (((of_z w64 l.h) < 2 ^ 64) × (((of_z w64 l.h) ≡ or_words l.s l.at l.i) × ((j : ℕ) → l.k ≤ j → j < l.i → SFits w64 (word l.s (l.at + j))))))
+invariant-loop-i l = (l.k ≤ l.i) × ((l.i ≤ l.k + l.n) × ((of_z w64 l.h ≡ or_words l.s l.at l.i) × ((j : ℕ) → l.k ≤ j → j < l.i → SFits w64 (word l.s (l.at + j)))))
 
 abbrev pub decreases-loop-i : goal.decreases-loop-i
 decreases-loop-i l = l.k + l.n - l.i

@@ -24,7 +24,7 @@ module _ (z : ℤ) (h : mag z < 2 ^ 7) where
   fits = sfits_widen tt (sfits_to_z (Fits-of_z byte))
 
   kept : to_z w64 (of_z w64 (to_z w8 (of_z w8 z))) ≡ z
-  kept = ap (λ (x : ℤ). to_z w64 (of_z w64 x)) (to_z-of_z byte) ∙ to_z-of_z (sfits_widen tt byte)
+  kept = ap (λ (x : ℤ). to_z w64 (of_z w64 x)) (to_z-of_z {w = w8} byte) ∙ to_z-of_z {w = w64} (sfits_widen tt byte)
 
 module _ (c : After-x-1) where
   abbrev numerator : ℕ → ℤ
