@@ -7,11 +7,11 @@ use Rattle.answers.proofs.reasons.put_reason.Goals as goal
 pub slice_bounds-put_all-count : goal.slice_bounds-put_all-count
 slice_bounds-put_all-count c = let q = part_of c.args.v c.number-k.ensures in search rules
 
-part-put-all-start : tie.Need-slice-bounds-put-all-start
-part-put-all-start c = let q = part_of c.args.v c.number-k.ensures in search rules
+pub slice_bounds-put_all-start : goal.slice_bounds-put_all-start
+slice_bounds-put_all-start c = let q = part_of c.args.v c.number-k.ensures in search rules
 
-part-put-all-end : tie.Need-slice-bounds-put-all-end
-part-put-all-end c = let q = part_of c.args.v c.number-k.ensures in search rules
+pub slice_bounds-put_all-end : goal.slice_bounds-put_all-end
+slice_bounds-put_all-end c = let q = part_of c.args.v c.number-k.ensures in search rules
 
 pub returns : goal.returns
 returns c =

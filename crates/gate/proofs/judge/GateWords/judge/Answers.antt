@@ -20,7 +20,7 @@ returns-in-Unitary c =
     let a = c.args in
     c.first_fault-in-Unitary.ensures
     ∙ (λ j. first_no (three_answers a.i (c.is_formed-formed.ensures j) (c.is_on_qubits-placed.ensures j) (c.is_supported-supported.ensures j && eqb (c.splits-splits.ensures j) 0)))
-    ∙ sym (ap (λ (b : Asking). first_no (gate_questions b a.n a.i (gate_of a.self))) c.enum_told-1.given.1)
+    ∙ sym (ap (λ (b : Asking). first_no (gate_questions b a.n a.i (gate_of a.self))) c.in-Unitary.is)
 
 pub returns-in-Placing : goal.returns-in-Placing
 returns-in-Placing c =
