@@ -129,13 +129,13 @@ loop-left-preserved c =
     let e = next c.before.before in
     let l = (turn e).loop-left in
     let s = (start e).args in
-    let at = nat_abs (to_z w64 l.z) in (
+    let at = nat_abs (to_z w64 l.z-bits) in (
       omega arith,
-      l.inv.1 ∙ goes_on _ _ _ _ l.left (to_z w64 l.z) l.first l.prev e.loop-left-test.true (tested e) (right c.before.before)
+      l.invariant.1 ∙ goes_on _ _ _ _ l.left (to_z w64 l.z-bits) l.first l.prev e.loop-left-test.true (tested e) (right c.before.before)
           ∙ (λ i. chain_ok (F e) s.s.now s.m s.count (l.left - 1) (sym (reads (word s.s.now at) c.z-in-loop-left-1.given) i) false (sym c.read_store-prev.ensures i)),
     )
 
 pub returns : goal.returns
 returns c =
     let l = c.loop-left in
-    bits-zero l.z ∙ sym (l.invariant.1 ∙ chain-end _ _ _ _ l.left (to_z w64 l.z) l.first l.prev c.loop-left-test.false)
+    bits-zero l.z-bits ∙ sym (l.invariant.1 ∙ chain-end _ _ _ _ l.left (to_z w64 l.z-bits) l.first l.prev c.loop-left-test.false)

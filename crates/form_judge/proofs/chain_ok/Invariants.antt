@@ -25,7 +25,7 @@ use mir.Val.{of_z}
 use Rattle.form_judge.proofs.chain_ok.Given as goal
 
 abbrev pub invariant-loop-left : goal.invariant-loop-left
-invariant-loop-left l = (l.left ≤ l.count) × (chain_ok (form_of l.w l.f) l.s l.m l.count l.count (word l.s 3) true 0 ≡ chain_ok (form_of l.w l.f) l.s l.m l.count l.left (to_z w64 (of_z w64 l.z)) l.first l.prev)
+invariant-loop-left l = (l.left ≤ l.count) × (chain_ok (form_of l.w l.f) l.s l.m l.count l.count (word l.s 3) true 0 ≡ chain_ok (form_of l.w l.f) l.s l.m l.count l.left l.z l.first l.prev)
 
 abbrev pub decreases-loop-left : goal.decreases-loop-left
 decreases-loop-left l = l.left

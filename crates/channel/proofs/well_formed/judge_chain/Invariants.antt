@@ -23,7 +23,7 @@ use mir.Val.{of_z}
 use Rattle.channel.proofs.well_formed.judge_chain.Given as goal
 
 abbrev pub invariant-loop-left : goal.invariant-loop-left
-invariant-loop-left l = (l.left ≤ l.count) × (verdict l.s l.w l.m l.count l.count (word l.s 3) true 0 false ≡ verdict l.s l.w l.m l.count l.left (to_z w64 (of_z w64 l.z)) l.first l.prev l.zero)
+invariant-loop-left l = (l.left ≤ l.count) × (verdict l.s l.w l.m l.count l.count (word l.s 3) true 0 false ≡ verdict l.s l.w l.m l.count l.left l.z l.first l.prev l.zero)
 
 abbrev pub decreases-loop-left : goal.decreases-loop-left
 decreases-loop-left l = l.left
