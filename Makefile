@@ -1,4 +1,4 @@
-# make            the archive libforeituka.a (the first time this proves everything in it, for some minutes) and the command ./foreituka
+# make            the archive libforeituka.a (the first time this proves everything in it, which takes a while) and the command ./foreituka
 # make check      the command's tests
 # make install    header, archive, command, man page and pkg-config file; PREFIX=/usr/local, DESTDIR= stands before every path
 # make uninstall, make clean; make distclean removes the proved crates too
@@ -51,9 +51,9 @@ uninstall:
 clean:
 	rm -rf foreituka target/foreituka.pc target/staticlib target/archive.*
 
-# all of target/: the next build proves everything
+# all of target/ and what the prover keeps: the next build proves everything
 distclean: clean
-	rm -rf target
+	rm -rf target crates/*/out
 
 always:
 .PHONY: all check install uninstall clean distclean always

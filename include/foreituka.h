@@ -1,5 +1,5 @@
 /*
- * Foreituka: a proved judge of quantum circuits. Link with libforeituka.a, which `rt staticlib foreituka` writes, for x86-64 Linux.
+ * Foreituka: a proved judge of quantum circuits. Link with libforeituka.a, which `rt lib` in crates/foreituka writes, for x86-64 Linux.
  *
  * All memory is the caller's: no call allocates, keeps a pointer, prints or fails other than by a number. docs/FORMATS.md has every
  * word of every layout, docs/CONTRACTS.md what each call promises.
