@@ -6,4 +6,4 @@ use Rattle.c_packed.proofs.pack_channel.Goals as goal
 pub returns : goal.returns
 returns c =
     let j = c.pack_channel-v in
-    record { value = c.report.ensures.value ∙ ap verdict_number j.ensures.0; index_after = c.report.ensures.index_after ∙ ap verdict_index j.ensures.0; res_after = j.ensures.1 }
+    record { value = c.report.ensures.value ∙ ap verdict_number j.ensures.verdict; index_after = c.report.ensures.index_after ∙ ap verdict_index j.ensures.verdict; res_after = j.ensures.words }

@@ -22,24 +22,20 @@ use Rattle.form_calls.proofs.read_form.Goals as goal
 abbrev After-is_accepted : Type 0
 After-is_accepted = lts.After-is_accepted tie.the-claims reads.Pre reads.Post tie.handed_clauses
 
-abbrev Start : Type 0
-Start = lts.Start tie.the-claims reads.Pre reads.Post tie.handed_clauses
 
 abbrev Else-not-is_accepted : Type 0
 Else-not-is_accepted = lts.Else1 tie.the-claims reads.Pre reads.Post tie.handed_clauses
 
 module _ (k : After-is_accepted) where
-  abbrev start : Start
-  start = k.before.before.before
 
   abbrev l : List ℤ
-  l = start.args.words.now
+  l = k.args.words.now
 
   abbrev f : Parts
-  f = start.args.f
+  f = k.args.f
 
   abbrev res : List ℤ
-  res = start.args.res.now
+  res = k.args.res.now
 
   abbrev shape : Shape
   shape = k.judge_read-h.result

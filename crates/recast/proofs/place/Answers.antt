@@ -25,7 +25,7 @@ module _ (c : After-entry_size-size) where
       (rows_small start.args.w start.args.r start.args.f.half (omega (arith, start.requires.row)) start.requires.width)
 
   cells-small : c.row_start-start.result + (start.args.c - c.first_column-skipped.result) ≤ 70000
-  cells-small = omega (arith, start.requires.col, start.requires.width)
+  cells-small = omega (arith, start_small, start.requires.col, start.requires.width)
 
   size_small : c.entry_size-size.result ≤ 4
   size_small = subst (λ (k : ℕ). k ≤ 4) (sym c.entry_size-size.ensures) (entry-most start.args.f.plain)

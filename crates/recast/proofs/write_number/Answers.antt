@@ -39,9 +39,9 @@ bounds-s-p-then-plain c = let s = start c.before in simp length-set (omega (arit
 pub returns-then-plain : goal.returns-then-plain
 returns-then-plain c =
     let s = (start c.before).args in
-    let p0 = reads (get_or s.t4 0 (pos 0)) c.a-1.given in
-    let p2 = reads (get_or s.t4 2 (pos 0)) c.c-1.given in
-    (λ i. set (set s.s.now s.p (p0 i)) (add-one s.p i) (p2 i)) ∙ sym (ap (λ (q : Bool). sets s.s.now s.p (entry_words q (number_of s.t4))) c.if-plain.true)
+    let p0 = reads (get_or s.x 0 (pos 0)) c.a-1.given in
+    let p2 = reads (get_or s.x 2 (pos 0)) c.c-1.given in
+    (λ i. set (set s.s.now s.p (p0 i)) (add-one s.p i) (p2 i)) ∙ sym (ap (λ (q : Bool). sets s.s.now s.p (entry_words q (number_of s.x))) c.if-plain.true)
 
 pub bounds-s-p-2 : goal.bounds-s-p-2
 bounds-s-p-2 c = let q = four c in omega arith
@@ -58,9 +58,9 @@ bounds-s-p-5 c = let q = four c in simp length-set (omega arith)
 pub returns : goal.returns
 returns c =
     let s = (start c.before).args in
-    let p0 = reads (get_or s.t4 0 (pos 0)) c.a-1.given in
-    let p1 = reads (get_or s.t4 1 (pos 0)) c.b-1.given in
-    let p2 = reads (get_or s.t4 2 (pos 0)) c.c-1.given in
-    let p3 = reads (get_or s.t4 3 (pos 0)) c.d-1.given in
+    let p0 = reads (get_or s.x 0 (pos 0)) c.a-1.given in
+    let p1 = reads (get_or s.x 1 (pos 0)) c.b-1.given in
+    let p2 = reads (get_or s.x 2 (pos 0)) c.c-1.given in
+    let p3 = reads (get_or s.x 3 (pos 0)) c.d-1.given in
     (λ i. set (set (set (set s.s.now s.p (p0 i)) (add-one s.p i) (p1 i)) (add-two s.p i) (p2 i)) (add-three s.p i) (p3 i))
-    ∙ sym (ap (λ (q : Bool). sets s.s.now s.p (entry_words q (number_of s.t4))) c.if-plain.false)
+    ∙ sym (ap (λ (q : Bool). sets s.s.now s.p (entry_words q (number_of s.x))) c.if-plain.false)

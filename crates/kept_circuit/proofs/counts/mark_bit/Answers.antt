@@ -27,7 +27,7 @@ After-follow-after = lts.After-follow2 tie.the-claims reads.Pre reads.Post
 -- the words after the first move
 module _ (c : After-move_count) where
   abbrev s : Start
-  s = c.before.before.before.before
+  s = c.before.before.before
 
   abbrev at : ℕ
   at = measures_place + s.args.b
@@ -54,7 +54,7 @@ move_count-requires-then-before-after c = (within_more (once c.before.before.bef
 -- the test, and what it chooses
 module _ (c : After-follow-after) where
   abbrev m : After-move_count
-  m = c.before.before.before
+  m = c.before.before
 
   abbrev l : List ℤ
   l = (s m).args.words.now

@@ -51,7 +51,7 @@ x s = put (counted true (l s) (g s)) (gates_of (l s)) (g s)
 -- the counts are sound
 module _ (c : Else-not-is_sound) where
   abbrev s : Start
-  s = c.before.before.before
+  s = c.before.before
 
   sound-true : sound (l s) ≡ true
   sound-true = sym c.is_sound.ensures ∙ c.if-not-is_sound.false
@@ -73,7 +73,7 @@ room_in-room-requires c = (sound-words c.before).long
 -- the position, and the room
 module _ (c : After-room_in-room) where
   abbrev o : Else-not-is_sound
-  o = c.before.before.before
+  o = c.before.before
 
   count-gates : c.follow-count.result ≡ gates_of (l (s o))
   count-gates = c.follow-count.ensures
@@ -94,7 +94,7 @@ module _ (c : After-is_accepted) where
   q = c.before
 
   abbrev f : Else-room-count
-  f = q.before.before
+  f = q.before
 
   abbrev k : After-room_in-room
   k = f.before

@@ -52,7 +52,7 @@ x s = put (counted false (l s) (gate_in (l s) (last_of (l s)))) (last_of (l s)) 
 -- the counts are sound
 module _ (c : Else-not-is_sound) where
   abbrev s : Start
-  s = c.before.before.before
+  s = c.before.before
 
   sound-true : sound (l s) ≡ true
   sound-true = sym c.is_sound.ensures ∙ c.if-not-is_sound.false
@@ -77,10 +77,10 @@ module _ (c : After-is_accepted) where
   q = c.before
 
   abbrev n : After-one_less-i
-  n = q.before.before
+  n = q.before
 
   abbrev o : Else-not-is_sound
-  o = n.before.before.before
+  o = n.before.before
 
   abbrev b : Start
   b = s o
@@ -114,7 +114,7 @@ module _ (c : After-write_gate-arg-1) where
   fits : gate_place (i k) + gate_size ≤ length (l (b k))
   fits = place_in (sound-words (o k)) (i k) (taken k t.if-is_accepted.true).inside
 
-  fits_still : gate_place (i k) + gate_size ≤ length w.take_out.last.0
+  fits_still : gate_place (i k) + gate_size ≤ length w.take_out.new.words
   fits_still = omega (arith, fits, ap length w.take_out.ensures, length-counted false (l (b k)) (gate_in (l (b k)) (i k)))
 
 pub returns-then-is_accepted : goal.returns-then-is_accepted

@@ -54,7 +54,7 @@ x s = put (counted true (counted false (l s) (gate_in (l s) s.args.i)) (g s)) s.
 -- the counts are sound
 module _ (c : Else-not-is_sound) where
   abbrev s : Start
-  s = c.before.before.before
+  s = c.before.before
 
   sound-true : sound (l s) ≡ true
   sound-true = sym c.is_sound.ensures ∙ c.if-not-is_sound.false
@@ -76,7 +76,7 @@ module _ (c : After-is_accepted) where
   q = c.before
 
   abbrev o : Else-not-is_sound
-  o = q.before.before
+  o = q.before
 
   abbrev b : Start
   b = s o
@@ -99,7 +99,7 @@ module _ (c : After-is_accepted-then-is_accepted) where
   u = c.before
 
   abbrev t : Then-is_accepted
-  t = u.before.before
+  t = u.before
 
   abbrev k : After-is_accepted
   k = t.before

@@ -37,11 +37,11 @@ pub power-rows-requires : goal.power-rows-requires
 power-rows-requires c = omega (arith, few_qubits c.requires.1)
 
 pub power-branches-requires : goal.power-branches-requires
-power-branches-requires c = omega (arith, few-splits (start c.before).requires.1, ap (λ (f : ProgramFootprint). f.counts-1.splits) (start c.before).requires.0)
+power-branches-requires c = omega (arith, few-splits (start c.before).requires.1, ap (λ (f : ProgramFootprint). f.counts.splits) (start c.before).requires.0)
 
 -- how many branches there are
 many : (c : After-power-branches) → c.power-branches.result ≡ 2 ^ total splits (operations_of (start c.before).args.operations.now)
-many c = c.power-branches.ensures ∙ ap (λ (f : ProgramFootprint). 2 ^ f.counts-1.splits) (start c.before).requires.0
+many c = c.power-branches.ensures ∙ ap (λ (f : ProgramFootprint). 2 ^ f.counts.splits) (start c.before).requires.0
 
 pub run_program-at-requires : goal.run_program-at-requires
 run_program-at-requires c =
@@ -60,7 +60,7 @@ work_words-used-requires c =
 -- the words that are cleared, as they are counted
 module _ (q : After-work_words-used) where
   abbrev ran : After-run_program-at
-  ran = q.before.before.before.before.before.before
+  ran = q.before.before.before.before.before
 
   abbrev banked : After-power-branches
   banked = ran.before.before

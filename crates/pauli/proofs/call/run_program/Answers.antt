@@ -18,7 +18,7 @@ pub judge_nodes-requires : goal.judge_nodes-requires
 judge_nodes-requires c = (omega (arith, few_qubits c.requires.accepted), omega (arith, few-nodes c.requires.accepted), search rules)
 
 -- with the mask forms of all nodes
-ready : (j : After-judge_nodes) → Runs j.args.work.now j.args.operations.now j.judge_nodes.new.n.1.0 j.args.store.now j.args.qubits j.args.d j.args.banks (nodes_of j.args.nodes.now)
+ready : (j : After-judge_nodes) → Runs j.args.work.now j.args.operations.now j.judge_nodes.new.masks j.args.store.now j.args.qubits j.args.d j.args.banks (nodes_of j.args.nodes.now)
 ready j =
     runs j.requires.accepted j.requires.dim j.requires.count (j.judge_nodes.ensures.gate_size_after (ap accepted j.judge_nodes.ensures.value ∙ nodes-accepted j.requires.accepted))
     (omega (arith, few-nodes j.requires.accepted))

@@ -30,7 +30,7 @@ returns-then-is_accepted c =
     after-yes (nodes_questions a.n 0 (gates_of a.nodes.now)) (asked c.before.before.before.before.before.before.before.before.before.before) (nodes_refuse a.n 0 (gates_of a.nodes.now)) c.judge_nodes-v.ensures.value good
     (c.judge_operations.ensures
     ∙ ap (λ (fits : Reference → Bool). first_no (operations_questions fits a.bits 0 0 (gates_of a.operations.now)))
-    (fits-same a.n c.requires.0 a.nodes.now c.judge_nodes-v.new.n.1.0 c.judge_nodes-v.ensures.value good (c.judge_nodes-v.ensures.gate_size_after good)))
+    (fits-same a.n c.requires.0 a.nodes.now c.judge_nodes-v.new.masks c.judge_nodes-v.ensures.value good (c.judge_nodes-v.ensures.gate_size_after good)))
 
 pub returns : goal.returns
 returns c =

@@ -26,7 +26,7 @@ overflow_add-second c = omega (arith, c.requires.1.1)
 
 pub axis_rows-requires-2 : goal.axis_rows-requires-2
 axis_rows-requires-2 c =
-    ((mod-lt (c.args.m / 4) (omega arith), mod-lt c.args.m (omega arith)), (omega (arith, c.requires.1.1, c.axis_rows.auto.0), other-small c.coefficients-b.ensures (coefficients_small (gate_of c.args.w) c.requires.0 1)))
+    ((mod-lt (c.args.m / 4) (omega arith), mod-lt c.args.m (omega arith)), (omega (arith, c.requires.1.1, c.axis_rows.auto.buf), other-small c.coefficients-b.ensures (coefficients_small (gate_of c.args.w) c.requires.0 1)))
 
 pub returns : goal.returns
 returns c =

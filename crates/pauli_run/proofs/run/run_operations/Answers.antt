@@ -129,7 +129,7 @@ loop-i-preserved c = let a = (turn c.before).before in λ nodes r.
     (stepped c.before).step_operation-count.ensures.0 (ap (λ (k : ℕ). a.loop-i.made + k) (made_is c.before)) (stepped c.before).step_operation-count.ensures.1
 
 left : (c : After-loop-i) → let s = (given c.before).args in
-    (nodes :.before List Node) → Runs s.work.now s.operations.now s.masks.now s.store.now s.n s.d s.banks nodes
+    (nodes : List Node) → Runs s.work.now s.operations.now s.masks.now s.store.now s.n s.d s.banks nodes
     → Ran s.work.now c.loop-i.work s.operations.now s.store.now s.n s.d s.banks c.loop-i.from nodes
 left c nodes r = ends r (begun c.before).start_branch.ensures (c.loop-i.invariant nodes (runs r (begun c.before).start_branch.ensures)) c.loop-i-test.false
 

@@ -30,13 +30,13 @@ Start = lts.Start tie.the-claims reads.Pre reads.Post
 
 -- src/run.rt:60:5
 pub write_operators-requires : goal.write_operators-requires
-write_operators-requires c = (c.requires.ranges.formed, (c.requires.dim, c.requires.room))
+write_operators-requires c = (c.requires.fits.formed, (c.requires.dim, c.requires.room))
 
 pub shift_of-shift-requires : goal.shift_of-shift-requires
-shift_of-shift-requires c = c.requires.ranges.outcome
+shift_of-shift-requires c = c.requires.fits.outcome
 
 pub bit_of-bit-requires : goal.bit_of-bit-requires
-bit_of-bit-requires c = c.requires.ranges.formed
+bit_of-bit-requires c = c.requires.fits.formed
 
 -- after the calls before the step
 module _ (q : After-splits_of) where

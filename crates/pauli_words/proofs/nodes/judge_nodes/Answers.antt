@@ -43,7 +43,7 @@ overflow_add-first c = omega (arith, (begun c.before).requires.0)
 pub loop-i-init : goal.loop-i-init
 loop-i-init c =
     let a = (begun c.before).args in
-    (omega arith, refl, passed_none a.words.now a.n c.fill_basis.new.masks.0 c.fill_basis.ensures)
+    (omega arith, refl, passed_none a.words.now a.n c.fill_basis.new.masks c.fill_basis.ensures)
 
 pub overflow_mul-i : goal.overflow_mul-i
 overflow_mul-i c = omega arith
@@ -62,7 +62,7 @@ room : (c : In-loop-i) → let a = (begun c.before.before).args in
     (number_of a.n c.loop-i.i < length c.loop-i.masks) × (number_of a.n c.loop-i.i < 1035)
 room c =
     let s = begun c.before.before in
-    (omega (arith, c.loop-i.invariant.1, c.fill_basis.auto.1.0, c.loop-i-test.true, s.requires.1), omega (arith, c.loop-i-test.true, s.requires.1, s.requires.2))
+    (omega (arith, c.loop-i.invariant.1, c.fill_basis.auto.masks, c.loop-i-test.true, s.requires.1), omega (arith, c.loop-i-test.true, s.requires.1, s.requires.2))
 
 pub overflow_cast-number : goal.overflow_cast-number
 overflow_cast-number c = omega (arith, room c.before.before)
@@ -104,7 +104,7 @@ loop-i-preserved c =
 
 pub shape_of-masks-else-is_accepted : goal.shape_of-masks-else-is_accepted
 shape_of-masks-else-is_accepted c =
-    c.loop-i.invariant.1 ∙ c.fill_basis.auto.1.0
+    c.loop-i.invariant.1 ∙ c.fill_basis.auto.masks
 
 pub returns-else-is_accepted : goal.returns-else-is_accepted
 returns-else-is_accepted c =
@@ -113,7 +113,7 @@ returns-else-is_accepted c =
     record { value = node_decides a.words.now a.n c.loop-i.invariant.2 c.loop-i-test.true c.read_gate-w.ensures c.judge_node-v.ensures no; gate_size_after = λ yes. absurd (true≢false (sym yes ∙ no)) }
 
 pub shape_of-masks : goal.shape_of-masks
-shape_of-masks c = c.loop-i.invariant.1 ∙ c.fill_basis.auto.1.0
+shape_of-masks c = c.loop-i.invariant.1 ∙ c.fill_basis.auto.masks
 
 pub returns : goal.returns
 returns c =
