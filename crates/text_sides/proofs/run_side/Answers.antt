@@ -48,4 +48,4 @@ returns c =
     let a = c.args in
     let s = stop a.store.now a.limits a.gates.now a.res.now a.work.now c.read_qasm-r.result (read_of a.text.now) c.read_qasm-r.ensures.reply
     (sym c.is_accepted.ensures ∙ c.if-is_accepted.false) in
-    record { side = s.side; words = omega arith; gates = c.read_qasm-r.ensures.gates; res = s.result; work = s.work-1 }
+    record { side = s.side; words = omega arith; gates = c.read_qasm-r.ensures.gates; res = s.result; work = s.work }
