@@ -10,7 +10,7 @@ chosen : {f g : Binary} (x y : Scalar) → f ≡ g → binary_answer g (value x)
 chosen x y e = ap (λ f. binary_answer f (value x) (value y)) (sym e)
 
 pub returns-in-Add : goal.returns-in-Add
-returns-in-Add c = let a = c.args in c.add.ensures ∙ chosen a.x a.y c.enum_told-1.given.1
+returns-in-Add c = let a = c.args in c.add.ensures ∙ chosen a.x a.y c.in-Add.is
 
 pub returns-in-Mul : goal.returns-in-Mul
 returns-in-Mul c = let a = c.args in c.mul.ensures ∙ chosen a.x a.y c.in-Mul.is

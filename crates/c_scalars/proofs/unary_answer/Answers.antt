@@ -10,7 +10,7 @@ chosen : {f g : Unary} (x : Scalar) → f ≡ g → unary_answer g (value x) ≡
 chosen x e = ap (λ f. unary_answer f (value x)) (sym e)
 
 pub returns-in-Neg : goal.returns-in-Neg
-returns-in-Neg c = c.neg.ensures ∙ chosen c.args.x c.enum_told-1.given.1
+returns-in-Neg c = c.neg.ensures ∙ chosen c.args.x c.in-Neg.is
 
 pub returns-in-Conj : goal.returns-in-Conj
 returns-in-Conj c = c.conj.ensures ∙ chosen c.args.x c.in-Conj.is

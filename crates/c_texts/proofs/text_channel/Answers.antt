@@ -12,6 +12,13 @@ pub returns : goal.returns
 returns c =
     let a = c.args in
     let l = c.read_limits-l.ensures in
-    let (refusal, (text, (gates, (result, work)))) = c.text_channel-d.ensures in
+    let record { refusal = refusal; text = text; gates = gates; res = result; work = work } = c.text_channel-d.ensures in
     let is = refusal ∙ ap (λ (x : Limits). only_refusal a.text.now a.store.now x a.gates.now a.res.now a.work.now a.answer.now) l in
-    record { value = c.number.ensures ∙ ap (λ (x : Refusal). verdict_number x.verdict) is; numbers_after = c.refusal_numbers.ensures ∙ ap refusal_numbers is; bytes_after = text ∙ ap (λ (x : Limits). write (page a.answer.now 0) (only_text a.text.now a.store.now x a.gates.now a.res.now a.work.now a.answer.now)) l; gates_after = gates ∙ ap (λ (x : Limits). only_gates a.text.now a.store.now x a.gates.now a.res.now a.work.now a.answer.now) l; res_after = result ∙ ap (λ (x : Limits). only_result a.text.now a.store.now x a.gates.now a.res.now a.work.now a.answer.now) l; work_after = work ∙ ap (λ (x : Limits). only_work a.text.now a.store.now x a.gates.now a.res.now a.work.now a.answer.now) l }
+    record {
+      value = c.number.ensures ∙ ap (λ (x : Refusal). verdict_number x.verdict) is;
+      numbers_after = c.refusal_numbers.ensures ∙ ap refusal_numbers is;
+      bytes_after = text ∙ ap (λ (x : Limits). write (page a.answer.now 0) (only_text a.text.now a.store.now x a.gates.now a.res.now a.work.now a.answer.now)) l;
+      gates_after = gates ∙ ap (λ (x : Limits). only_gates a.text.now a.store.now x a.gates.now a.res.now a.work.now a.answer.now) l;
+      res_after = result ∙ ap (λ (x : Limits). only_result a.text.now a.store.now x a.gates.now a.res.now a.work.now a.answer.now) l;
+      work_after = work ∙ ap (λ (x : Limits). only_work a.text.now a.store.now x a.gates.now a.res.now a.work.now a.answer.now) l;
+    }

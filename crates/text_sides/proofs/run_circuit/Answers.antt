@@ -1,7 +1,4 @@
 -- `run_circuit` meets its contract.
-use native.Mathlib.Omega.{arith}
-use mathlib.Core.Path.{sym}
-use lib.Seq.{length-take-le}
 use Rattle.text_sides.proofs.Padding.{filled-up, as_given, ran}
 use Rattle.text_sides.proofs.run_circuit.Goals as goal
 
@@ -9,9 +6,6 @@ pub returns-then-all-given : goal.returns-then-all-given
 returns-then-all-given c =
     let a = c.args in
     let all = ran a.qubits a.bits a.limits a.gates.now a.res.now a.work.now (as_given a.store.now a.bits c.least-all.ensures c.if-all-given.true) _ _ _ (c.circuit_channel.ensures.value, (c.circuit_channel.ensures.res_after, c.circuit_channel.ensures.work_after)) in record { value = all.0; res_after = all.1.0; work_after = all.1.1 }
-
-pub slice_bounds-circuit_channel-end : goal.slice_bounds-circuit_channel-end
-slice_bounds-circuit_channel-end c = sym (length-take-le _ _ (slice_bounds-padded-end c))
 
 pub returns : goal.returns
 returns c =

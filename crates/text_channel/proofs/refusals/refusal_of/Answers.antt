@@ -18,7 +18,7 @@ returns-then-s c =
 pub returns-then-number-eq8 : goal.returns-then-number-eq8
 returns-then-number-eq8 c =
     let a = c.args in
-    for_many a.text.now a.s c.if-s.false (eq-eqb (verdict_number a.s.verdict) 8 (sym c.number.ensures ∙ c.if-number-eq8.true)) (c.find_gate-all.ensures.position, c.find_gate-all.ensures.before) c.no_place-then-number-eq8.ensures
+    for_many a.text.now a.s c.if-s.false (eq-eqb (verdict_number a.s.verdict) 8 (sym c.number.ensures ∙ c.if-number-eq8.true)) c.find_gate-all.ensures.before c.no_place-then-number-eq8.ensures
 
 pub returns : goal.returns
 returns c =
