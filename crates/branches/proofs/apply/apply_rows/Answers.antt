@@ -125,10 +125,10 @@ overflow_add-to c = omega (arith, new_in c.before.before)
 -- the two entries that were read
 module _ (y : After-read_cell-y) where
   abbrev x : After-read_cell-x
-  x = y.before.before
+  x = y.before
 
   abbrev at : After-partner_row-s
-  at = x.before.before
+  at = x.before
 
   own_is : value x.read_cell-x.result ≡ cell_at (s at).args.work.now ((s at).args.op + r at * row_size)
   own_is = ap value x.read_cell-x.ensures ∙ cell_same (own_same (s at).requires (taken at) (inv at))

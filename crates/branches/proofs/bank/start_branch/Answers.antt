@@ -51,7 +51,7 @@ overflow_cast-work-2 c = omega (arith, high_small c.before)
 
 pub bounds-work-s-2 : goal.bounds-work-s-2
 bounds-work-s-2 c =
-    simp length-set (omega (arith, c.identity_into.auto.0, c.requires.1.0))
+    simp length-set (omega (arith, c.identity_into.auto.buf, c.requires.1.0))
 
 pub returns : goal.returns
 returns c =

@@ -37,7 +37,7 @@ second c = let g = gate_of c.args.g in splits-some g (λ e. c.if-splits-eq0.fals
 pub write_rows-requires-2 : goal.write_rows-requires-2
 write_rows-requires-2 c =
     let p = c.requires in
-    (p.0, (omega (arith, p.1.wide, p.1.room, c.branch_size.ensures, c.write_rows.auto.0), (p.1.few, (p.1.dim, ready_second p.1.ready (second c.before.before)))))
+    (p.0, (omega (arith, p.1.wide, p.1.room, c.branch_size.ensures, c.write_rows.auto.buf), (p.1.few, (p.1.dim, ready_second p.1.ready (second c.before.before)))))
 
 pub returns : goal.returns
 returns c =
