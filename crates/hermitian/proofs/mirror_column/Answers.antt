@@ -16,18 +16,12 @@ use Rattle.hermitian.proofs.mirror_column.Goals as goal
 abbrev In-loop-c : Type 0
 In-loop-c = lts.In-loop tie.the-claims reads.Pre reads.Post goal.the-invariant-loop-c goal.the-decreases-loop-c
 
-abbrev Start : Type 0
-Start = lts.Start tie.the-claims reads.Pre reads.Post goal.the-invariant-loop-c goal.the-decreases-loop-c
-
 module _ (t : In-loop-c) where
-  abbrev start : Start
-  start = t.before.before.before.before.before
+  from_in : t.args.out + (t.loop-c.c * t.args.w + t.args.r) * 4 + 4 ≤ length t.args.s.now
+  from_in = column-room t.requires.block t.requires.inside t.loop-c.invariant t.loop-c-test.true
 
-  from_in : start.args.out + (t.loop-c.c * start.args.w + start.args.r) * 4 + 4 ≤ length start.args.s.now
-  from_in = column-room start.requires.block start.requires.inside t.loop-c.invariant t.loop-c-test.true
-
-  to_in : start.args.out + start.args.r * start.args.w * 4 + t.loop-c.c * 4 + 4 ≤ length start.args.s.now
-  to_in = own_room start.requires.block start.requires.inside t.loop-c.invariant t.loop-c-test.true
+  to_in : t.args.out + t.args.r * t.args.w * 4 + t.loop-c.c * 4 + 4 ≤ length t.args.s.now
+  to_in = own_room t.requires.block t.requires.inside t.loop-c.invariant t.loop-c-test.true
 
 pub is_zero_row-requires : goal.is_zero_row-requires
 is_zero_row-requires c = (c.requires.inside, c.requires.block.room)
@@ -40,13 +34,11 @@ loop-c-init c = begin (λ k. le_refl 4)
 
 pub write_conj-requires : goal.write_conj-requires
 write_conj-requires c =
-    let s = start c.before in
-    (omega (arith, from_in c.before, long c.loop-c.invariant), (omega (arith, to_in c.before, long c.loop-c.invariant), column-small s.requires.block s.requires.inside c.loop-c.invariant c.loop-c-test.true))
+    (omega (arith, from_in c.before, long c.loop-c.invariant), (omega (arith, to_in c.before, long c.loop-c.invariant), column-small c.requires.block c.requires.inside c.loop-c.invariant c.loop-c-test.true))
 
 pub loop-c-preserved : goal.loop-c-preserved
 loop-c-preserved c =
-    let s = start c.before.before.before in
-    again c.loop-c.invariant c.loop-c-test.true c.write_conj.ensures (ap (λ (z : Number). list_of (conjugate root2 z)) (column_is s.requires.block s.requires.inside c.loop-c.invariant c.loop-c-test.true))
+    again c.loop-c.invariant c.loop-c-test.true c.write_conj.ensures (ap (λ (z : Number). list_of (conjugate root2 z)) (column_is c.requires.block c.requires.inside c.loop-c.invariant c.loop-c-test.true))
 
 pub returns : goal.returns
 returns c = done c.loop-c.invariant c.loop-c-test.false

@@ -24,53 +24,41 @@ use Rattle.hermitian.proofs.share_block.Goals as goal
 abbrev After-least-t : Type 0
 After-least-t = lts.After-least tie.the-claims reads.Pre reads.Post tie.handed_clauses
 
-abbrev After-common_zeros : Type 0
-After-common_zeros = lts.After-common_zeros tie.the-claims reads.Pre reads.Post tie.handed_clauses
-
-abbrev Start : Type 0
-Start = lts.Start tie.the-claims reads.Pre reads.Post tie.handed_clauses
-
 module _ (c : After-least-t) where
-  abbrev z : After-common_zeros
-  z = c.before
-
-  abbrev start : Start
-  start = z.before.before.before
-
   abbrev n : ℕ
-  n = start.args.w * start.args.w
+  n = c.args.w * c.args.w
 
   abbrev least : ℕ
-  least = min z.common_zeros.result start.args.e
+  least = min c.common_zeros.result c.args.e
 
-  bits : of_z w64 z.or_rows-g.result ≡ or_words start.args.s.now start.args.at (n * 4)
-  bits = z.or_rows-g.ensures.bits
+  bits : of_z w64 c.or_rows-g.result ≡ or_words c.args.s.now c.args.at (n * 4)
+  bits = c.or_rows-g.ensures.bits
 
   -- the argument is read back from its bits
-  back : of_z w64 (to_z w64 (of_z w64 z.or_rows-g.result)) ≡ of_z w64 z.or_rows-g.result
-  back = of_z-to_z {w = w64} (record { fits = subst (λ (m : ℕ). m < 2 ^ 64) (sym bits) (or_small start.args.s.now start.args.at (n * 4) z.or_rows-g.ensures.fit) })
+  back : of_z w64 (to_z w64 (of_z w64 c.or_rows-g.result)) ≡ of_z w64 c.or_rows-g.result
+  back = of_z-to_z {w = w64} (record { fits = subst (λ (m : ℕ). m < 2 ^ 64) (sym bits) (or_small c.args.s.now c.args.at (n * 4) c.or_rows-g.ensures.fit) })
 
-  count : z.common_zeros.result ≡ count_trailing_zeros 64 (or_words start.args.s.now start.args.at (n * 4) % 2 ^ 63)
-  count = z.common_zeros.ensures ∙ ap (λ (m : ℕ). count_trailing_zeros 64 (m % 2 ^ 63)) (ap (λ (k : ℕ). bit_or (bit_or k 0) (bit_or 0 0)) back ∙ alone (of_z w64 z.or_rows-g.result) ∙ bits)
+  count : c.common_zeros.result ≡ count_trailing_zeros 64 (or_words c.args.s.now c.args.at (n * 4) % 2 ^ 63)
+  count = c.common_zeros.ensures ∙ ap (λ (m : ℕ). count_trailing_zeros 64 (m % 2 ^ 63)) (ap (λ (k : ℕ). bit_or (bit_or k 0) (bit_or 0 0)) back ∙ alone (of_z w64 c.or_rows-g.result) ∙ bits)
 
-  alike : Alike n (frac (λ (k : ℕ). shifted (number_at start.args.s.now start.args.at k) least) (start.args.e - least)) (shared_from start.args.s.now start.args.at n start.args.e)
-  alike = share_is start.args.s.now start.args.at n start.args.e z.common_zeros.result z.or_rows-g.ensures.fit start.requires.1 count
+  alike : Alike n (frac (λ (k : ℕ). shifted (number_at c.args.s.now c.args.at k) least) (c.args.e - least)) (shared_from c.args.s.now c.args.at n c.args.e)
+  alike = share_is c.args.s.now c.args.at n c.args.e c.common_zeros.result c.or_rows-g.ensures.fit c.requires.1 count
 
   shift_small : c.least-t.result ≤ 63
-  shift_small = let q = start.requires.1 in omega (arith, c.least-t.ensures)
+  shift_small = let q = c.requires.1 in omega (arith, c.least-t.ensures)
 
 pub or_rows-g-requires : goal.or_rows-g-requires
 or_rows-g-requires c = c.requires.0
 
 pub shift_rows-requires : goal.shift_rows-requires
-shift_rows-requires c = ((start c.before).requires.0, shift_small c.before)
+shift_rows-requires c = (c.requires.0, shift_small c.before)
 
 pub overflow_sub-result : goal.overflow_sub-result
 overflow_sub-result c = omega (arith, c.least-t.ensures)
 
 pub returns : goal.returns
 returns c =
-    let s = (start c.before.before.before).args in
+    let s = c.args in
     record {
       exponent = ap (λ (j : ℕ). s.e - j) c.least-t.ensures ∙ (alike c.before.before.before).exp;
       numerators = c.shift_rows.ensures
