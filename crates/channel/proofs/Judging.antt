@@ -85,6 +85,24 @@ pub chain-end : (F : Form) (l : List ℤ) (m count n : ℕ) (z : ℤ) (first : B
 unfolding chain_ok
 chain-end F l m count n z first prev h = let e : n ≡ 0 = omega arith in ap (λ (k : ℕ). chain_ok F l m count k z first prev) e
 
+-- the verdict, `left` records from index z on, where `blank` tells of the blocks before them
+module _ (l : List ℤ) (w m count left : ℕ) where
+  abbrev pub chain_verdict : ℤ → Bool → ℕ → Bool → Verdict
+  chain_verdict z first prev blank = verdict_by (chain_ok (full w) l m count left z first prev) (blank || some_zero w (chain (full w) l left (nat_abs z)))
+
+  pub refused : (z : ℤ) (first : Bool) (prev : ℕ) (blank : Bool) → chain_ok (full w) l m count left z first prev ≡ false → chain_verdict z first prev blank ≡ verdict_by false blank
+  refused z first prev blank e = ap (λ (b : Bool). verdict_by b (blank || some_zero w (chain (full w) l left (nat_abs z)))) e
+
+  pub further : (z : ℤ) (first : Bool) (prev : ℕ) (blank : Bool) → 0 < left → is_start (full w) count z ≡ true → record_ok (full w) l m (nat_abs z) first prev ≡ true → chain_verdict z first prev blank ≡ verdict_by
+      (chain_ok (full w) l m count (left - 1) (word l (nat_abs z)) false (store_at l (nat_abs z))) ((blank || all_zero (w * w) (entry_at (full w) l (nat_abs z))) || some_zero w (chain (full w) l (left - 1) (nat_abs (word l (nat_abs z)))))
+  further z first prev blank h e f =
+      λ i. verdict_by (goes_on (full w) l m count left z first prev h e f i)
+      ((ap (λ (b : Bool). blank || b) (zero-step l w left (nat_abs z) h) ∙ or_assoc blank (all_zero (w * w) (entry_at (full w) l (nat_abs z))) (some_zero w (chain (full w) l (left - 1) (nat_abs (word l (nat_abs z)))))) i)
+
+  pub ended : (z : ℤ) (first : Bool) (prev : ℕ) (blank ends : Bool) → left ≤ 0 → eqℤ z (pos 0) ≡ ends → chain_verdict z first prev blank ≡ verdict_by ends blank
+  ended z first prev blank ends h e =
+      λ i. verdict_by ((chain-end (full w) l m count left z first prev h ∙ e) i) ((ap (λ (b : Bool). blank || b) (zero-end l w left (nat_abs z) h) ∙ or_end blank) i)
+
 -- ---- the header
 -- what a right header says
 pub record HeadedIn (F : Form) (l : List ℤ) : Type 0 where

@@ -17,7 +17,7 @@ use Rattle.channel.specs.WellFormed.{is_start, record_ok, chain_ok, all_zero, so
 use Rattle.algebra.specs.Words.{eqℤ}
 use Rattle.algebra.proofs.Signed.{reads}
 use Rattle.channel.proofs.Words.{bits-zero, Starts, starts, starts-inside}
-use Rattle.channel.proofs.Judging.{good, bad, no_start, no_record, goes_on, chain-end, zero-step, zero-end, or_assoc, or_end}
+use Rattle.channel.proofs.Judging.{good, bad, no_start, no_record, chain_verdict, refused, further, ended}
 use native.Mathlib.Nat.{le_trans}
 use Rattle.channel.proofs.well_formed.judge_chain.Lts as lts
 use Rattle.channel.proofs.well_formed.judge_chain.Reads as reads
@@ -30,29 +30,11 @@ Else-not-is_start = lts.Else1 tie.the-claims reads.Pre reads.Post goal.the-invar
 abbrev Start : Type 0
 Start = lts.Start tie.the-claims reads.Pre reads.Post goal.the-invariant-loop-left goal.the-decreases-loop-left
 
--- the verdict, `left` records from index z on, where `blank` tells of the blocks before them
-module _ (l : List ℤ) (w m count left : ℕ) where
-  abbrev verdict : ℤ → Bool → ℕ → Bool → Verdict
-  verdict z first prev blank = verdict_by (chain_ok (full w) l m count left z first prev) (blank || some_zero w (chain (full w) l left (nat_abs z)))
-
-  refused : (z : ℤ) (first : Bool) (prev : ℕ) (blank : Bool) → chain_ok (full w) l m count left z first prev ≡ false → verdict z first prev blank ≡ verdict_by false blank
-  refused z first prev blank e = ap (λ (b : Bool). verdict_by b (blank || some_zero w (chain (full w) l left (nat_abs z)))) e
-
-  further : (z : ℤ) (first : Bool) (prev : ℕ) (blank : Bool) → 0 < left → is_start (full w) count z ≡ true → record_ok (full w) l m (nat_abs z) first prev ≡ true → verdict z first prev blank ≡ verdict_by
-      (chain_ok (full w) l m count (left - 1) (word l (nat_abs z)) false (store_at l (nat_abs z))) ((blank || all_zero (w * w) (entry_at (full w) l (nat_abs z))) || some_zero w (chain (full w) l (left - 1) (nat_abs (word l (nat_abs z)))))
-  further z first prev blank h e f =
-      λ i. verdict_by (goes_on (full w) l m count left z first prev h e f i)
-      ((ap (λ (b : Bool). blank || b) (zero-step l w left (nat_abs z) h) ∙ or_assoc blank (all_zero (w * w) (entry_at (full w) l (nat_abs z))) (some_zero w (chain (full w) l (left - 1) (nat_abs (word l (nat_abs z)))))) i)
-
-  ended : (z : ℤ) (first : Bool) (prev : ℕ) (blank ends : Bool) → left ≤ 0 → eqℤ z (pos 0) ≡ ends → verdict z first prev blank ≡ verdict_by ends blank
-  ended z first prev blank ends h e =
-      λ i. verdict_by ((chain-end (full w) l m count left z first prev h ∙ e) i) ((ap (λ (b : Bool). blank || b) (zero-end l w left (nat_abs z) h) ∙ or_end blank) i)
-
 pub bounds-s-3 : goal.bounds-s-3
 bounds-s-3 c = omega (arith, c.requires.inside)
 
 pub loop-left-init : goal.loop-left-init
-loop-left-init c = (omega arith, ap (λ (z : ℤ). verdict c.args.s.now c.args.w c.args.m c.args.count c.args.count z true 0 false) (sym (reads (word c.args.s.now 3) c.z-1.given)))
+loop-left-init c = (omega arith, ap (λ (z : ℤ). chain_verdict c.args.s.now c.args.w c.args.m c.args.count c.args.count z true 0 false) (sym (reads (word c.args.s.now 3) c.z-1.given)))
 
 -- the record that comes next
 module _ (c : Else-not-is_start) where
@@ -86,7 +68,7 @@ judge_record-j-requires c = (c.requires.width, (c.requires.few, inside c))
 
 pub returns-then-not-j : goal.returns-then-not-j
 returns-then-not-j c =
-    sym (c.loop-left.invariant.1 ∙ refused _ _ _ _ _ _ _ _ c.loop-left.zero (no_record _ _ _ _ _ _ _ _ c.loop-left-test.true (tested c.before.before.before) (bad _ _ _ _ c.judge_record-j.ensures (c.if-not-j.true))))
+    sym (c.loop-left.invariant.1 ∙ refused _ _ _ _ _ _ _ _ c.loop-left.zero (no_record _ _ _ _ _ _ _ _ c.loop-left-test.true (tested c.before.before.before) (bad _ _ _ _ c.judge_record-j.ensures (not-true _ c.if-not-j.true))))
 
 pub offset_bounds-s-at : goal.offset_bounds-s-at
 offset_bounds-s-at c = omega (arith, inside c.before.before.before)
@@ -103,12 +85,12 @@ loop-left-smaller c = omega arith
 pub loop-left-preserved : goal.loop-left-preserved
 loop-left-preserved c =
     let s = c.args in
-    let g = good _ _ _ _ c.judge_record-j.ensures (c.if-not-j.false) in
+    let g = good _ _ _ _ c.judge_record-j.ensures (not-false _ c.if-not-j.false) in
     let h = c.loop-left-test.true in
     let at = nat_abs (to_z w64 c.loop-left.z-bits) in (
       omega arith,
       c.loop-left.invariant.1 ∙ further _ _ _ _ c.loop-left.left (to_z w64 c.loop-left.z-bits) c.loop-left.first c.loop-left.prev c.loop-left.zero h (tested c.before.before.before.before.before) g.0
-          ∙ (λ i. verdict s.s.now s.w s.m s.count (c.loop-left.left - 1) (sym (reads (word s.s.now at) c.z-in-loop-left-1.given) i) false (sym g.1.0 i) (c.loop-left.zero || sym g.1.1 i)),
+          ∙ (λ i. chain_verdict s.s.now s.w s.m s.count (c.loop-left.left - 1) (sym (reads (word s.s.now at) c.z-in-loop-left-1.given) i) false (sym g.1.0 i) (c.loop-left.zero || sym g.1.1 i)),
     )
 
 pub verdict_by-requires : goal.verdict_by-requires
@@ -117,5 +99,5 @@ verdict_by-requires c = tt
 pub returns : goal.returns
 returns c =
     let l = c.loop-left in
-    c.verdict_by.ensures ∙ ap (λ (b : Bool). verdict_by b l.zero) (bits-zero l.z)
-    ∙ sym (l.invariant.1 ∙ ended _ _ _ _ l.left (to_z w64 l.z) l.first l.prev l.zero _ c.loop-left-test.false refl)
+    c.verdict_by.ensures ∙ ap (λ (b : Bool). verdict_by b l.zero) (bits-zero l.z-bits)
+    ∙ sym (l.invariant.1 ∙ ended _ _ _ _ l.left (to_z w64 l.z-bits) l.first l.prev l.zero _ c.loop-left-test.false refl)

@@ -46,7 +46,7 @@ start c = c.before.before.before
 fine : (c : Else-not-j) → (in_store (start c) ≡ true) × (c.judge_store-j.result.store ≡ store (start c))
 fine c =
     let j = c.judge_store-j in
-    let g = good j.result (in_store (start c)) false (store (start c)) j.ensures (c.if-not-j.false) in
+    let g = good j.result (in_store (start c)) false (store (start c)) j.ensures (not-false _ c.if-not-j.false) in
     (g.0, g.1.0)
 
 ordered : (c : After-comes_before) → ((start c.before).args.first || c.comes_before.result) ≡ in_order (start c.before)
@@ -57,7 +57,7 @@ rising c = sym (ordered c.before) ∙ c.if-not-first-comes_before.false
 
 pub returns-then-not-j : goal.returns-then-not-j
 returns-then-not-j c =
-    is_bad _ (in_store c.before.before.before.before && (in_order c.before.before.before.before && in_block c.before.before.before.before)) _ _ c.bad.ensures (ap (λ (b : Bool). b && (in_order c.before.before.before.before && in_block c.before.before.before.before)) (bad _ (in_store c.before.before.before.before) false (store c.before.before.before.before) c.judge_store-j.ensures (c.if-not-j.true)))
+    is_bad _ (in_store c.before.before.before.before && (in_order c.before.before.before.before && in_block c.before.before.before.before)) _ _ c.bad.ensures (ap (λ (b : Bool). b && (in_order c.before.before.before.before && in_block c.before.before.before.before)) (bad _ (in_store c.before.before.before.before) false (store c.before.before.before.before) c.judge_store-j.ensures (not-true _ c.if-not-j.true)))
 
 pub returns-then-not-first-comes_before : goal.returns-then-not-first-comes_before
 returns-then-not-first-comes_before c =
@@ -67,11 +67,11 @@ returns-then-not-first-comes_before c =
 pub returns-then-not-b : goal.returns-then-not-b
 returns-then-not-b c =
     let s = start c.before.before.before.before.before.before in
-    is_bad _ (in_store s && (in_order s && in_block s)) _ _ c.bad-then-not-b.ensures (λ i. (fine c.before.before.before.before.before.before).0 i && (rising c.before.before.before.before i && bad _ (in_block s) (blank s) 0 c.judge_block-b.ensures (c.if-not-b.true) i))
+    is_bad _ (in_store s && (in_order s && in_block s)) _ _ c.bad-then-not-b.ensures (λ i. (fine c.before.before.before.before.before.before).0 i && (rising c.before.before.before.before i && bad _ (in_block s) (blank s) 0 c.judge_block-b.ensures (not-true _ c.if-not-b.true) i))
 
 pub returns : goal.returns
 returns c =
     let f = fine c.before.before.before.before.before in
     let s = start c.before.before.before.before.before in
-    let g = good _ (in_block s) (blank s) 0 c.judge_block-b.ensures (c.if-not-b.false) in
+    let g = good _ (in_block s) (blank s) 0 c.judge_block-b.ensures (not-false _ c.if-not-b.false) in
     is_good _ _ (in_store s && (in_order s && in_block s)) _ _ g.1.1 f.1 (λ i. f.0 i && (rising c.before.before.before i && g.0 i))
