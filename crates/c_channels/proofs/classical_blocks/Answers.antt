@@ -6,4 +6,4 @@ use Rattle.c_channels.proofs.classical_blocks.Goals as goal
 pub returns : goal.returns
 returns c =
     let b = c.classical_blocks-v in
-    record { value = c.number.ensures ∙ ap verdict_number b.ensures.0; res_after = b.ensures.1 }
+    record { value = c.number.ensures ∙ ap verdict_number b.ensures.verdict; res_after = b.ensures.words }
