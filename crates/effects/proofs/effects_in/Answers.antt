@@ -23,9 +23,6 @@ use Rattle.effects.proofs.effects_in.Goals as goal
 abbrev After-is_accepted : Type 0
 After-is_accepted = lts.After-is_accepted tie.the-claims reads.Pre reads.Post tie.handed_clauses
 
-abbrev Start : Type 0
-Start = lts.Start tie.the-claims reads.Pre reads.Post tie.handed_clauses
-
 abbrev Else-not-is_accepted : Type 0
 Else-not-is_accepted = lts.Else1 tie.the-claims reads.Pre reads.Post tie.handed_clauses
 
@@ -34,14 +31,11 @@ After-stride-cols = lts.After-stride2 tie.the-claims reads.Pre reads.Post tie.ha
 
 -- the channel, the result, and the answer on them
 module _ (k : After-is_accepted) where
-  abbrev start : Start
-  start = k.before.before.before
-
   abbrev words : List ℤ
-  words = start.args.channel.now
+  words = k.args.channel.now
 
   abbrev room : List ℤ
-  room = start.args.res.now
+  room = k.args.res.now
 
   abbrev shape : Shape
   shape = k.judge_effects-h.result
@@ -54,7 +48,7 @@ module _ (k : After-is_accepted) where
 
   -- the words that go with the verdict
   abbrev words_by : Bool → List ℤ
-  words_by b = cond b (effects_words (form_at start.args.textbook) words room) room
+  words_by b = cond b (effects_words (form_at k.args.textbook) words room) room
 
 module _ (c : Else-not-is_accepted) where
   abbrev known : After-is_accepted
@@ -78,7 +72,7 @@ module _ (c : After-stride-cols) where
   left = c.before.before
 
   abbrev textbook : Bool
-  textbook = (start (known left)).args.textbook
+  textbook = c.args.textbook
 
   strides : Strides (shape (known left)).dim c.stride-rows.result c.stride-cols.result
   strides = subst (λ (r : ℕ). Strides (shape (known left)).dim r c.stride-cols.result) (sym c.stride-rows.ensures)

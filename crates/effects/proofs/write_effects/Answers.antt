@@ -21,7 +21,7 @@ write_header-requires c =
 pub write_records-requires : goal.write_records-requires
 write_records-requires c =
     let r = c.requires.0 in
-    let e : length c.write_header.new.d.1.0 ≡ length c.args.res.now = ap length c.write_header.ensures ∙ simp length-set in (
+    let e : length c.write_header.new.res ≡ length c.args.res.now = ap length c.write_header.ensures ∙ simp length-set in (
       ready_records _ _ _ _ r,
       (
         c.requires.1,

@@ -21,37 +21,31 @@ use Rattle.effects.proofs.write_records.Goals as goal
 abbrev In-loop-j : Type 0
 In-loop-j = lts.In-loop tie.the-claims reads.Pre reads.Post goal.the-invariant-loop-j goal.the-decreases-loop-j
 
-abbrev Start : Type 0
-Start = lts.Start tie.the-claims reads.Pre reads.Post goal.the-invariant-loop-j goal.the-decreases-loop-j
-
 module _ (c : In-loop-j) where
-  abbrev start : Start
-  start = c.before.before.before.before
-
   abbrev j : ℕ
   j = c.loop-j.j
 
   -- where the block lies, and where its effect goes
-  at : header_size + j * c.record_size-from.result ≡ record_at (channels start.args.d) j
+  at : header_size + j * c.record_size-from.result ≡ record_at (channels c.args.d) j
   at = ap (λ (r : ℕ). header_size + j * r) c.record_size-from.ensures
 
-  to : header_size + j * c.record_size-to.result ≡ record_at (effects start.args.d) j
+  to : header_size + j * c.record_size-to.result ≡ record_at (effects c.args.d) j
   to = ap (λ (r : ℕ). header_size + j * r) c.record_size-to.ensures
 
-  inside : header_size + j * c.record_size-from.result ≤ length start.args.s.now
-  inside = subst (λ (a : ℕ). a ≤ length start.args.s.now) (sym at) (let q = (start.requires.0.each j c.loop-j-test.true).inside in omega arith)
+  inside : header_size + j * c.record_size-from.result ≤ length c.args.s.now
+  inside = subst (λ (a : ℕ). a ≤ length c.args.s.now) (sym at) (let q = (c.requires.0.each j c.loop-j-test.true).inside in omega arith)
 
-  fits : record_at (effects start.args.d) j + record_size (effects start.args.d) ≤ length c.loop-j.res
-  fits = by (record_size (effects start.args.d)) start.requires.1.1.1 (long c.loop-j.invariant)
+  fits : record_at (effects c.args.d) j + record_size (effects c.args.d) ≤ length c.loop-j.res
+  fits = by (record_size (effects c.args.d)) c.requires.1.1.1 (long c.loop-j.invariant)
     where
-      by : (r : ℕ) → header_size + start.args.n * r ≤ length start.args.res.now → length c.loop-j.res ≡ length start.args.res.now → header_size + j * r + r ≤ length c.loop-j.res
+      by : (r : ℕ) → header_size + c.args.n * r ≤ length c.args.res.now → length c.loop-j.res ≡ length c.args.res.now → header_size + j * r + r ≤ length c.loop-j.res
       by r p e = let q = block_in_lem c.loop-j-test.true r in omega arith
 
-  room_for : header_size + j * c.record_size-to.result + record_size (effects start.args.d) ≤ length c.loop-j.res
-  room_for = subst (λ (a : ℕ). a + record_size (effects start.args.d) ≤ length c.loop-j.res) (sym to) fits
+  room_for : header_size + j * c.record_size-to.result + record_size (effects c.args.d) ≤ length c.loop-j.res
+  room_for = subst (λ (a : ℕ). a + record_size (effects c.args.d) ≤ length c.loop-j.res) (sym to) fits
 
-  room : header_size + j * c.record_size-to.result ≤ length start.args.res.now
-  room = let e = long c.loop-j.invariant in omega arith
+  room : header_size + j * c.record_size-to.result ≤ length c.args.res.now
+  room = omega (arith, long c.loop-j.invariant, room_for)
 
 pub overflow_mul-d : goal.overflow_mul-d
 overflow_mul-d c = let q = dim_square c.requires.0.dim in omega arith
@@ -79,13 +73,12 @@ overflow_add-j-in-loop-j c = let q = room c.before in omega arith
 
 pub write_record-requires : goal.write_record-requires
 write_record-requires c =
-    let s = start c.before in
     let j = c.loop-j.j in (
       record {
-        block = subst (λ (a : ℕ). Readable s.args.s.now a s.args.d) (sym (at c.before)) (s.requires.0.each j c.loop-j-test.true);
-        strides = s.requires.1.0;
-        fit = ap (λ (a : ℕ). record_fits s.args.s.now a s.args.d) (at c.before)
-            ∙ all-at s.args.n (λ (k : ℕ). record_fits s.args.s.now (record_at (channels s.args.d) k) s.args.d) s.requires.1.1.0 j c.loop-j-test.true;
+        block = subst (λ (a : ℕ). Readable c.args.s.now a c.args.d) (sym (at c.before)) (c.requires.0.each j c.loop-j-test.true);
+        strides = c.requires.1.0;
+        fit = ap (λ (a : ℕ). record_fits c.args.s.now a c.args.d) (at c.before)
+            ∙ all-at c.args.n (λ (k : ℕ). record_fits c.args.s.now (record_at (channels c.args.d) k) c.args.d) c.requires.1.1.0 j c.loop-j-test.true;
       },
       room_for c.before,
     )
@@ -98,7 +91,7 @@ loop-j-smaller c = omega arith
 
 pub loop-j-preserved : goal.loop-j-preserved
 loop-j-preserved c =
-    let s = (start c.before.before.before).args in
+    let s = c.args in
     let recorded = effect_record (strided_at s.rows s.cols) s.s.now s.d in
     let from = header_size + j c.before.before.before * c.record_size-from.result in
     again c.loop-j.invariant c.loop-j-test.true (c.write_record.ensures ∙ ap (λ (a : ℕ). sets c.loop-j.res a (recorded from)) (to c.before.before.before)) (ap recorded (at c.before.before.before))
