@@ -1,12 +1,12 @@
 -- `write_records` meets its contract.
 use mathlib.Core.Path.{◌≡◌, sym, ap, ◌∙◌, subst}
-use Prim.Native.Nat.{ℕ, ◌+◌, ◌*◌, ◌-◌, ◌≤◌}
+use Prim.Native.Nat.{ℕ, ◌+◌, ◌*◌, ◌≤◌}
 use native.Mathlib.Nat.{le_of_eq}
 use native.Mathlib.Omega.{arith}
 use lib.ListN.{length}
 use lib.Seq.{sets}
 use Rattle.algebra.proofs.Tests.{all-at}
-use Rattle.algebra.proofs.Blocks.{Writing, begin, again, done, long, block_in_lem}
+use Rattle.algebra.proofs.Blocks.{begin, again, done, long, block_in_lem}
 use Rattle.channel.specs.Layout.{channels, effects, header_size, record_size, record_at}
 use Rattle.effects.specs.Effects.{record_fits, effect_record}
 use Rattle.effects.specs.Inner.Readable.{Readable}

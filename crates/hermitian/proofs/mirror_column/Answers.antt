@@ -1,13 +1,13 @@
 -- `mirror_column` meets its contract.
 use mathlib.Core.Path.{ap, sym, ◌∙◌}
-use Prim.Native.Nat.{◌+◌, ◌*◌, ◌-◌, ◌≤◌}
+use Prim.Native.Nat.{◌+◌, ◌*◌, ◌≤◌}
 use native.Mathlib.Nat.{le_refl}
 use native.Mathlib.Omega.{arith}
 use lib.ListN.{length}
 use Rattle.algebra.specs.Quadratic.{conjugate}
 use Rattle.algebra.proofs.Blocks.{begin, again, done, long}
 use Rattle.exact.specs.Exact.{Number, root2, list_of}
-use Rattle.hermitian.proofs.Mirrored.{Mirroring, mirrored, column-room, own_room, column_is, column-small}
+use Rattle.hermitian.proofs.Mirrored.{mirrored, column-room, own_room, column_is, column-small}
 use Rattle.hermitian.proofs.mirror_column.Lts as lts
 use Rattle.hermitian.proofs.mirror_column.Reads as reads
 use Rattle.hermitian.proofs.mirror_column.Tie as tie

@@ -1,20 +1,17 @@
 -- `well_formed::judge_chain` meets its contract.
 use mathlib.Core.Path.{◌≡◌, refl, sym, ap, ◌∙◌}
 use mathlib.Core.Bool.{Bool, true, false, ◌||◌}
-use Prim.Native.Nat.{ℕ, ◌+◌, ◌*◌, ◌-◌, ◌<◌, ◌≤◌}
+use Prim.Native.Nat.{◌+◌, ◌-◌, ◌≤◌}
 use native.Mathlib.Omega.{arith}
-use mathlib.Core.List.{List}
 use lib.Dec.{T}
 use lib.ListN.{length}
-use lib.IntN.{ℤ, pos, nat_abs}
+use lib.IntN.{ℤ, nat_abs}
 use lib.Signed.{non_neg}
 use mir.Syntax.{w64}
 use mir.Val.{to_z}
 use borrow.Author.Tests.{not-true, not-false}
-use Rattle.verdict.specs.declared.Verdict.{Verdict}
-use Rattle.channel.specs.Layout.{full, record_size, word, entry_at, store_at, chain}
-use Rattle.channel.specs.WellFormed.{is_start, record_ok, chain_ok, all_zero, some_zero, verdict_by}
-use Rattle.algebra.specs.Words.{eqℤ}
+use Rattle.channel.specs.Layout.{full, record_size, word}
+use Rattle.channel.specs.WellFormed.{is_start, verdict_by}
 use Rattle.algebra.proofs.Signed.{reads}
 use Rattle.channel.proofs.Words.{bits-zero, Starts, starts, starts-inside}
 use Rattle.channel.proofs.Judging.{good, bad, no_start, no_record, chain_verdict, refused, further, ended}
