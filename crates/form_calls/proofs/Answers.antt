@@ -11,7 +11,7 @@ use Rattle.verdict.specs.declared.Verdict.{Verdict}
 use Rattle.verdict.specs.declared.Verdict.TheVariants.{Accepted, ShortBuffer, Malformed, ZeroBlock, NotHermitianAt, NotPlainAt}
 use Rattle.verdict.specs.Verdict.{accepted}
 use Rattle.channel.specs.declared.Shape.{Shape}
-use Rattle.channel.specs.Layout.{Form, dim_at, count_at}
+use Rattle.channel.specs.Layout.{dim_at, count_at}
 use Rattle.channel.specs.WellFormed.{well_formed_in, well_formed, has_zero_block, verdict_by}
 use Rattle.channel.specs.Inner.Shapes.{shape_at, no_shape, shape_by}
 use Rattle.channel.proofs.Judging.{formed_in, in_channel}

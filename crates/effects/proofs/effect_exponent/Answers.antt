@@ -1,6 +1,6 @@
 -- `effect_exponent` meets its contract.
 use mathlib.Core.Path.{◌≡◌, refl, sym, ap, ◌∙◌}
-use Prim.Native.Nat.{ℕ, ◌*◌, ◌-◌, max, ◌≤◌}
+use Prim.Native.Nat.{ℕ, ◌*◌, ◌-◌, max}
 use native.Mathlib.Numerals.{add-one}
 use native.Mathlib.Omega.{arith}
 use Rattle.algebra.proofs.Tests.{all-at}

@@ -1,19 +1,11 @@
 -- `entries_fit` meets its contract.
-use mathlib.Core.Path.{◌≡◌, refl, sym, ap, ◌∙◌, subst}
-use mathlib.Core.Bool.{Bool, true}
+use mathlib.Core.Path.{◌≡◌}
+use mathlib.Core.Bool.{true}
 use Prim.Native.Nat.{ℕ, ◌*◌, ◌-◌, ◌≤◌}
-use native.Mathlib.Omega.{arith}
-use borrow.Author.Tests.{not-true, not-false}
 use Rattle.algebra.specs.Lists.{all_below}
-use Rattle.algebra.proofs.Tests.{all-at, all-step, all_no}
-use Rattle.exact.specs.Exact.{Exact, within, max_numerator, max_exponent}
-use Rattle.scalar.specs.declared.Scalar.{Scalar}
-use Rattle.scalar.specs.Calls.{value, scalar_of}
+use Rattle.exact.specs.Exact.{within, max_numerator}
 use Rattle.channel.specs.Shared.{scaled}
-use Rattle.channel.proofs.Shared.{exp_le}
-use Rattle.effects.specs.Effects.{term, effect_at, partials_fit}
-use Rattle.effects.proofs.Summing.{dim_square, answer-value}
-use Rattle.effects.proofs.Entries.{exponent_small}
+use Rattle.effects.specs.Effects.{effect_at}
 use Rattle.effects.proofs.entries_fit.Given as goal
 
 abbrev pub invariant-loop-i : goal.invariant-loop-i

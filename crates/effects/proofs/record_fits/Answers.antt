@@ -2,7 +2,6 @@
 use mathlib.Core.Path.{◌≡◌, sym, ap, ◌∙◌}
 use mathlib.Core.Bool.{Bool, true, ◌&&◌}
 use Prim.Native.Nat.{◌*◌}
-use borrow.Author.Tests.{not-true, not-false}
 use Rattle.channel.specs.Shared.{shared, shared_fits}
 use Rattle.effects.specs.Effects.{effect_at, terms_fit}
 use Rattle.effects.proofs.Entries.{fits_by}

@@ -1,5 +1,5 @@
 -- `strided` meets its contract.
-use Prim.Native.Nat.{◌+◌, ◌*◌, ◌/◌, ◌%◌, ◌≤◌}
+use Prim.Native.Nat.{◌≤◌}
 use native.Mathlib.Omega.{arith}
 use Rattle.effects.specs.Inner.Strides.{strided}
 use Rattle.effects.proofs.Summing.{dim_square}

@@ -1,15 +1,14 @@
 -- `sum_entry` meets its contract.
 use mathlib.Core.Path.{◌≡◌, refl, sym, ap, ◌∙◌, subst}
 use mathlib.Core.Bool.{Bool, true, cond}
-use Prim.Native.Nat.{ℕ, ◌+◌, ◌*◌, ◌-◌, ◌/◌, ◌%◌, ◌≤◌, ◌<◌}
+use Prim.Native.Nat.{ℕ, ◌+◌, ◌*◌, ◌-◌, ◌/◌, ◌%◌, ◌<◌}
 use native.Mathlib.Omega.{arith}
-use borrow.Author.Tests.{not-true, not-false}
 use Rattle.exact.specs.Exact.{Exact, well_formed}
 use Rattle.verdict.specs.declared.Verdict.TheVariants.{TooLarge}
 use Rattle.scalar.specs.Calls.{scalar_of, accepted_as, accepted, refused_with}
 use Rattle.channel.specs.Layout.{channels, entry_at, side}
 use Rattle.effects.specs.Effects.{term, effect_at}
-use Rattle.effects.proofs.Summing.{row_below, col_below, place_below, Summed, stops, goes_on, done}
+use Rattle.effects.proofs.Summing.{row_below, col_below, place_below, stops, goes_on, done}
 use Rattle.effects.proofs.Entries.{entries_in, entry-formed}
 use Rattle.effects.proofs.sum_entry.Lts as lts
 use Rattle.effects.proofs.sum_entry.Reads as reads

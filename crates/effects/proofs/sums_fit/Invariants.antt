@@ -1,15 +1,8 @@
 -- `sums_fit` meets its contract.
-use mathlib.Core.Path.{◌≡◌, refl, sym, ap, ◌∙◌, subst}
+use mathlib.Core.Path.{◌≡◌}
 use mathlib.Core.Bool.{true}
-use Prim.Native.Nat.{ℕ, ◌+◌, ◌*◌, ◌-◌, ◌≤◌}
-use native.Mathlib.Omega.{arith}
-use lib.ListN.{length}
-use borrow.Author.Tests.{not-true, not-false}
-use Rattle.algebra.proofs.Tests.{all-step, all_no}
-use Rattle.channel.specs.Layout.{channels, header_size, record_at}
-use Rattle.effects.specs.Effects.{record_fits, sums_fit}
-use Rattle.effects.specs.Inner.Readable.{Readable}
-use Rattle.effects.proofs.Summing.{dim_square}
+use Prim.Native.Nat.{◌-◌, ◌≤◌}
+use Rattle.effects.specs.Effects.{sums_fit}
 use Rattle.effects.proofs.sums_fit.Given as goal
 
 abbrev pub invariant-loop-j : goal.invariant-loop-j

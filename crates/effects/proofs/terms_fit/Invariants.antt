@@ -1,13 +1,9 @@
 -- `terms_fit` meets its contract.
-use mathlib.Core.Path.{◌≡◌, refl, sym, ap, ◌∙◌}
+use mathlib.Core.Path.{◌≡◌}
 use mathlib.Core.Bool.{true}
 use Prim.Native.Nat.{ℕ, ◌*◌, ◌-◌, ◌≤◌}
-use native.Mathlib.Omega.{arith}
-use borrow.Author.Tests.{not-true, not-false}
 use Rattle.algebra.specs.Lists.{all_below}
-use Rattle.algebra.proofs.Tests.{all-step, all_no}
 use Rattle.effects.specs.Effects.{term, partials_fit}
-use Rattle.effects.proofs.Summing.{dim_square, answer_tests}
 use Rattle.effects.proofs.terms_fit.Given as goal
 
 abbrev pub invariant-loop-i : goal.invariant-loop-i

@@ -1,17 +1,15 @@
 -- `write_block` meets its contract.
-use mathlib.Core.Path.{◌≡◌, refl, sym, ap, ◌∙◌, subst}
-use mathlib.Core.List.{[], ◌∷◌}
-use Prim.Native.Nat.{ℕ, ◌+◌, ◌*◌, ◌^◌, ◌≤◌, ◌<◌}
+use mathlib.Core.Path.{refl, sym, ap, ◌∙◌, subst}
+use mathlib.Core.List.{◌∷◌}
+use Prim.Native.Nat.{ℕ, ◌+◌, ◌^◌, ◌<◌}
 use native.Mathlib.Omega.{arith}
-use lib.Dec.{lit<}
 use lib.ListN.{length, set, length-set}
 use lib.IntN.{ℤ, pos}
 use lib.Seq.{sets}
 use mir.Syntax.{w64}
-use mir.Val.{to_z}
 use mir.Facts.{to_z_pos}
 use Rattle.algebra.proofs.Blocks.{length-blocks, append_block}
-use Rattle.exact.specs.Exact.{Number, list_of, max_exponent}
+use Rattle.exact.specs.Exact.{Number}
 use Rattle.channel.specs.Shared.{scaled}
 use Rattle.channel.specs.Layout.{effects, block_words}
 use Rattle.effects.specs.Inner.Strides.{strided_at}

@@ -7,7 +7,6 @@ use lib.ListN.{length}
 use mir.Facts.{to_z-of_z}
 use mir.Syntax.{w64}
 use mir.Val.{SFits}
-use borrow.Author.Tests.{not-true, not-false}
 use Rattle.algebra.specs.Words.{up_to}
 use Rattle.exact.specs.Exact.{max_exponent}
 use Rattle.channel.specs.Layout.{record_head, exponent_place, block_size, word}

@@ -4,14 +4,12 @@ use mathlib.Core.Bool.{true, false, ◌&&◌}
 use Prim.Native.Nat.{ℕ, ◌+◌, ◌*◌, ◌-◌, ◌<◌, ◌≤◌}
 use native.Mathlib.Nat.{le_trans}
 use native.Mathlib.Omega.{arith}
-use mathlib.Core.List.{List}
 use lib.Dec.{T}
 use lib.ListN.{length}
 use lib.IntN.{ℤ, nat_abs}
 use lib.Signed.{non_neg}
 use mir.Syntax.{w64}
 use mir.Val.{to_z}
-use borrow.Author.Tests.{not-true, not-false}
 use Rattle.algebra.specs.Words.{up_to}
 use Rattle.algebra.proofs.Signed.{reads}
 use Rattle.algebra.proofs.Tests.{and_split}

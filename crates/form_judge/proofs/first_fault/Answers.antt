@@ -5,12 +5,11 @@ use native.Mathlib.Nat.{add-zero, zero-add}
 use native.Mathlib.Omega.{arith}
 use lib.ListN.{length}
 use lib.IntN.{nat_abs}
-use borrow.Author.Tests.{not-true, not-false}
 use Rattle.channel.specs.Layout.{Form, record_head, block_size, word, count_at}
 use Rattle.channel.specs.Inner.Shapes.{OnwardIn}
 use Rattle.channel.proofs.Chain.{begin_in, first_in, long_in, on-inside, on-block, on-next, on-index}
 use Rattle.recast.specs.Words.{form_of}
-use Rattle.form_judge.specs.Faults.{fault_from, fault_of}
+use Rattle.form_judge.specs.Faults.{fault_from}
 use Rattle.form_judge.proofs.Faults.{fault-here, fault-on, fault-end}
 use Rattle.form_judge.proofs.first_fault.Lts as lts
 use Rattle.form_judge.proofs.first_fault.Reads as reads

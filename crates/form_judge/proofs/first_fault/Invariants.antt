@@ -1,17 +1,9 @@
 -- `first_fault` meets its contract.
-use mathlib.Core.Path.{◌≡◌, sym, ap, ◌∙◌, subst}
-use Prim.Native.Nat.{ℕ, suc, ◌+◌, ◌-◌, ◌<◌, ◌≤◌}
-use native.Mathlib.Nat.{add-zero, zero-add}
-use native.Mathlib.Omega.{arith}
-use lib.ListN.{length}
-use lib.IntN.{nat_abs}
-use borrow.Author.Tests.{not-true, not-false}
-use Rattle.channel.specs.Layout.{Form, record_head, block_size, word, count_at}
+use mathlib.Core.Path.{◌≡◌}
+use Prim.Native.Nat.{◌+◌, ◌-◌, ◌≤◌}
 use Rattle.channel.specs.Inner.Shapes.{OnwardIn}
-use Rattle.channel.proofs.Chain.{begin_in, first_in, long_in, on-inside, on-block, on-next, on-index}
 use Rattle.recast.specs.Words.{form_of}
 use Rattle.form_judge.specs.Faults.{fault_from, fault_of}
-use Rattle.form_judge.proofs.Faults.{fault-here, fault-on, fault-end}
 use Rattle.form_judge.proofs.first_fault.Given as goal
 
 abbrev pub invariant-loop-i : goal.invariant-loop-i

@@ -10,7 +10,7 @@ use lib.IntN.{ℤ, nat_abs}
 use mir.Syntax.{w64, w32}
 use mir.Val.{SFits, to_z, of_z}
 use mir.Facts.{to_z-of_z}
-use borrow.Author.Tests.{not-true, not-false, le-leb, lt-leb}
+use borrow.Author.Tests.{le-leb, lt-leb}
 use Rattle.algebra.specs.Words.{up_to}
 use Rattle.verdict.specs.declared.Verdict.TheVariants.{Accepted, Malformed}
 use Rattle.algebra.proofs.Tests.{and_split}

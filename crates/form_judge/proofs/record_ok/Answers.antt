@@ -4,7 +4,6 @@ use mathlib.Core.Bool.{Bool, true, ◌&&◌, ◌||◌}
 use Prim.Native.Nat.{ℕ, ◌+◌, ◌≤◌}
 use native.Mathlib.Omega.{arith}
 use lib.ListN.{length}
-use borrow.Author.Tests.{not-true, not-false}
 use Rattle.algebra.specs.Words.{up_to}
 use Rattle.algebra.proofs.Tests.{and_split}
 use Rattle.store.specs.Store.{max_word, before}

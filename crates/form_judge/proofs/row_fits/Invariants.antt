@@ -1,11 +1,8 @@
 -- `row_fits` meets its contract.
-use mathlib.Core.Path.{◌≡◌, refl, sym, ap, ◌∙◌}
-use mathlib.Core.Bool.{Bool, true}
-use Prim.Native.Nat.{ℕ, ◌-◌, ◌≤◌}
-use native.Mathlib.Omega.{arith}
-use borrow.Author.Tests.{not-true, not-false}
+use mathlib.Core.Path.{◌≡◌}
+use mathlib.Core.Bool.{true}
+use Prim.Native.Nat.{◌-◌, ◌≤◌}
 use Rattle.algebra.specs.Lists.{all_below}
-use Rattle.algebra.proofs.Tests.{all-step, all_no}
 use Rattle.channel.specs.Layout.{numbers_at}
 use Rattle.recast.specs.Words.{form_of}
 use Rattle.form_judge.specs.Inner.Judging.{cell_fits}

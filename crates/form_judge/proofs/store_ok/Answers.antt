@@ -7,7 +7,6 @@ use lib.IntN.{ℤ}
 use mir.Syntax.{w64}
 use mir.Val.{SFits}
 use mir.Facts.{to_z-of_z}
-use borrow.Author.Tests.{not-true, not-false}
 use Rattle.algebra.specs.Words.{up_to}
 use Rattle.algebra.proofs.Tests.{and_split}
 use Rattle.store.specs.Store.{max_word, store_from}

@@ -1,12 +1,11 @@
 -- `each_in_range` meets its contract: word by word.
 use mathlib.Core.Path.{◌≡◌, refl, sym, ap, ◌∙◌}
 use mathlib.Core.Bool.{true}
-use Prim.Native.Nat.{ℕ, ◌+◌, ◌-◌, ◌≤◌, ◌<◌}
+use Prim.Native.Nat.{ℕ, ◌+◌, ◌-◌}
 use native.Mathlib.Omega.{arith}
 use lib.Dec.{leb}
 use lib.ListN.{get_or}
 use lib.IntN.{ℤ, pos, nat_abs}
-use borrow.Author.Tests.{not-true, not-false}
 use Rattle.algebra.proofs.Tests.{all-step, all_no}
 use Rattle.algebra.proofs.Signed.{reads}
 use Rattle.exact.specs.Exact.{max_numerator}

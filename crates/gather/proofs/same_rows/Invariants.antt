@@ -1,11 +1,8 @@
 -- `same_rows` meets its contract: each row is the same, or one that differs decides.
-use mathlib.Core.Path.{◌≡◌, refl, sym, ap, ◌∙◌}
-use mathlib.Core.Bool.{true, false}
-use Prim.Native.Nat.{ℕ, ◌+◌, ◌-◌, ◌≤◌}
-use native.Mathlib.Omega.{arith}
-use borrow.Author.Tests.{not-true, not-false}
+use mathlib.Core.Path.{◌≡◌}
+use mathlib.Core.Bool.{true}
+use Prim.Native.Nat.{◌-◌, ◌≤◌}
 use Rattle.gather.specs.Words.{same_words}
-use Rattle.gather.proofs.Laws.{row_is, row_no}
 use Rattle.gather.proofs.same_rows.Given as goal
 
 abbrev pub invariant-loop-k : goal.invariant-loop-k

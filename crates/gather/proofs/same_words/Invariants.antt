@@ -1,17 +1,11 @@
 -- `same_words` meets its contract: what is gathered so far is 0 exactly if the first i words are the same.
-use mathlib.Core.Path.{◌≡◌, refl, ap, ◌∙◌}
-use Prim.Native.Nat.{ℕ, ◌+◌, ◌-◌, ◌≤◌}
-use native.Mathlib.Omega.{arith}
+use mathlib.Core.Path.{◌≡◌}
+use Prim.Native.Nat.{◌-◌, ◌≤◌}
 use lib.Dec.{eqb}
-use lib.Bits.{bit_xor}
 use mir.Syntax.{w64}
 use mir.Val.{of_z}
-use lib.ListN.{get_or}
-use lib.IntN.{pos}
 use Rattle.algebra.specs.Lists.{all_below}
-use Rattle.algebra.proofs.Signed.{or_zero}
 use Rattle.gather.specs.Words.{same_at}
-use Rattle.gather.proofs.Laws.{all_more, xor_words}
 use Rattle.gather.proofs.same_words.Given as goal
 
 abbrev pub invariant-loop-i : goal.invariant-loop-i

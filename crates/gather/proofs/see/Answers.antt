@@ -1,5 +1,5 @@
 -- `see` meets its contract: by the edges at once, or the range word by word.
-use mathlib.Core.Path.{◌≡◌, sym, subst}
+use mathlib.Core.Path.{sym, subst}
 use mathlib.Core.Bool.{true}
 use Prim.Native.Nat.{ℕ, ◌^◌, ◌<◌}
 use mir.Syntax.{w64}

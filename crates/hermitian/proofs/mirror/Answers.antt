@@ -1,10 +1,9 @@
 -- `mirror` meets its contract.
-use Prim.Native.Nat.{◌-◌, ◌≤◌}
+use Prim.Native.Nat.{◌-◌}
 use native.Mathlib.Nat.{le_refl, mul-le-mul}
 use native.Mathlib.Omega.{arith}
 use Rattle.algebra.proofs.Blocks.{done, long}
-use Rattle.hermitian.specs.Inner.Sparse.{mirrored_at}
-use Rattle.overlaps.proofs.Rows.{Rows, no_rows}
+use Rattle.overlaps.proofs.Rows.{no_rows}
 use Rattle.hermitian.proofs.Mirrored.{mirror_asks, mirror_more}
 use Rattle.hermitian.proofs.mirror.Goals as goal
 

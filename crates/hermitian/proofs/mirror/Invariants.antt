@@ -1,11 +1,7 @@
 -- `mirror` meets its contract.
 use Prim.Native.Nat.{◌-◌, ◌≤◌}
-use native.Mathlib.Nat.{le_refl, mul-le-mul}
-use native.Mathlib.Omega.{arith}
-use Rattle.algebra.proofs.Blocks.{done, long}
 use Rattle.hermitian.specs.Inner.Sparse.{mirrored_at}
-use Rattle.overlaps.proofs.Rows.{Rows, no_rows}
-use Rattle.hermitian.proofs.Mirrored.{mirror_asks, mirror_more}
+use Rattle.overlaps.proofs.Rows.{Rows}
 use Rattle.hermitian.proofs.mirror.Given as goal
 
 abbrev pub invariant-loop-r : goal.invariant-loop-r

@@ -1,10 +1,9 @@
 -- `shift_rows` meets its contract.
-use mathlib.Core.Path.{ap}
-use Prim.Native.Nat.{ℕ, ◌*◌, ◌-◌, ◌≤◌}
+use Prim.Native.Nat.{◌-◌}
 use native.Mathlib.Nat.{le_refl, mul-le-mul}
 use native.Mathlib.Omega.{arith}
 use Rattle.algebra.proofs.Blocks.{done, long}
-use Rattle.hermitian.proofs.Shared.{Shifted, none-shifted, shift_asks, shift_more}
+use Rattle.hermitian.proofs.Shared.{none-shifted, shift_asks, shift_more}
 use Rattle.hermitian.proofs.shift_rows.Goals as goal
 
 pub loop-r-init : goal.loop-r-init

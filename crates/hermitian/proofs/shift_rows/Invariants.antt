@@ -1,10 +1,6 @@
 -- `shift_rows` meets its contract.
-use mathlib.Core.Path.{ap}
-use Prim.Native.Nat.{ℕ, ◌*◌, ◌-◌, ◌≤◌}
-use native.Mathlib.Nat.{le_refl, mul-le-mul}
-use native.Mathlib.Omega.{arith}
-use Rattle.algebra.proofs.Blocks.{done, long}
-use Rattle.hermitian.proofs.Shared.{Shifted, none-shifted, shift_asks, shift_more}
+use Prim.Native.Nat.{◌-◌, ◌≤◌}
+use Rattle.hermitian.proofs.Shared.{Shifted}
 use Rattle.hermitian.proofs.shift_rows.Given as goal
 
 abbrev pub invariant-loop-r : goal.invariant-loop-r

@@ -1,6 +1,5 @@
 -- `judge_all` ends: each turn leaves one pair less.
-use mathlib.Core.Path.{◌≡◌, refl}
-use Prim.Native.Nat.{ℕ}
+use mathlib.Core.Path.{refl}
 use native.Mathlib.Omega.{arith}
 use Rattle.judge_pairs.proofs.judge_all.Goals as goal
 

@@ -1,7 +1,5 @@
 -- `judge_all` ends: each turn leaves one pair less.
-use mathlib.Core.Path.{◌≡◌, refl}
-use Prim.Native.Nat.{ℕ}
-use native.Mathlib.Omega.{arith}
+use mathlib.Core.Path.{◌≡◌}
 use Rattle.judge_pairs.proofs.judge_all.Given as goal
 
 abbrev pub invariant-loop-rest : goal.invariant-loop-rest

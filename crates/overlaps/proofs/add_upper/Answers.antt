@@ -5,8 +5,7 @@ use native.Mathlib.Omega.{arith}
 use lib.ListN.{length}
 use Rattle.algebra.proofs.Blocks.{done, long}
 use Rattle.cells.specs.Cells.{cell_size}
-use Rattle.overlaps.specs.Inner.Overlap.{upper_added}
-use Rattle.overlaps.proofs.Rows.{Rows, no_rows, diagonal-room, row_asks, row_more}
+use Rattle.overlaps.proofs.Rows.{no_rows, diagonal-room, row_asks, row_more}
 use Rattle.overlaps.proofs.add_upper.Lts as lts
 use Rattle.overlaps.proofs.add_upper.Reads as reads
 use Rattle.overlaps.proofs.add_upper.Tie as tie

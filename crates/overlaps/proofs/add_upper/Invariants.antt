@@ -1,12 +1,7 @@
 -- `add_upper` meets its contract.
-use Prim.Native.Nat.{◌+◌, ◌*◌, ◌-◌, ◌≤◌}
-use native.Mathlib.Nat.{le_refl, mul-le-mul}
-use native.Mathlib.Omega.{arith}
-use lib.ListN.{length}
-use Rattle.algebra.proofs.Blocks.{done, long}
-use Rattle.cells.specs.Cells.{cell_size}
+use Prim.Native.Nat.{◌-◌, ◌≤◌}
 use Rattle.overlaps.specs.Inner.Overlap.{upper_added}
-use Rattle.overlaps.proofs.Rows.{Rows, no_rows, diagonal-room, row_asks, row_more}
+use Rattle.overlaps.proofs.Rows.{Rows}
 use Rattle.overlaps.proofs.add_upper.Given as goal
 
 abbrev pub invariant-loop-r : goal.invariant-loop-r

@@ -3,10 +3,9 @@ use mathlib.Core.Path.{◌≡◌, sym, ◌∙◌}
 use mathlib.Core.Bool.{true, false}
 use Prim.Native.Nat.{◌-◌}
 use native.Mathlib.Omega.{arith}
-use borrow.Author.Tests.{not-true, not-false}
 use Rattle.pair_list.specs.Pairs.{framed}
 use Rattle.pair_list.specs.Inner.Spots.{Framed}
-use Rattle.pair_list.proofs.Framing.{Walk, walk_none, walk_more, walk_stop, walk_end, framed-room}
+use Rattle.pair_list.proofs.Framing.{walk_none, walk_more, walk_stop, walk_end, framed-room}
 use Rattle.pair_list.proofs.judge_pairs.Lts as lts
 use Rattle.pair_list.proofs.judge_pairs.Reads as reads
 use Rattle.pair_list.proofs.judge_pairs.Tie as tie

@@ -8,7 +8,7 @@ use Rattle.gate.specs.Gate.{Gate, gate_size}
 use Rattle.circuit.specs.Inner.Firing.{first_from}
 use Rattle.circuit.proofs.Firing.{first_more, first-none}
 use Rattle.plain.specs.Profile.{in_profile}
-use Rattle.plain.specs.Inner.Outside.{outside, first_outside}
+use Rattle.plain.specs.Inner.Outside.{outside}
 use Rattle.plain.proofs.first_outside.Goals as goal
 
 pub loop-i-init : goal.loop-i-init

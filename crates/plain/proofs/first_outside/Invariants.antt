@@ -1,13 +1,9 @@
 -- The invariant: the gates passed so far are in the profile, so the rest decides.
-use mathlib.Core.Path.{◌≡◌, sym, ap, ◌∙◌}
-use mathlib.Core.Bool.{Bool, cond, not}
-use Prim.Native.Nat.{ℕ, ◌+◌, ◌-◌, ◌/◌}
-use native.Mathlib.Omega.{arith}
+use mathlib.Core.Path.{◌≡◌}
+use Prim.Native.Nat.{◌-◌, ◌/◌}
 use lib.ListN.{length}
-use Rattle.gate.specs.Gate.{Gate, gate_size}
+use Rattle.gate.specs.Gate.{gate_size}
 use Rattle.circuit.specs.Inner.Firing.{first_from}
-use Rattle.circuit.proofs.Firing.{first_more, first-none}
-use Rattle.plain.specs.Profile.{in_profile}
 use Rattle.plain.specs.Inner.Outside.{outside, first_outside}
 use Rattle.plain.proofs.first_outside.Given as goal
 

@@ -1,13 +1,9 @@
 -- `judge_formed` meets its contract.
-use mathlib.Core.Path.{◌≡◌, sym, ◌∙◌}
-use Prim.Native.Nat.{◌-◌, ◌/◌}
+use mathlib.Core.Path.{sym, ◌∙◌}
+use Prim.Native.Nat.{◌-◌}
 use native.Mathlib.Omega.{arith}
-use lib.ListN.{length}
-use Rattle.verdict.specs.Questions.{first_no}
-use Rattle.gate.specs.Gate.{gate_size, gates_of}
-use Rattle.qasm_writer.specs.Call.{along, formed_at}
-use Rattle.qasm_writer.proofs.Asked.{from, ask_all, ask_yes, ask_no, ask_none}
-use borrow.Author.Tests.{not-true, not-false}
+use Rattle.qasm_writer.specs.Call.{formed_at}
+use Rattle.qasm_writer.proofs.Asked.{ask_all, ask_yes, ask_no, ask_none}
 use Rattle.qasm_writer.proofs.judge_formed.Goals as goal
 
 pub loop-i-init : goal.loop-i-init

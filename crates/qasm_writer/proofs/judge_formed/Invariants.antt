@@ -1,13 +1,11 @@
 -- `judge_formed` meets its contract.
-use mathlib.Core.Path.{◌≡◌, sym, ◌∙◌}
+use mathlib.Core.Path.{◌≡◌}
 use Prim.Native.Nat.{◌-◌, ◌/◌}
-use native.Mathlib.Omega.{arith}
 use lib.ListN.{length}
 use Rattle.verdict.specs.Questions.{first_no}
 use Rattle.gate.specs.Gate.{gate_size, gates_of}
 use Rattle.qasm_writer.specs.Call.{along, formed_at}
-use Rattle.qasm_writer.proofs.Asked.{from, ask_all, ask_yes, ask_no, ask_none}
-use borrow.Author.Tests.{not-true, not-false}
+use Rattle.qasm_writer.proofs.Asked.{from}
 use Rattle.qasm_writer.proofs.judge_formed.Given as goal
 
 abbrev pub invariant-loop-i : goal.invariant-loop-i

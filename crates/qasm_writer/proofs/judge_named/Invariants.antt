@@ -1,14 +1,11 @@
 -- `judge_named` meets its contract.
-use mathlib.Core.Path.{◌≡◌, sym, ◌∙◌}
+use mathlib.Core.Path.{◌≡◌}
 use Prim.Native.Nat.{◌-◌, ◌/◌}
-use native.Mathlib.Omega.{arith}
 use lib.ListN.{length}
 use Rattle.verdict.specs.Questions.{first_no}
 use Rattle.gate.specs.Gate.{gate_size, gates_of}
 use Rattle.qasm_writer.specs.Call.{along, named_at}
-use Rattle.qasm_writer.proofs.Asked.{from, ask_all, ask_yes, ask_no, ask_none}
-use Rattle.gate.specs.Inner.Words.{gate_of}
-use Rattle.qasm_writer.proofs.Lines.{named, nameless}
+use Rattle.qasm_writer.proofs.Asked.{from}
 use Rattle.qasm_writer.proofs.judge_named.Given as goal
 
 abbrev pub invariant-loop-i : goal.invariant-loop-i

@@ -7,7 +7,7 @@ use lib.ListN.{length}
 use Rattle.algebra.specs.Words.{blocks}
 use Rattle.channel.specs.Layout.{Form, entry_size, entry_words, from, row_start, block_size, numbers_at}
 use Rattle.recast.specs.Words.{form_of}
-use Rattle.recast.proofs.Rows.{row_room, Rows, rows_begin, rows_again, rows_done, rows_long}
+use Rattle.recast.proofs.Rows.{row_room, rows_begin, rows_again, rows_done, rows_long}
 use Rattle.recast.proofs.copy_block.Lts as lts
 use Rattle.recast.proofs.copy_block.Reads as reads
 use Rattle.recast.proofs.copy_block.Tie as tie

@@ -5,7 +5,7 @@ use native.Mathlib.Nat.{le_of_eq}
 use native.Mathlib.Omega.{arith}
 use lib.ListN.{length}
 use lib.Seq.{sets}
-use Rattle.algebra.proofs.Blocks.{Writing, begin, again, done, long, block_in_lem}
+use Rattle.algebra.proofs.Blocks.{begin, again, done, long, block_in_lem}
 use Rattle.channel.specs.Layout.{Form, header_size, record_size, record_at, word}
 use Rattle.channel.specs.Recast.{recast_record}
 use Rattle.recast.specs.Words.{form_of}

@@ -1,16 +1,9 @@
 -- `copy_records` meets its contract.
-use mathlib.Core.Path.{◌≡◌, sym, ap, ◌∙◌, subst}
-use Prim.Native.Nat.{ℕ, ◌+◌, ◌*◌, ◌-◌, ◌≤◌}
-use native.Mathlib.Nat.{le_of_eq}
-use native.Mathlib.Omega.{arith}
-use lib.ListN.{length}
-use lib.Seq.{sets}
-use Rattle.algebra.proofs.Blocks.{Writing, begin, again, done, long, block_in_lem}
-use Rattle.channel.specs.Layout.{Form, header_size, record_size, record_at, word}
+use Prim.Native.Nat.{ℕ, ◌-◌}
+use Rattle.algebra.proofs.Blocks.{Writing}
+use Rattle.channel.specs.Layout.{header_size, record_size, record_at}
 use Rattle.channel.specs.Recast.{recast_record}
 use Rattle.recast.specs.Words.{form_of}
-use Rattle.recast.specs.Inner.Records.{Readable, Linked}
-use Rattle.recast.proofs.Whole.{record_long}
 use Rattle.recast.proofs.copy_records.Given as goal
 
 abbrev pub invariant-loop-j : goal.invariant-loop-j

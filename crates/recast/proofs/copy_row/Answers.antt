@@ -7,10 +7,9 @@ use native.Mathlib.Omega.{arith}
 use lib.ListN.{length}
 use lib.Seq.{sets}
 use lib.IntN.{ℤ}
-use Rattle.algebra.proofs.Blocks.{Writing, begin, again, done, long, block_in_lem}
+use Rattle.algebra.proofs.Blocks.{begin, again, done, long, block_in_lem}
 use Rattle.exact.specs.Exact.{number_of}
-use Rattle.channel.specs.Layout.{entry_size, entry_words, numbers_at}
-use Rattle.recast.specs.Words.{form_of}
+use Rattle.channel.specs.Layout.{entry_size, entry_words}
 use Rattle.recast.proofs.Places.{entry_long}
 use Rattle.recast.proofs.copy_row.Lts as lts
 use Rattle.recast.proofs.copy_row.Reads as reads

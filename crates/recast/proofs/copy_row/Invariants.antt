@@ -1,17 +1,8 @@
 -- `copy_row` meets its contract.
-use mathlib.Core.Path.{◌≡◌, sym, ap, ◌∙◌, subst}
-use mathlib.Core.List.{List}
-use Prim.Native.Nat.{ℕ, ◌+◌, ◌*◌, ◌-◌, ◌≤◌, ◌<◌}
-use native.Mathlib.Nat.{le_of_eq}
-use native.Mathlib.Omega.{arith}
-use lib.ListN.{length}
-use lib.Seq.{sets}
-use lib.IntN.{ℤ}
-use Rattle.algebra.proofs.Blocks.{Writing, begin, again, done, long, block_in_lem}
-use Rattle.exact.specs.Exact.{number_of}
+use Prim.Native.Nat.{ℕ, ◌+◌, ◌*◌, ◌-◌}
+use Rattle.algebra.proofs.Blocks.{Writing}
 use Rattle.channel.specs.Layout.{entry_size, entry_words, numbers_at}
 use Rattle.recast.specs.Words.{form_of}
-use Rattle.recast.proofs.Places.{entry_long}
 use Rattle.recast.proofs.copy_row.Given as goal
 
 abbrev pub invariant-loop-j : goal.invariant-loop-j

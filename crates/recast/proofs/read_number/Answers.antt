@@ -1,13 +1,12 @@
 -- `read_number` meets its contract.
 use mathlib.Core.Path.{◌≡◌, sym, ap, ◌∙◌, subst}
-use mathlib.Core.List.{List}
 use Prim.Native.Nat.{ℕ, ◌+◌, ◌*◌, ◌<◌, ◌≤◌}
 use native.Mathlib.Omega.{arith}
 use lib.ListN.{length}
 use Rattle.algebra.specs.Quadratic.{conjugate}
 use Rattle.exact.specs.Exact.{Number, root2, number_of, list_of, max_numerator}
 use Rattle.exact.specs.Inner.Sizes.{Within}
-use Rattle.channel.specs.Layout.{record_head, entry_size, from, kept, word, numbers_at}
+use Rattle.channel.specs.Layout.{record_head, entry_size, from, numbers_at}
 use Rattle.recast.specs.Words.{form_of}
 use Rattle.recast.specs.Inner.Records.{Kept}
 use Rattle.recast.proofs.Places.{kept-inside, lost, number-kept, number_lost, read_is, in_range_lem}

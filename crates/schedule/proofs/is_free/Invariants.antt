@@ -1,10 +1,8 @@
 -- The invariant: no gate before j stands in the way.
-use mathlib.Core.Path.{◌≡◌, refl, sym, ap, ◌∙◌}
+use mathlib.Core.Path.{◌≡◌}
 use mathlib.Core.Bool.{true, not}
 use Prim.Native.Nat.{ℕ, ◌-◌, ◌≤◌}
-use native.Mathlib.Omega.{arith}
 use Rattle.algebra.specs.Lists.{all_below}
-use Rattle.algebra.proofs.Tests.{all-step, all_no}
 use Rattle.gate.specs.Gate.{gates_of}
 use Rattle.gate.specs.Inner.Words.{gate_of}
 use Rattle.schedule.specs.Questions.{bars}

@@ -1,12 +1,11 @@
 -- The invariant: the positions before i are sound.
-use mathlib.Core.Path.{◌≡◌, refl, sym, ap, ◌∙◌}
+use mathlib.Core.Path.{◌≡◌, refl, sym, ◌∙◌}
 use mathlib.Core.Bool.{true}
 use Prim.Native.Nat.{◌-◌, ◌/◌}
 use native.Mathlib.Omega.{arith}
-use borrow.Author.Tests.{not-true, not-false, eqb-true}
+use borrow.Author.Tests.{eqb-true}
 use lib.Dec.{eqb}
 use lib.ListN.{length}
-use Rattle.algebra.specs.Lists.{all_below}
 use Rattle.algebra.proofs.Tests.{and_split, all-step}
 use Rattle.gate.specs.Gate.{gate_size, gates_of}
 use Rattle.schedule.specs.Questions.{same_lengths, sound}

@@ -1,16 +1,11 @@
 -- The invariant: the positions before i are sound.
-use mathlib.Core.Path.{◌≡◌, refl, sym, ap, ◌∙◌}
+use mathlib.Core.Path.{◌≡◌}
 use mathlib.Core.Bool.{true}
 use Prim.Native.Nat.{◌-◌, ◌/◌}
-use native.Mathlib.Omega.{arith}
-use borrow.Author.Tests.{not-true, not-false, eqb-true}
-use lib.Dec.{eqb}
 use lib.ListN.{length}
 use Rattle.algebra.specs.Lists.{all_below}
-use Rattle.algebra.proofs.Tests.{and_split, all-step}
 use Rattle.gate.specs.Gate.{gate_size, gates_of}
-use Rattle.schedule.specs.Questions.{same_lengths, sound}
-use Rattle.schedule.proofs.Asked.{lengths_are, lengths_differ, position_no, positions_yes}
+use Rattle.schedule.specs.Questions.{sound}
 use Rattle.schedule.proofs.judge_table.Given as goal
 
 abbrev pub invariant-loop-i : goal.invariant-loop-i

@@ -1,16 +1,8 @@
 -- `or_more` meets its contract: what is gathered so far is that of i words.
-use mathlib.Core.Path.{◌≡◌, sym, ap, ◌∙◌, subst}
-use mathlib.Core.List.{List}
-use Prim.Native.Nat.{ℕ, ◌+◌, ◌-◌, ◌^◌, ◌≤◌, ◌<◌}
-use native.Mathlib.Nat.{le_refl}
-use native.Mathlib.Decide.{dec_lt}
-use native.Mathlib.Numerals.{add-one}
-use native.Mathlib.Omega.{arith}
-use lib.Bits.{bit_or, or_lt}
+use mathlib.Core.Path.{◌≡◌}
+use Prim.Native.Nat.{ℕ, ◌+◌, ◌-◌, ◌≤◌, ◌<◌}
 use mir.Syntax.{w64}
-use lib.IntN.{ℤ}
 use mir.Val.{SFits, of_z}
-use mir.Facts.{of_z-to_z, Fits-of_z}
 use Rattle.channel.specs.Layout.{word}
 use Rattle.share.specs.Share.{or_words}
 use Rattle.share.proofs.or_more.Given as goal

@@ -1,13 +1,12 @@
 -- `shift_words` meets its contract: i words are shifted, the rest is as it was.
 use mathlib.Core.Path.{◌∙◌, ap}
-use mathlib.Core.List.{[], ◌∷◌}
-use Prim.Native.Nat.{ℕ, ◌+◌, ◌*◌, ◌-◌, ◌^◌}
+use Prim.Native.Nat.{◌+◌, ◌-◌, ◌^◌}
 use native.Mathlib.Nat.{le_refl}
 use native.Mathlib.Omega.{arith}
 use lib.ListN.{get_or}
 use lib.IntN.{ℤ, pos}
 use lib.Signed.{shr_z}
-use Rattle.algebra.proofs.Blocks.{Writing, begin, again_word, done, long, rest}
+use Rattle.algebra.proofs.Blocks.{begin, again_word, done, long, rest}
 use Rattle.algebra.proofs.Signed.{shift_back}
 use Rattle.share.proofs.shift_words.Goals as goal
 

@@ -1,12 +1,7 @@
 -- `find_gate` meets its contract.
-use mathlib.Core.Logic.{⊎_elim}
-use Prim.Native.Nat.{◌-◌, ◌≤◌}
-use native.Mathlib.Omega.{arith}
-use lib.ListN.{length, drop}
-use Rattle.qasm.specs.Tokens.{is_blank}
-use Rattle.qasm.specs.Inner.Progress.{Inside}
-use Rattle.qasm.proofs.Scanning.{run-most, token-inside}
-use Rattle.statements.proofs.Counting.{Counting, counting_none, counting_top, counting_end, counting_found, counting_more, counting_same}
+use Prim.Native.Nat.{◌-◌}
+use lib.ListN.{length}
+use Rattle.statements.proofs.Counting.{Counting}
 use Rattle.statements.proofs.find_gate.Given as goal
 
 abbrev pub invariant-loop-begin : goal.invariant-loop-begin

@@ -1,14 +1,10 @@
 -- The invariant: the bytes passed so far are 0 or 1, so the rest decides.
-use mathlib.Core.Path.{◌≡◌, refl, sym, ap, ◌∙◌}
-use mathlib.Core.Bool.{Bool, ◌&&◌}
-use mathlib.Core.List.{List}
-use Prim.Native.Nat.{ℕ, ◌+◌, ◌-◌}
-use native.Mathlib.Omega.{arith}
+use mathlib.Core.Path.{◌≡◌}
+use mathlib.Core.Bool.{Bool}
+use Prim.Native.Nat.{ℕ, ◌-◌}
 use lib.Dec.{leb}
-use lib.ListN.{length, get_or, drop}
-use borrow.Author.Tests.{le-leb, lt-leb, eq-eqb, ne_eqb}
+use lib.ListN.{length, drop}
 use Rattle.algebra.specs.Lists.{every}
-use Rattle.store.proofs.Bytes.{every_more, every-none}
 use Rattle.store.proofs.is_store.Given as goal
 
 abbrev pub good : ℕ → Bool

@@ -1,8 +1,7 @@
 -- `copy` meets its contract.
 use Prim.Native.Nat.{◌-◌}
 use native.Mathlib.Omega.{arith}
-use lib.ListN.{length}
-use Rattle.text_sides.proofs.Padding.{Copied, copied_none, copied_more, copied_all}
+use Rattle.text_sides.proofs.Padding.{copied_none, copied_more, copied_all}
 use Rattle.text_sides.proofs.copy.Goals as goal
 
 pub loop-i-init : goal.loop-i-init

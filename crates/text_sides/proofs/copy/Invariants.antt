@@ -1,8 +1,7 @@
 -- `copy` meets its contract.
 use Prim.Native.Nat.{◌-◌}
-use native.Mathlib.Omega.{arith}
 use lib.ListN.{length}
-use Rattle.text_sides.proofs.Padding.{Copied, copied_none, copied_more, copied_all}
+use Rattle.text_sides.proofs.Padding.{Copied}
 use Rattle.text_sides.proofs.copy.Given as goal
 
 abbrev pub invariant-loop-i : goal.invariant-loop-i

@@ -1,11 +1,10 @@
 -- The invariant: the first i words are copied.
-use mathlib.Core.List.{[], ◌∷◌}
 use Prim.Native.Nat.{ℕ, ◌+◌, ◌-◌}
 use native.Mathlib.Nat.{le_refl}
 use native.Mathlib.Omega.{arith}
 use lib.ListN.{get_or}
 use lib.IntN.{pos}
-use Rattle.algebra.proofs.Blocks.{Writing, begin, done, long}
+use Rattle.algebra.proofs.Blocks.{begin, done, long}
 use Rattle.algebra.proofs.Signed.{reads}
 use Rattle.unitary.proofs.Words.{next_word}
 use Rattle.unitary.proofs.copy_out.Goals as goal

@@ -1,13 +1,9 @@
 -- The invariant: the first i words are copied.
-use mathlib.Core.List.{[], ◌∷◌}
+use mathlib.Core.List.{◌∷◌}
 use Prim.Native.Nat.{ℕ, ◌+◌, ◌-◌}
-use native.Mathlib.Nat.{le_refl}
-use native.Mathlib.Omega.{arith}
 use lib.ListN.{get_or}
 use lib.IntN.{pos}
-use Rattle.algebra.proofs.Blocks.{Writing, begin, done, long}
-use Rattle.algebra.proofs.Signed.{reads}
-use Rattle.unitary.proofs.Words.{next_word}
+use Rattle.algebra.proofs.Blocks.{Writing}
 use Rattle.unitary.proofs.copy_out.Given as goal
 
 abbrev pub invariant-loop-i : goal.invariant-loop-i

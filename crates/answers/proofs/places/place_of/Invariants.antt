@@ -1,8 +1,7 @@
 -- `places::place_of` meets its contract.
 use Prim.Native.Nat.{◌-◌}
-use native.Mathlib.Omega.{arith}
 use lib.ListN.{length}
-use Rattle.answers.proofs.Walk.{Walked, start, step, ends_there, ends-all}
+use Rattle.answers.proofs.Walk.{Walked}
 use Rattle.answers.proofs.places.place_of.Given as goal
 
 abbrev pub invariant-loop-i : goal.invariant-loop-i

@@ -2,8 +2,7 @@
 use mathlib.Core.Path.{sym, ap, ◌∙◌}
 use mathlib.Core.List.{◌∷◌}
 use Prim.Native.Nat.{ℕ, ◌+◌, ◌-◌, ◌%◌}
-use Rattle.text.specs.Page.{page}
-use Rattle.text.proofs.Put.{Left, left-all, left_less, left-none, left_is}
+use Rattle.text.proofs.Put.{left-all, left_less, left-none, left_is}
 use Rattle.answers.specs.States.{binary}
 use Rattle.answers.proofs.Bits.{binary-more, binary-end}
 use Rattle.answers.proofs.states.put_binary.Goals as goal

@@ -1,11 +1,8 @@
 -- `states::put_binary` meets its contract.
-use mathlib.Core.Path.{sym, ap, ◌∙◌}
-use mathlib.Core.List.{◌∷◌}
-use Prim.Native.Nat.{ℕ, ◌+◌, ◌-◌, ◌%◌}
+use Prim.Native.Nat.{◌-◌}
 use Rattle.text.specs.Page.{page}
-use Rattle.text.proofs.Put.{Left, left-all, left_less, left-none, left_is}
+use Rattle.text.proofs.Put.{Left}
 use Rattle.answers.specs.States.{binary}
-use Rattle.answers.proofs.Bits.{binary-more, binary-end}
 use Rattle.answers.proofs.states.put_binary.Given as goal
 
 abbrev pub invariant-loop-k : goal.invariant-loop-k

@@ -1,7 +1,6 @@
 -- `states::put_store` meets its contract.
-use Rattle.text.specs.Page.{page}
-use Rattle.text.proofs.Put.{text, Left, left-all, left_less, left-none, left_is}
-use Rattle.answers.proofs.Bits.{bit_bytes, bits_none, bits-some, bits-more, bits-end}
+use Rattle.text.proofs.Put.{text, left-all, left_less, left-none, left_is}
+use Rattle.answers.proofs.Bits.{bits_none, bits-some, bits-more, bits-end}
 use Rattle.answers.proofs.states.put_store.Goals as goal
 
 pub returns-then-m-eq0 : goal.returns-then-m-eq0

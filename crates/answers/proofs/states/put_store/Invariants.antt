@@ -1,7 +1,7 @@
 -- `states::put_store` meets its contract.
 use Rattle.text.specs.Page.{page}
-use Rattle.text.proofs.Put.{text, Left, left-all, left_less, left-none, left_is}
-use Rattle.answers.proofs.Bits.{bit_bytes, bits_none, bits-some, bits-more, bits-end}
+use Rattle.text.proofs.Put.{Left}
+use Rattle.answers.proofs.Bits.{bit_bytes}
 use Rattle.answers.proofs.states.put_store.Given as goal
 
 abbrev pub invariant-loop-left : goal.invariant-loop-left

@@ -8,12 +8,12 @@ use lib.Bits.{bit_and}
 use lib.ListN.{length}
 use lib.Seq.{sets}
 use lib.IntN.{ℤ}
-use Rattle.algebra.proofs.Blocks.{Writing, begin, done, long}
+use Rattle.algebra.proofs.Blocks.{begin, done, long}
 use Rattle.matrix.specs.Inner.Written.{written}
 use Rattle.store.specs.Inner.Held.{StoreAt}
 use Rattle.branches.specs.Inner.Store.{outcome_words}
 use Rattle.branches.specs.Inner.Bank.{matrix_size, branch_size, row_size}
-use Rattle.branches.specs.Inner.Step.{row_sum, Applying, step_words}
+use Rattle.branches.specs.Inner.Step.{row_sum, Applying}
 use Rattle.branches.proofs.Steps.{step_square, total_le, length-product, number_is, branch_is, op-at, old_in, new_in, turn_applying, turn-store, turn-room, turn_more}
 use Rattle.branches.proofs.bank.step.Lts as lts
 use Rattle.branches.proofs.bank.step.Reads as reads

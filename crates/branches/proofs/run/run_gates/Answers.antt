@@ -1,13 +1,12 @@
 -- `run_gates` meets its contract.
 use mathlib.Core.Path.{ap}
-use Prim.Native.Nat.{ℕ, ◌+◌, ◌*◌, ◌-◌, ◌/◌, ◌≤◌}
+use Prim.Native.Nat.{ℕ, ◌+◌, ◌*◌, ◌-◌, ◌≤◌}
 use native.Mathlib.Omega.{arith}
 use lib.Pow.{pow_mono}
 use lib.ListN.{length}
-use Rattle.gate.specs.Gate.{gate_size}
 use Rattle.branches.specs.Inner.Bank.{branch_size}
 use Rattle.branches.specs.Inner.Run.{Ran}
-use Rattle.branches.proofs.Runs.{Running, work_is, begins, place_le, ready, more, ends}
+use Rattle.branches.proofs.Runs.{work_is, begins, place_le, ready, more, ends}
 use Rattle.branches.proofs.run.run_gates.Lts as lts
 use Rattle.branches.proofs.run.run_gates.Reads as reads
 use Rattle.branches.proofs.run.run_gates.Tie as tie

@@ -3,7 +3,6 @@ use mathlib.Core.Path.{sym, ap, ◌∙◌, subst}
 use mathlib.Core.Bool.{Bool}
 use Prim.Native.Nat.{◌-◌, ◌<◌}
 use native.Mathlib.Omega.{arith}
-use borrow.Author.Tests.{not-true, not-false}
 use Rattle.channel.specs.Inner.Shapes.{Onward}
 use Rattle.channel.specs.Inner.Walk.{cursor_at, advance}
 use Rattle.channel.proofs.Chain.{on-inside, on-index, on-next}

@@ -1,10 +1,9 @@
 -- `compare::are_alike` meets its contract.
 use mathlib.Core.Path.{◌≡◌, sym, ap, ◌∙◌}
 use mathlib.Core.Bool.{Bool, true, false, ◌&&◌}
-use Prim.Native.Nat.{ℕ, ◌+◌, ◌≤◌}
+use Prim.Native.Nat.{◌+◌, ◌≤◌}
 use native.Mathlib.Omega.{arith}
 use lib.ListN.{length}
-use borrow.Author.Tests.{not-true, not-false}
 use Rattle.algebra.specs.Words.{eqℤ}
 use Rattle.algebra.proofs.Tests.{and_split}
 use Rattle.algebra.proofs.Signed.{eq_words}

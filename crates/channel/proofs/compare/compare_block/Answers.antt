@@ -1,15 +1,12 @@
 -- `compare::compare_block` meets its contract: the same words, or a search.
-use mathlib.Core.Path.{◌≡◌, sym, ap, ◌∙◌}
-use mathlib.Core.Bool.{true, ◌&&◌}
-use Prim.Native.Nat.{ℕ, ◌+◌, ◌*◌, ◌<◌}
+use mathlib.Core.Path.{sym, ap, ◌∙◌}
+use mathlib.Core.Bool.{true}
+use Prim.Native.Nat.{ℕ, ◌*◌}
 use native.Mathlib.Nat.{zero-add}
 use native.Mathlib.Omega.{arith}
 use Rattle.algebra.proofs.Tests.{and_split}
 use Rattle.exact.specs.Exact.{equal}
-use Rattle.gather.specs.Words.{same_words}
-use Rattle.channel.specs.Layout.{record_head}
-use Rattle.channel.specs.Compare.{Both}
-use Rattle.channel.specs.Inner.Walk.{alike, both_at}
+use Rattle.channel.specs.Inner.Walk.{both_at}
 use Rattle.channel.proofs.Alike.{alike_is, held_fewer, rows_decide, sides_alike}
 use Rattle.channel.proofs.Scanning.{all-agree}
 use Rattle.channel.proofs.compare.compare_block.Goals as goal

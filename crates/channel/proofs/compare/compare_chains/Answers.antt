@@ -1,9 +1,8 @@
 -- `compare::compare_chains` meets its contract.
 use mathlib.Core.Path.{◌≡◌, sym, ap, ◌∙◌, subst}
 use mathlib.Core.Bool.{true}
-use Prim.Native.Nat.{ℕ, ◌+◌, ◌*◌, ◌≤◌}
+use Prim.Native.Nat.{ℕ, ◌*◌, ◌≤◌}
 use lib.IntN.{ℤ, nat_abs}
-use borrow.Author.Tests.{not-true, not-false}
 use Rattle.channel.specs.declared.compare.Difference.{Difference}
 use Rattle.channel.specs.declared.compare.Turn.{Turn}
 use Rattle.channel.specs.Layout.{word, count_at}

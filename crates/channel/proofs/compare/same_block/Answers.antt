@@ -1,10 +1,9 @@
 -- `compare::same_block` meets its contract.
 use mathlib.Core.Path.{◌≡◌, sym, ap, ◌∙◌}
 use mathlib.Core.Bool.{Bool, true, false, ◌&&◌}
-use Prim.Native.Nat.{ℕ, ◌+◌, ◌*◌, ◌≤◌}
+use Prim.Native.Nat.{◌+◌, ◌*◌, ◌≤◌}
 use native.Mathlib.Omega.{arith}
 use lib.ListN.{length}
-use borrow.Author.Tests.{not-true, not-false}
 use Rattle.gather.specs.Words.{same_words}
 use Rattle.channel.specs.Layout.{record_head}
 use Rattle.channel.proofs.compare.same_block.Lts as lts

@@ -1,13 +1,12 @@
 -- `compare::same_entry` meets its contract: by the words of blocks that are alike, else by lowest forms.
 use mathlib.Core.Path.{◌≡◌, sym, ◌∙◌}
 use mathlib.Core.Bool.{true}
-use Prim.Native.Nat.{ℕ, ◌+◌, ◌*◌, ◌≤◌}
+use Prim.Native.Nat.{◌+◌, ◌*◌, ◌≤◌}
 use native.Mathlib.Omega.{arith}
 use lib.ListN.{length}
 use Rattle.exact.specs.Exact.{equal}
 use Rattle.scalar.specs.Calls.{value}
 use Rattle.channel.specs.Layout.{record_head, exponent_place, word}
-use Rattle.channel.specs.Inner.Walk.{alike}
 use Rattle.channel.proofs.Alike.{alike_is, four_decide, sides_alike}
 use Rattle.channel.proofs.compare.same_entry.Lts as lts
 use Rattle.channel.proofs.compare.same_entry.Reads as reads

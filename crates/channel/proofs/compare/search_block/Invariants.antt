@@ -1,18 +1,9 @@
 -- `compare::search_block` meets its contract.
-use mathlib.Core.Path.{◌≡◌, sym, ap, ◌∙◌}
-use Prim.Native.Nat.{ℕ, ◌+◌, ◌*◌, ◌-◌, ◌≤◌, ◌<◌}
-use native.Mathlib.Nat.{zero-mul, sub-zero, mul-le-mul}
-use native.Mathlib.Omega.{arith}
-use lib.Arith.{digits_lt}
-use borrow.Author.Tests.{not-true, not-false}
-use Rattle.exact.specs.Exact.{equal}
-use Rattle.scalar.specs.declared.Scalar.{Scalar}
-use Rattle.channel.specs.declared.compare.Difference.{Difference}
-use Rattle.channel.specs.declared.compare.Found.TheVariants.{Same, Entry}
-use Rattle.channel.specs.Compare.{Both, plain, scan}
+use mathlib.Core.Path.{◌≡◌}
+use Prim.Native.Nat.{◌+◌, ◌*◌, ◌-◌, ◌≤◌, ◌<◌}
+use Rattle.channel.specs.declared.compare.Found.TheVariants.{Same}
+use Rattle.channel.specs.Compare.{plain, scan}
 use Rattle.channel.specs.Inner.Walk.{both_at}
-use Rattle.channel.proofs.Alike.{fewer, held_fewer}
-use Rattle.channel.proofs.Scanning.{agrees, differs, done, next_row}
 use Rattle.channel.proofs.compare.search_block.Given as goal
 
 abbrev pub invariant-loop-col : goal.invariant-loop-col

@@ -1,15 +1,10 @@
 -- `lookup::find_store` meets its contract.
-use mathlib.Core.Path.{◌≡◌, sym, ap, ◌∙◌, subst}
-use Prim.Native.Nat.{ℕ, ◌+◌, ◌-◌, ◌≤◌}
-use native.Mathlib.Omega.{arith}
-use lib.ListN.{length}
+use mathlib.Core.Path.{◌≡◌}
+use Prim.Native.Nat.{◌-◌}
 use lib.IntN.{nat_abs}
-use borrow.Author.Tests.{eq-eqb, ne_eqb}
-use Rattle.channel.specs.Layout.{record_head, word}
+use Rattle.channel.specs.Layout.{word}
 use Rattle.channel.specs.Inner.Shapes.{Onward}
 use Rattle.channel.specs.Lookup.{find}
-use Rattle.channel.proofs.Chain.{onward_begin, first-index, header_long, on-inside, on-words, on-next, on-index}
-use Rattle.channel.proofs.Finding.{finds, seeks, find_none}
 use Rattle.channel.proofs.lookup.find_store.Given as goal
 
 abbrev pub invariant-loop-left : goal.invariant-loop-left

@@ -8,7 +8,6 @@ use native.Mathlib.Omega.{arith}
 use lib.ListN.{length}
 use lib.Seq.{take-length}
 use lib.IntN.{ℤ, nat_abs}
-use borrow.Author.Tests.{not-true, not-false}
 use Rattle.algebra.specs.Words.{from_bits}
 use Rattle.store.proofs.Bytes.{fits_word}
 use Rattle.verdict.specs.Verdict.{accepted}

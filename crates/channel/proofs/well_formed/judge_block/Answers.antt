@@ -1,15 +1,13 @@
 -- `well_formed::judge_block` meets its contract: the exponent, then one pass over the numerators.
 use mathlib.Core.Path.{◌≡◌, refl, sym, ap, ◌∙◌}
 use mathlib.Core.Bool.{true, not, ◌&&◌, ◌||◌}
-use Prim.Native.Nat.{ℕ, ◌+◌, ◌*◌, ◌≤◌}
-use native.Mathlib.Nat.{mul-le-mul}
+use Prim.Native.Nat.{◌+◌, ◌*◌, ◌≤◌}
 use native.Mathlib.Omega.{arith}
 use lib.Dec.{eqb}
 use lib.ListN.{length}
 use mir.Facts.{to_z-of_z}
 use mir.Syntax.{w64}
 use mir.Val.{SFits, of_z}
-use borrow.Author.Tests.{not-true, not-false}
 use Rattle.algebra.specs.Words.{up_to}
 use Rattle.exact.specs.Exact.{max_exponent}
 use Rattle.channel.specs.Layout.{full, record_head, exponent_place, word}

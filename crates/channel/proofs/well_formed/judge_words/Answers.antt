@@ -5,7 +5,6 @@ use lib.Dec.{ltb}
 use Prim.Native.Nat.{ℕ, ◌^◌}
 use lib.IntN.{ℤ}
 use mir.Facts.{to_z-of_z}
-use borrow.Author.Tests.{not-true, not-false}
 use Rattle.algebra.specs.Words.{up_to}
 use Rattle.algebra.proofs.Tests.{and_split}
 use Rattle.store.specs.Store.{max_word, store_from}

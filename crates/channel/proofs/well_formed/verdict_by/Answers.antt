@@ -1,7 +1,6 @@
 -- `well_formed::verdict_by` meets its contract.
 use mathlib.Core.Path.{sym, ap}
 use mathlib.Core.Bool.{Bool, true, false}
-use borrow.Author.Tests.{not-true, not-false}
 use Rattle.channel.specs.WellFormed.{verdict_by}
 use Rattle.channel.proofs.well_formed.verdict_by.Goals as goal
 

@@ -1,10 +1,8 @@
 -- `well_formed::well_formed` meets its contract.
-use mathlib.Core.Path.{◌≡◌, ap, ◌∙◌}
+use mathlib.Core.Path.{ap, ◌∙◌}
 use mathlib.Core.Bool.{not}
-use Prim.Native.Nat.{ℕ}
 use lib.Dec.{eqb}
 use Rattle.verdict.specs.Verdict.{verdict_number}
-use Rattle.channel.specs.WellFormed.{form_verdict}
 use Rattle.channel.proofs.Judging.{form-number, shape_verdict}
 use Rattle.channel.proofs.well_formed.well_formed.Goals as goal
 

@@ -1,12 +1,11 @@
 -- The invariant: no gate passed so far writes the bit, so the answer is that of the rest.
 use mathlib.Core.Path.{◌≡◌, refl, sym, ap, ◌∙◌}
 use mathlib.Core.Bool.{Bool, ◌||◌}
-use mathlib.Core.List.{List}
-use Prim.Native.Nat.{ℕ, ◌+◌, ◌-◌, ◌/◌}
+use Prim.Native.Nat.{◌+◌, ◌-◌, ◌/◌}
 use native.Mathlib.Omega.{arith}
 use lib.ListN.{length}
 use Rattle.algebra.specs.Lists.{some}
-use Rattle.gate.specs.Gate.{Gate, gate_size, gates_from}
+use Rattle.gate.specs.Gate.{Gate, gate_size}
 use Rattle.gate.specs.Inner.Words.{gate_of}
 use Rattle.gate.proofs.Listed.{gates-none}
 use Rattle.circuit.specs.Footprint.{writes}

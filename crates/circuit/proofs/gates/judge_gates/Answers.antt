@@ -1,13 +1,10 @@
 -- The invariant: the gates passed so far are accepted, so the rest decides.
-use mathlib.Core.Path.{◌≡◌, sym, ap, ◌∙◌}
+use mathlib.Core.Path.{◌≡◌, sym, ◌∙◌}
 use Prim.Native.Nat.{◌-◌, ◌/◌}
 use native.Mathlib.Omega.{arith}
 use lib.ListN.{length}
-use Rattle.verdict.specs.Verdict.{accepted}
-use Rattle.verdict.specs.Questions.{first_no}
-use Rattle.gate.specs.Gate.{gate_size, gates_of}
-use Rattle.circuit.specs.Questions.{gates_questions}
-use Rattle.circuit.proofs.AlongGates.{from, gate_decides, rest_decides, none_left}
+use Rattle.gate.specs.Gate.{gate_size}
+use Rattle.circuit.proofs.AlongGates.{gate_decides, rest_decides, none_left}
 use Rattle.circuit.proofs.gates.judge_gates.Goals as goal
 
 pub loop-i-init : goal.loop-i-init

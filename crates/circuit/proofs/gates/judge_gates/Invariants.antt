@@ -1,13 +1,11 @@
 -- The invariant: the gates passed so far are accepted, so the rest decides.
-use mathlib.Core.Path.{◌≡◌, sym, ap, ◌∙◌}
+use mathlib.Core.Path.{◌≡◌}
 use Prim.Native.Nat.{◌-◌, ◌/◌}
-use native.Mathlib.Omega.{arith}
 use lib.ListN.{length}
-use Rattle.verdict.specs.Verdict.{accepted}
 use Rattle.verdict.specs.Questions.{first_no}
 use Rattle.gate.specs.Gate.{gate_size, gates_of}
 use Rattle.circuit.specs.Questions.{gates_questions}
-use Rattle.circuit.proofs.AlongGates.{from, gate_decides, rest_decides, none_left}
+use Rattle.circuit.proofs.AlongGates.{from}
 use Rattle.circuit.proofs.gates.judge_gates.Given as goal
 
 abbrev pub invariant-loop-i : goal.invariant-loop-i

@@ -1,12 +1,8 @@
 -- The invariant: the ends passed so far rise, so the rest decides.
-use mathlib.Core.Path.{◌≡◌, refl, sym, ap, ◌∙◌}
-use mathlib.Core.Bool.{Bool, ◌&&◌}
-use Prim.Native.Nat.{◌+◌, ◌-◌, ◌^◌, ◌<◌}
-use native.Mathlib.Omega.{arith}
-use lib.ListN.{length, get_or, drop}
-use borrow.Author.Tests.{lt-ltb, le-ltb}
+use mathlib.Core.Path.{◌≡◌}
+use Prim.Native.Nat.{◌-◌, ◌^◌, ◌<◌}
+use lib.ListN.{length, drop}
 use Rattle.circuit.specs.Layers.{closing}
-use Rattle.circuit.proofs.Firing.{closing-more, closing-none}
 use Rattle.circuit.proofs.layers.are_closing.Given as goal
 
 abbrev pub invariant-loop-i : goal.invariant-loop-i

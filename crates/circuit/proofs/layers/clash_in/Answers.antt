@@ -1,7 +1,7 @@
 -- The invariant: the gates passed so far share with none before them, so the rest decides.
-use mathlib.Core.Path.{◌≡◌, refl, sym, ap, ◌∙◌}
+use mathlib.Core.Path.{refl, sym, ap, ◌∙◌}
 use mathlib.Core.Bool.{Bool, cond}
-use Prim.Native.Nat.{◌+◌, ◌-◌, ◌≤◌}
+use Prim.Native.Nat.{◌+◌, ◌-◌}
 use native.Mathlib.Omega.{arith}
 use Rattle.circuit.specs.Inner.Firing.{first_from, shares_from}
 use Rattle.circuit.proofs.Firing.{first_more, first-none}

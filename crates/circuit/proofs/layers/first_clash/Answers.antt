@@ -1,8 +1,7 @@
 -- The invariant: t layers are passed, and no gate of theirs clashes.
 use Prim.Native.Nat.{◌-◌}
 use native.Mathlib.Omega.{arith}
-use lib.ListN.{length}
-use Rattle.circuit.proofs.Firing.{Passing, passing_none, rises, ends-inside, clash-found, passing_more, passing_all}
+use Rattle.circuit.proofs.Firing.{passing_none, rises, ends-inside, clash-found, passing_more, passing_all}
 use Rattle.circuit.proofs.layers.first_clash.Goals as goal
 
 pub loop-t-init : goal.loop-t-init

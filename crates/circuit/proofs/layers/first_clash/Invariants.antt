@@ -1,8 +1,7 @@
 -- The invariant: t layers are passed, and no gate of theirs clashes.
 use Prim.Native.Nat.{◌-◌}
-use native.Mathlib.Omega.{arith}
 use lib.ListN.{length}
-use Rattle.circuit.proofs.Firing.{Passing, passing_none, rises, ends-inside, clash-found, passing_more, passing_all}
+use Rattle.circuit.proofs.Firing.{Passing}
 use Rattle.circuit.proofs.layers.first_clash.Given as goal
 
 abbrev pub invariant-loop-t : goal.invariant-loop-t

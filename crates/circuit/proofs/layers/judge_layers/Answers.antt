@@ -1,7 +1,5 @@
 -- The ends decide, then the first clash.
 use mathlib.Core.Path.{sym, ◌∙◌}
-use native.Mathlib.Omega.{arith}
-use borrow.Author.Tests.{not-true, not-false}
 use Rattle.circuit.proofs.Firing.{ends_bad, clash-at, no_clash}
 use Rattle.circuit.proofs.layers.judge_layers.Goals as goal
 

@@ -1,11 +1,10 @@
 -- The invariant: no gate from j on shares with gate i, so those before j decide.
-use mathlib.Core.Path.{◌≡◌, refl, sym, ap, ◌∙◌}
+use mathlib.Core.Path.{refl, sym, ap, ◌∙◌}
 use mathlib.Core.Bool.{Bool, ◌||◌}
-use Prim.Native.Nat.{ℕ, ◌+◌, ◌-◌, ◌*◌, ◌/◌, ◌≤◌}
+use Prim.Native.Nat.{◌-◌}
 use native.Mathlib.Omega.{arith}
-use lib.ListN.{length}
-use Rattle.gate.specs.Gate.{Gate, gate_at, share}
-use Rattle.circuit.specs.Inner.Firing.{any_from, sharing, shares_from}
+use Rattle.gate.specs.Gate.{share}
+use Rattle.circuit.specs.Inner.Firing.{any_from, sharing}
 use Rattle.circuit.proofs.Firing.{any_more, any_none}
 use Rattle.circuit.proofs.layers.shares_from.Goals as goal
 

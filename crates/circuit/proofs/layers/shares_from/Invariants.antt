@@ -1,12 +1,7 @@
 -- The invariant: no gate from j on shares with gate i, so those before j decide.
-use mathlib.Core.Path.{◌≡◌, refl, sym, ap, ◌∙◌}
-use mathlib.Core.Bool.{Bool, ◌||◌}
-use Prim.Native.Nat.{ℕ, ◌+◌, ◌-◌, ◌*◌, ◌/◌, ◌≤◌}
-use native.Mathlib.Omega.{arith}
-use lib.ListN.{length}
-use Rattle.gate.specs.Gate.{Gate, gate_at, share}
+use mathlib.Core.Path.{◌≡◌}
+use Prim.Native.Nat.{◌-◌, ◌≤◌}
 use Rattle.circuit.specs.Inner.Firing.{any_from, sharing, shares_from}
-use Rattle.circuit.proofs.Firing.{any_more, any_none}
 use Rattle.circuit.proofs.layers.shares_from.Given as goal
 
 abbrev pub invariant-loop-j : goal.invariant-loop-j

@@ -1,11 +1,10 @@
 -- Each way out is one answer to the last two questions, or the verdict on the gates.
-use mathlib.Core.Path.{◌≡◌, refl, sym, ap, ◌∙◌}
+use mathlib.Core.Path.{◌≡◌, refl, sym, ◌∙◌}
 use mathlib.Core.Bool.{Bool, true, cond}
 use native.Mathlib.Omega.{arith}
 use borrow.Author.Tests.{le-leb, lt-leb}
 use Rattle.verdict.specs.declared.Verdict.{Verdict}
 use Rattle.verdict.specs.declared.Verdict.TheVariants.{Accepted, ShortBuffer}
-use Rattle.verdict.specs.Verdict.{accepted}
 use Rattle.verdict.specs.Questions.{first_no}
 use Rattle.verdict.proofs.Questions.{after-yes, after_no}
 use Rattle.gate.specs.declared.judge.Asking.TheVariants.{Unitary}

@@ -1,11 +1,8 @@
 -- `collect::bank::find_branch` meets its contract.
-use mathlib.Core.Path.{◌≡◌, sym, ◌∙◌}
+use mathlib.Core.Path.{◌≡◌}
 use mathlib.Core.Bool.{false}
 use Prim.Native.Nat.{ℕ, ◌-◌, ◌<◌, ◌≤◌}
-use native.Mathlib.Nat.{le_refl}
-use native.Mathlib.Omega.{arith}
 use Rattle.collect.specs.Inner.Bank.{has}
-use Rattle.collect.proofs.Finding.{passed_more}
 use Rattle.collect.proofs.bank.find_branch.Given as goal
 
 abbrev pub invariant-loop-j : goal.invariant-loop-j

@@ -1,13 +1,10 @@
 -- `collect::blocks::sum_block` meets its contract.
 use mathlib.Core.Path.{◌≡◌, subst}
 use mathlib.Core.Bool.{true}
-use mathlib.Core.List.{List}
-use Prim.Native.Nat.{ℕ, ◌+◌, ◌*◌, ◌-◌, ◌<◌, ◌≤◌}
+use Prim.Native.Nat.{ℕ, ◌+◌, ◌*◌, ◌-◌, ◌≤◌}
 use native.Mathlib.Nat.{mul-le-mul}
 use native.Mathlib.Omega.{arith}
 use lib.ListN.{length}
-use lib.IntN.{ℤ, pos}
-use Rattle.algebra.specs.Words.{fill_words}
 use Rattle.channel.proofs.Words.{square_small}
 use Rattle.branches.specs.Inner.Bank.{branch_size}
 use Rattle.share.specs.Share.{with_numerators}

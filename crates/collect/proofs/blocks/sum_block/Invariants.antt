@@ -1,18 +1,13 @@
 -- `collect::blocks::sum_block` meets its contract.
-use mathlib.Core.Path.{◌≡◌, subst}
+use mathlib.Core.Path.{◌≡◌}
 use mathlib.Core.Bool.{true}
 use mathlib.Core.List.{List}
 use Prim.Native.Nat.{ℕ, ◌+◌, ◌*◌, ◌-◌, ◌<◌, ◌≤◌}
-use native.Mathlib.Nat.{mul-le-mul}
-use native.Mathlib.Omega.{arith}
 use lib.ListN.{length}
 use lib.IntN.{ℤ, pos}
 use Rattle.algebra.specs.Words.{fill_words}
-use Rattle.channel.proofs.Words.{square_small}
-use Rattle.branches.specs.Inner.Bank.{branch_size}
-use Rattle.share.specs.Share.{with_numerators}
-use Rattle.collect.specs.Inner.Bank.{place, store_of, has, upper, Found}
-use Rattle.collect.proofs.Summing.{bank-branch, Summed, none_summed, summed_more, summed_past, summed_long, addable}
+use Rattle.collect.specs.Inner.Bank.{store_of, has}
+use Rattle.collect.proofs.Summing.{Summed}
 use Rattle.collect.proofs.blocks.sum_block.Given as goal
 
 -- the block is summed over the words m that were cleared

@@ -1,7 +1,7 @@
 -- `collect::records::collect` meets its contract.
 use Prim.Native.Nat.{◌-◌}
 use native.Mathlib.Omega.{arith}
-use Rattle.collect.proofs.Recording.{Collected, none-collected, begun, collected-more, all-collected, collected_long}
+use Rattle.collect.proofs.Recording.{none-collected, begun, collected-more, all-collected, collected_long}
 use Rattle.collect.proofs.records.collect.Goals as goal
 
 pub loop-b-init : goal.loop-b-init

@@ -1,7 +1,6 @@
 -- `collect::records::collect` meets its contract.
 use Prim.Native.Nat.{◌-◌}
-use native.Mathlib.Omega.{arith}
-use Rattle.collect.proofs.Recording.{Collected, none-collected, begun, collected-more, all-collected, collected_long}
+use Rattle.collect.proofs.Recording.{Collected}
 use Rattle.collect.proofs.records.collect.Given as goal
 
 abbrev pub invariant-loop-b : goal.invariant-loop-b

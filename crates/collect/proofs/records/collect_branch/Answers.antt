@@ -5,7 +5,6 @@ use Prim.Native.Nat.{ℕ, ◌+◌, ◌*◌, ◌≤◌}
 use native.Mathlib.Omega.{arith}
 use lib.ListN.{length}
 use lib.Seq.{sets}
-use borrow.Author.Tests.{not-true, not-false}
 use Rattle.algebra.proofs.Tests.{and_no}
 use Rattle.channel.specs.Layout.{record_head, header_size, record_size, channels, side}
 use Rattle.channel.proofs.Words.{square_small}

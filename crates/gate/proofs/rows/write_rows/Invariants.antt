@@ -1,17 +1,11 @@
 -- The invariant: the entries of the first r rows are written.
-use mathlib.Core.Path.{◌≡◌, sym, ap, subst, ◌∙◌}
-use Prim.Native.Nat.{ℕ, ◌+◌, ◌*◌, ◌-◌, ◌/◌, ◌<◌, ◌≤◌}
-use native.Mathlib.Nat.{le_refl}
-use native.Mathlib.Omega.{arith}
-use lib.ListN.{length}
-use Rattle.algebra.proofs.Blocks.{Writing, begin, again, done, long, blocks-same}
+use Prim.Native.Nat.{ℕ, ◌*◌, ◌-◌, ◌/◌}
+use Rattle.algebra.proofs.Blocks.{Writing}
 use Rattle.exact.specs.Exact.{Exact}
-use Rattle.scalar.specs.declared.Scalar.{Scalar}
 use Rattle.scalar.specs.Calls.{value}
 use Rattle.gate.specs.declared.rows.Pair.{Pair}
 use Rattle.cells.specs.Cells.{cell_size, cell_words}
-use Rattle.gate.specs.Inner.Entries.{Table, pair_of, side, row_pair}
-use Rattle.gate.proofs.Masks.{row-entry, side-own, side-other}
+use Rattle.gate.specs.Inner.Entries.{side, row_pair}
 use Rattle.gate.proofs.rows.write_rows.Given as goal
 
 -- entry i as the masks choose it

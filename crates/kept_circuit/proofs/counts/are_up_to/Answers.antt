@@ -1,7 +1,7 @@
 -- `counts::are_up_to` meets its contract.
 use mathlib.Core.Path.{◌≡◌, refl, sym, ap, ◌∙◌}
 use mathlib.Core.Bool.{true}
-use Prim.Native.Nat.{ℕ, ◌+◌, ◌-◌, ◌≤◌}
+use Prim.Native.Nat.{ℕ, ◌+◌, ◌-◌}
 use native.Mathlib.Omega.{arith}
 use Rattle.algebra.specs.Words.{up_to}
 use Rattle.algebra.proofs.Tests.{all-step, all_no}

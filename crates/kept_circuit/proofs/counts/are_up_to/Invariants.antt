@@ -1,11 +1,7 @@
 -- `counts::are_up_to` meets its contract.
-use mathlib.Core.Path.{◌≡◌, refl, sym, ap, ◌∙◌}
+use mathlib.Core.Path.{◌≡◌}
 use mathlib.Core.Bool.{true}
-use Prim.Native.Nat.{ℕ, ◌+◌, ◌-◌, ◌≤◌}
-use native.Mathlib.Omega.{arith}
-use Rattle.algebra.specs.Words.{up_to}
-use Rattle.algebra.proofs.Tests.{all-step, all_no}
-use Rattle.channel.specs.Layout.{word}
+use Prim.Native.Nat.{◌-◌, ◌≤◌}
 use Rattle.kept_circuit.specs.Kept.{all_up_to}
 use Rattle.kept_circuit.proofs.counts.are_up_to.Given as goal
 

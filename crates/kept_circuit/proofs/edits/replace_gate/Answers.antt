@@ -6,7 +6,6 @@ use Prim.Native.Nat.{ℕ}
 use native.Mathlib.Omega.{arith}
 use lib.ListN.{length}
 use lib.IntN.{ℤ}
-use borrow.Author.Tests.{not-true, not-false}
 use Rattle.verdict.specs.Verdict.{accepted}
 use Rattle.gate.specs.Gate.{Gate}
 use Rattle.gate.specs.Inner.Words.{gate_of}

@@ -1,9 +1,8 @@
 -- `matrix::global_phase::all_well_formed` meets its contract.
 use mathlib.Core.Path.{◌≡◌, refl, sym, ap, ◌∙◌}
 use mathlib.Core.Bool.{true}
-use Prim.Native.Nat.{ℕ, ◌*◌, ◌-◌, ◌≤◌}
+use Prim.Native.Nat.{ℕ, ◌*◌, ◌-◌}
 use native.Mathlib.Omega.{arith}
-use borrow.Author.Tests.{not-true, not-false}
 use Rattle.algebra.specs.Lists.{all_below}
 use Rattle.algebra.proofs.Tests.{all-step, all_no}
 use Rattle.cells.specs.Cells.{well_formed_at, cell_size}

@@ -3,7 +3,7 @@ use mathlib.Core.Path.{◌≡◌, refl, sym, ap, ◌∙◌}
 use mathlib.Core.Bool.{Bool, true, ◌&&◌}
 use Prim.Native.Nat.{ℕ}
 use native.Mathlib.Omega.{arith}
-use borrow.Author.Tests.{not-true, not-false, eq-eqb, ne_eqb}
+use borrow.Author.Tests.{eq-eqb, ne_eqb}
 use Rattle.algebra.proofs.Tests.{and_split}
 use Rattle.matrix.specs.Phase.{well_formed_matrix, narrow_matrix, answered, phase_answer}
 use Rattle.matrix.proofs.Questions.{square_small, Formed, formed, formed_operands, replied}

@@ -1,9 +1,8 @@
 -- `matrix::global_phase::ratios_same` meets its contract.
 use mathlib.Core.Path.{◌≡◌, refl, sym, ap, ◌∙◌, subst}
 use mathlib.Core.Bool.{true}
-use Prim.Native.Nat.{ℕ, ◌-◌, ◌≤◌}
+use Prim.Native.Nat.{ℕ, ◌-◌}
 use native.Mathlib.Omega.{arith}
-use borrow.Author.Tests.{not-true, not-false}
 use Rattle.algebra.proofs.Tests.{all-step, all_no}
 use Rattle.exact.specs.Exact.{equal}
 use Rattle.scalar.specs.declared.Scalar.{Scalar}

@@ -1,15 +1,9 @@
 -- `matrix::global_phase::ratios_same` meets its contract.
-use mathlib.Core.Path.{◌≡◌, refl, sym, ap, ◌∙◌, subst}
+use mathlib.Core.Path.{◌≡◌}
 use mathlib.Core.Bool.{true}
-use Prim.Native.Nat.{ℕ, ◌-◌, ◌≤◌}
-use native.Mathlib.Omega.{arith}
-use borrow.Author.Tests.{not-true, not-false}
-use Rattle.algebra.proofs.Tests.{all-step, all_no}
-use Rattle.exact.specs.Exact.{equal}
-use Rattle.scalar.specs.declared.Scalar.{Scalar}
+use Prim.Native.Nat.{◌-◌, ◌≤◌}
 use Rattle.scalar.specs.Calls.{value}
-use Rattle.matrix.specs.Phase.{◌·◌, equal_ratios, entry_of}
-use Rattle.matrix.specs.Inner.Operands.{Operand}
+use Rattle.matrix.specs.Phase.{equal_ratios, entry_of}
 use Rattle.matrix.proofs.global_phase.ratios_same.Given as goal
 
 abbrev pub invariant-loop-j : goal.invariant-loop-j

@@ -1,11 +1,9 @@
 -- `matrix::identity::identity_into` meets its contract.
 use mathlib.Core.Path.{ap}
-use Prim.Native.Nat.{ℕ, ◌*◌, ◌-◌, ◌/◌, ◌%◌}
+use Prim.Native.Nat.{◌-◌}
 use native.Mathlib.Nat.{le_refl}
 use native.Mathlib.Omega.{arith}
-use Rattle.algebra.specs.Sum.{δ}
-use Rattle.algebra.proofs.Blocks.{Writing, begin, again, done, long}
-use Rattle.exact.specs.Exact.{exact}
+use Rattle.algebra.proofs.Blocks.{begin, again, done, long}
 use Rattle.scalar.specs.declared.Scalar.{Scalar}
 use Rattle.scalar.specs.Calls.{value}
 use Rattle.cells.specs.Cells.{cell_words, cell_size}

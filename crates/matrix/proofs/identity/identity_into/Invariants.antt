@@ -1,15 +1,9 @@
 -- `matrix::identity::identity_into` meets its contract.
-use mathlib.Core.Path.{ap}
 use Prim.Native.Nat.{ℕ, ◌*◌, ◌-◌, ◌/◌, ◌%◌}
-use native.Mathlib.Nat.{le_refl}
-use native.Mathlib.Omega.{arith}
 use Rattle.algebra.specs.Sum.{δ}
-use Rattle.algebra.proofs.Blocks.{Writing, begin, again, done, long}
+use Rattle.algebra.proofs.Blocks.{Writing}
 use Rattle.exact.specs.Exact.{exact}
-use Rattle.scalar.specs.declared.Scalar.{Scalar}
-use Rattle.scalar.specs.Calls.{value}
 use Rattle.cells.specs.Cells.{cell_words, cell_size}
-use Rattle.matrix.proofs.Terms.{dim_pos}
 use Rattle.matrix.proofs.identity.identity_into.Given as goal
 
 abbrev pub invariant-loop-i : goal.invariant-loop-i

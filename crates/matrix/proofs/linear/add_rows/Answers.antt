@@ -1,15 +1,14 @@
 -- `matrix::linear::add_rows` meets its contract.
 use mathlib.Core.Path.{ap, ◌∙◌}
-use Prim.Native.Nat.{ℕ, ◌+◌, ◌*◌, ◌-◌, ◌≤◌}
+use Prim.Native.Nat.{◌+◌, ◌*◌, ◌-◌, ◌≤◌}
 use native.Mathlib.Nat.{le_refl}
 use native.Mathlib.Omega.{arith}
 use lib.ListN.{length}
-use Rattle.algebra.proofs.Blocks.{Writing, begin, again, done, long, kept, Same, cut, block_in_lem}
+use Rattle.algebra.proofs.Blocks.{begin, again, done, long, kept, Same, cut, block_in_lem}
 use Rattle.exact.specs.Exact.{exact}
 use Rattle.scalar.specs.Calls.{value}
 use Rattle.cells.specs.Cells.{cell_words, cell_size}
 use Rattle.cells.proofs.Cell.{cell_same}
-use Rattle.matrix.specs.Inner.Factors.{combined_row}
 use Rattle.matrix.proofs.Terms.{factor_same}
 use Rattle.matrix.proofs.linear.add_rows.Lts as lts
 use Rattle.matrix.proofs.linear.add_rows.Reads as reads

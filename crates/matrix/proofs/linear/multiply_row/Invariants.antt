@@ -1,16 +1,9 @@
 -- `matrix::linear::multiply_row` meets its contract.
-use mathlib.Core.Path.{ap, ◌∙◌}
-use Prim.Native.Nat.{ℕ, ◌+◌, ◌*◌, ◌-◌, ◌≤◌}
-use native.Mathlib.Nat.{le_refl}
-use native.Mathlib.Omega.{arith}
-use lib.ListN.{length}
-use Rattle.algebra.proofs.Blocks.{Writing, begin, again, done, long, kept, Same, cut, block_in_lem}
-use Rattle.exact.specs.Exact.{exact}
+use Prim.Native.Nat.{ℕ, ◌-◌}
+use Rattle.algebra.proofs.Blocks.{Writing}
 use Rattle.scalar.specs.Calls.{value}
 use Rattle.cells.specs.Cells.{cell_words, cell_size}
-use Rattle.cells.proofs.Cell.{cell_same}
 use Rattle.matrix.specs.Inner.Factors.{scaled_row}
-use Rattle.matrix.proofs.Terms.{factor_same}
 use Rattle.matrix.proofs.linear.multiply_row.Given as goal
 
 abbrev pub invariant-loop-c : goal.invariant-loop-c

@@ -1,11 +1,10 @@
 -- `matrix::words::clear` meets its contract.
 use mathlib.Core.Path.{refl}
-use mathlib.Core.List.{[], ◌∷◌}
-use Prim.Native.Nat.{ℕ, ◌-◌}
+use Prim.Native.Nat.{◌-◌}
 use native.Mathlib.Nat.{le_refl}
 use native.Mathlib.Omega.{arith}
 use lib.IntN.{pos}
-use Rattle.algebra.proofs.Blocks.{Writing, begin, again_word, done, long}
+use Rattle.algebra.proofs.Blocks.{begin, again_word, done, long}
 use Rattle.matrix.proofs.words.clear.Goals as goal
 
 pub loop-i-init : goal.loop-i-init

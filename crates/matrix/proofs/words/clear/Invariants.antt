@@ -1,11 +1,8 @@
 -- `matrix::words::clear` meets its contract.
-use mathlib.Core.Path.{refl}
-use mathlib.Core.List.{[], ◌∷◌}
+use mathlib.Core.List.{◌∷◌}
 use Prim.Native.Nat.{ℕ, ◌-◌}
-use native.Mathlib.Nat.{le_refl}
-use native.Mathlib.Omega.{arith}
 use lib.IntN.{pos}
-use Rattle.algebra.proofs.Blocks.{Writing, begin, again_word, done, long}
+use Rattle.algebra.proofs.Blocks.{Writing}
 use Rattle.matrix.proofs.words.clear.Given as goal
 
 abbrev pub invariant-loop-i : goal.invariant-loop-i

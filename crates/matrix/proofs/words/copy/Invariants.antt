@@ -1,14 +1,9 @@
 -- `matrix::words::copy` meets its contract.
-use mathlib.Core.Path.{◌∙◌}
-use mathlib.Core.List.{[], ◌∷◌}
-use Prim.Native.Nat.{ℕ, ◌+◌, ◌*◌, ◌-◌}
-use native.Mathlib.Nat.{le_refl}
-use native.Mathlib.Omega.{arith}
+use mathlib.Core.List.{◌∷◌}
+use Prim.Native.Nat.{ℕ, ◌+◌, ◌-◌}
 use lib.ListN.{get_or}
 use lib.IntN.{pos}
-use Rattle.algebra.specs.Inner.Apart.{Apart}
-use Rattle.algebra.proofs.Blocks.{Writing, begin, again_word, done, long, kept, narrow}
-use Rattle.algebra.proofs.Signed.{reads}
+use Rattle.algebra.proofs.Blocks.{Writing}
 use Rattle.matrix.proofs.words.copy.Given as goal
 
 abbrev pub invariant-loop-i : goal.invariant-loop-i

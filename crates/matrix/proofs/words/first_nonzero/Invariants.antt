@@ -1,15 +1,12 @@
 -- `matrix::words::first_nonzero` meets its contract.
-use mathlib.Core.Path.{◌≡◌, refl, sym, ◌∙◌}
+use mathlib.Core.Path.{◌≡◌}
 use mathlib.Core.Bool.{Bool}
 use mathlib.Core.List.{List}
 use Prim.Native.Nat.{ℕ, ◌+◌, ◌*◌, ◌-◌, ◌≤◌}
-use native.Mathlib.Omega.{arith}
 use lib.IntN.{ℤ}
-use borrow.Author.Tests.{not-true, not-false}
 use Rattle.cells.specs.Cells.{cell_size}
 use Rattle.cells.specs.Inner.Zero.{zero_at}
 use Rattle.matrix.specs.Phase.{first_not}
-use Rattle.matrix.proofs.First.{first_next, first-here, first-end}
 use Rattle.matrix.proofs.words.first_nonzero.Given as goal
 
 -- the test that is made

@@ -1,17 +1,13 @@
 -- The invariant: no operation passed so far writes the bit, so the answer is that of the rest.
-use mathlib.Core.Path.{◌≡◌, refl, sym, ap, ◌∙◌}
-use mathlib.Core.Bool.{Bool, ◌||◌}
+use mathlib.Core.Path.{◌≡◌}
+use mathlib.Core.Bool.{Bool}
 use mathlib.Core.List.{List}
-use Prim.Native.Nat.{ℕ, ◌+◌, ◌-◌, ◌/◌}
-use native.Mathlib.Omega.{arith}
+use Prim.Native.Nat.{ℕ, ◌-◌, ◌/◌}
 use lib.ListN.{length}
 use Rattle.algebra.specs.Lists.{some}
 use Rattle.gate.specs.Gate.{Gate, gate_size, gates_from}
-use Rattle.gate.specs.Inner.Words.{gate_of}
-use Rattle.gate.proofs.Listed.{gates-none}
 use Rattle.pauli_words.specs.Words.{operation_of}
 use Rattle.pauli_judge.specs.Footprint.{writes}
-use Rattle.pauli_judge.proofs.Counted.{written-more}
 use Rattle.pauli_judge.proofs.footprint.is_written.Given as goal
 
 abbrev pub had : List ℕ → ℕ → ℕ → Bool

@@ -1,7 +1,6 @@
 -- The nodes decide, or the operations by the mask forms that the nodes left.
-use mathlib.Core.Path.{◌≡◌, sym, ap, ◌∙◌}
+use mathlib.Core.Path.{sym, ap, ◌∙◌}
 use mathlib.Core.Bool.{Bool}
-use native.Mathlib.Omega.{arith}
 use Rattle.verdict.specs.Questions.{Question, first_no}
 use Rattle.verdict.proofs.Questions.{after-yes, after_no}
 use Rattle.gate.specs.Gate.{gates_of}

@@ -12,7 +12,7 @@ use Rattle.pauli_words.specs.Words.{operation_of, operations_of}
 use Rattle.pauli_judge.specs.declared.footprint.ProgramFootprint.{ProgramFootprint}
 use Rattle.pauli_judge.specs.Footprint.{program_footprint}
 use Rattle.pauli_judge.specs.Questions.{program_word_questions, program_number_questions}
-use Rattle.pauli_judge.proofs.Accepted.{Known, words_known, words_refuse}
+use Rattle.pauli_judge.proofs.Accepted.{words_known, words_refuse}
 use Rattle.pauli_judge.proofs.questions.judge_program.Goals as goal
 
 pub judge_numbers-u-requires : goal.judge_numbers-u-requires

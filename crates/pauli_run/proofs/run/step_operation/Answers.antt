@@ -5,7 +5,6 @@ use native.Mathlib.Omega.{arith}
 use Rattle.gate.specs.Inner.Words.{gate_of}
 use Rattle.pauli_nodes.specs.Operations.{splits}
 use Rattle.pauli_words.specs.Words.{operation_of}
-use Rattle.pauli_steps.specs.Inner.Step.{Step}
 use Rattle.pauli_steps.proofs.Turns.{total_le}
 use Rattle.pauli_run.proofs.Forms.{ops_is, splits-two, operating_ready, operating_done}
 use Rattle.pauli_run.proofs.run.step_operation.Lts as lts

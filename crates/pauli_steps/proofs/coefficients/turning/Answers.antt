@@ -1,6 +1,4 @@
 -- One pair for each number of eighths.
-use mathlib.Core.Path.{◌≡◌}
-use Prim.Native.Nat.{ℕ, ◌<◌}
 use native.Mathlib.Omega.{arith}
 use Rattle.pauli_steps.proofs.Tables.{pair-at, seven}
 use Rattle.pauli_steps.proofs.coefficients.turning.Goals as goal

@@ -1,11 +1,10 @@
 -- By the parity of the signed bits of the column.
 use mathlib.Core.Path.{sym, ap}
 use mathlib.Core.Bool.{Bool, cond}
-use Prim.Native.Nat.{ℕ, ◌+◌, ◌/◌, ◌%◌, ◌≤◌}
+use Prim.Native.Nat.{◌≤◌}
 use native.Mathlib.Omega.{arith}
 use lib.Bits.{bit_and, and_le_l}
 use borrow.Author.Tests.{eq-eqb, ne_eqb}
-use Rattle.scalar.specs.declared.Scalar.{Scalar}
 use Rattle.pauli_nodes.specs.Inner.Masks.{parity}
 use Rattle.pauli_steps.proofs.rows.signed.Lts as lts
 use Rattle.pauli_steps.proofs.rows.signed.Reads as reads

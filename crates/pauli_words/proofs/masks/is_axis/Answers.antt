@@ -1,9 +1,9 @@
 -- A number that no node has is no axis.
-use mathlib.Core.Path.{◌≡◌, sym, ap, ◌∙◌}
+use mathlib.Core.Path.{sym, ap, ◌∙◌}
 use mathlib.Core.Bool.{Bool, ◌&&◌}
 use borrow.Author.Tests.{lt-ltb, le-ltb}
 use lib.ListN.{get_or}
-use Rattle.pauli_nodes.specs.Inner.Masks.{Mask, turn_mask, is_hermitian}
+use Rattle.pauli_nodes.specs.Inner.Masks.{turn_mask, is_hermitian}
 use Rattle.pauli_words.specs.Inner.Masks.{unpacked}
 use Rattle.pauli_words.proofs.masks.is_axis.Goals as goal
 

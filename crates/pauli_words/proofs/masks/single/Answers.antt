@@ -1,6 +1,5 @@
 -- Each Pauli has its own masks.
 use mathlib.Core.Path.{◌≡◌, sym, ap, ◌∙◌}
-use Prim.Native.Nat.{ℕ}
 use native.Mathlib.Omega.{arith}
 use Rattle.pauli_nodes.specs.Inner.Masks.{pauli_mask}
 use Rattle.pauli_words.proofs.masks.single.Goals as goal

@@ -1,11 +1,9 @@
 -- The invariant: the mask forms of the identity and of the qubits before q are in the array.
-use mathlib.Core.Path.{◌≡◌, refl, ◌∙◌}
-use Prim.Native.Nat.{◌+◌, ◌-◌, ◌*◌, ◌≤◌, ◌<◌}
+use mathlib.Core.Path.{refl, ◌∙◌}
+use Prim.Native.Nat.{◌+◌, ◌-◌, ◌*◌, ◌<◌}
 use native.Mathlib.Omega.{arith}
 use lib.ListN.{length, set, length-set}
-use Rattle.pauli_nodes.specs.Nodes.{basis_from}
-use Rattle.pauli_words.specs.Inner.Masks.{basis_masks}
-use Rattle.pauli_words.proofs.Held.{Laid, laid_none, laid_qubit, laid_all}
+use Rattle.pauli_words.proofs.Held.{laid_none, laid_qubit, laid_all}
 use Rattle.pauli_words.proofs.nodes.fill_basis.Lts as lts
 use Rattle.pauli_words.proofs.nodes.fill_basis.Reads as reads
 use Rattle.pauli_words.proofs.nodes.fill_basis.Tie as tie

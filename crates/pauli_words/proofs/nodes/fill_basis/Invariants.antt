@@ -1,11 +1,10 @@
 -- The invariant: the mask forms of the identity and of the qubits before q are in the array.
-use mathlib.Core.Path.{◌≡◌, refl, ◌∙◌}
-use Prim.Native.Nat.{◌+◌, ◌-◌, ◌*◌, ◌≤◌, ◌<◌}
-use native.Mathlib.Omega.{arith}
-use lib.ListN.{length, set, length-set}
+use mathlib.Core.Path.{◌≡◌}
+use Prim.Native.Nat.{◌+◌, ◌-◌, ◌*◌, ◌≤◌}
+use lib.ListN.{length}
 use Rattle.pauli_nodes.specs.Nodes.{basis_from}
 use Rattle.pauli_words.specs.Inner.Masks.{basis_masks}
-use Rattle.pauli_words.proofs.Held.{Laid, laid_none, laid_qubit, laid_all}
+use Rattle.pauli_words.proofs.Held.{Laid}
 use Rattle.pauli_words.proofs.nodes.fill_basis.Given as goal
 
 abbrev pub invariant-loop-q : goal.invariant-loop-q

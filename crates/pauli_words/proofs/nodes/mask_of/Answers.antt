@@ -1,5 +1,5 @@
 -- A product reads two earlier words; a Pauli of a qubit has masks of its weight.
-use mathlib.Core.Path.{◌≡◌, sym, ap, ap₂, ◌∙◌}
+use mathlib.Core.Path.{sym, ap, ap₂, ◌∙◌}
 use Prim.Native.Nat.{ℕ, ◌<◌}
 use native.Mathlib.Omega.{arith}
 use Rattle.gate.specs.Inner.Words.{gate_of}

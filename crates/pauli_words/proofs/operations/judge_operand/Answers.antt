@@ -1,6 +1,6 @@
 -- By the kind.
 use mathlib.Core.Path.{◌≡◌, sym, ap, ◌∙◌}
-use mathlib.Core.Bool.{Bool, cond, ◌&&◌, and-true}
+use mathlib.Core.Bool.{Bool, cond, and-true}
 use lib.Dec.{ltb}
 use borrow.Author.Tests.{lt-ltb, le-ltb}
 use Rattle.verdict.specs.declared.Verdict.TheVariants.{Accepted, OperandAt, NoOutcomeAt}

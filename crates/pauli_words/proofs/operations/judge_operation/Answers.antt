@@ -1,5 +1,5 @@
 -- The questions in order.
-use mathlib.Core.Path.{◌≡◌, refl, sym, ap, ◌∙◌}
+use mathlib.Core.Path.{refl, sym, ◌∙◌}
 use Rattle.gate.specs.Inner.Words.{gate_of}
 use Rattle.pauli_words.specs.Inner.Masks.{mask_fits}
 use Rattle.pauli_words.proofs.Forms.{operation_answers}

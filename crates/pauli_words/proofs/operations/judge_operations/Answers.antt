@@ -1,13 +1,11 @@
 -- The invariant: the operations passed so far are accepted, so the rest decides.
-use mathlib.Core.Path.{◌≡◌, sym, ap, ◌∙◌}
-use Prim.Native.Nat.{◌-◌, ◌/◌, ◌≤◌}
+use mathlib.Core.Path.{◌≡◌, sym, ◌∙◌}
+use Prim.Native.Nat.{◌-◌, ◌/◌}
 use native.Mathlib.Omega.{arith}
 use lib.ListN.{length}
-use Rattle.verdict.specs.Questions.{first_no}
-use Rattle.gate.specs.Gate.{gate_size, gates_of}
-use Rattle.pauli_words.specs.Questions.{operations_questions}
+use Rattle.gate.specs.Gate.{gate_size}
 use Rattle.pauli_words.specs.Inner.Masks.{mask_fits}
-use Rattle.pauli_words.proofs.Asked.{from, operation_decides, operation_passes, none_left}
+use Rattle.pauli_words.proofs.Asked.{operation_decides, operation_passes, none_left}
 use Rattle.pauli_words.proofs.operations.judge_operations.Goals as goal
 
 pub loop-i-init : goal.loop-i-init

@@ -2,8 +2,7 @@
 use Prim.Native.Nat.{◌-◌}
 use mathlib.Core.Path.{sym}
 use native.Mathlib.Omega.{arith}
-use lib.ListN.{length}
-use Rattle.qasm.proofs.Same.{Along, along-none, along-more, along_unlike, along-all, unequal}
+use Rattle.qasm.proofs.Same.{along-none, along-more, along_unlike, along-all, unequal}
 use Rattle.qasm.proofs.bytes.is_same.Goals as goal
 
 pub returns-then-xs-ys : goal.returns-then-xs-ys

@@ -1,9 +1,7 @@
 -- `bytes::is_same` meets its contract.
 use Prim.Native.Nat.{◌-◌}
-use mathlib.Core.Path.{sym}
-use native.Mathlib.Omega.{arith}
 use lib.ListN.{length}
-use Rattle.qasm.proofs.Same.{Along, along-none, along-more, along_unlike, along-all, unequal}
+use Rattle.qasm.proofs.Same.{Along}
 use Rattle.qasm.proofs.bytes.is_same.Given as goal
 
 abbrev pub invariant-loop-i : goal.invariant-loop-i

@@ -1,13 +1,9 @@
 -- `names::find` meets its contract.
 use mathlib.Core.Path.{refl, sym, ◌∙◌}
-use mathlib.Core.Bool.{Bool}
-use mathlib.Core.List.{List}
-use Prim.Native.Nat.{ℕ, ◌-◌}
-use native.Mathlib.Omega.{arith}
-use Rattle.qasm.specs.Forms.{Entry, table}
-use Rattle.qasm.specs.Tokens.{same}
-use Rattle.qasm.specs.Inner.Places.{entry_count, no_entry}
-use Rattle.qasm.proofs.Table.{Seeking, seeking_none, seeking_more, seeking_all, found}
+use Prim.Native.Nat.{◌-◌}
+use Rattle.qasm.specs.Forms.{table}
+use Rattle.qasm.specs.Inner.Places.{no_entry}
+use Rattle.qasm.proofs.Table.{seeking_none, seeking_more, seeking_all, found}
 use Rattle.qasm.proofs.names.find.Invariants.{has}
 use Rattle.qasm.proofs.names.find.Goals as goal
 

@@ -1,13 +1,11 @@
 -- `names::find` meets its contract.
-use mathlib.Core.Path.{refl, sym, ◌∙◌}
 use mathlib.Core.Bool.{Bool}
 use mathlib.Core.List.{List}
 use Prim.Native.Nat.{ℕ, ◌-◌}
-use native.Mathlib.Omega.{arith}
 use Rattle.qasm.specs.Forms.{Entry, table}
 use Rattle.qasm.specs.Tokens.{same}
-use Rattle.qasm.specs.Inner.Places.{entry_count, no_entry}
-use Rattle.qasm.proofs.Table.{Seeking, seeking_none, seeking_more, seeking_all, found}
+use Rattle.qasm.specs.Inner.Places.{entry_count}
+use Rattle.qasm.proofs.Table.{Seeking}
 use Rattle.qasm.proofs.names.find.Given as goal
 
 -- the entry has this name

@@ -5,7 +5,6 @@ use mathlib.Core.List.{List}
 use Prim.Native.Nat.{ℕ, ◌+◌, ◌≤◌}
 use native.Mathlib.Omega.{arith}
 use lib.ListN.{length, drop, length-drop}
-use borrow.Author.Tests.{not-true, not-false}
 use Rattle.qasm.specs.Forms.{header}
 use Rattle.qasm.specs.Tokens.{is_blank, begins}
 use Rattle.qasm.specs.Reading.{reply, filled}

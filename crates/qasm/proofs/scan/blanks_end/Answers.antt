@@ -2,10 +2,8 @@
 use Prim.Native.Nat.{◌-◌}
 use mathlib.Core.Path.{sym, ◌∙◌}
 use native.Mathlib.Omega.{arith}
-use lib.ListN.{length}
-use borrow.Author.Tests.{not-true, not-false}
 use Rattle.qasm.specs.Tokens.{is_blank}
-use Rattle.qasm.proofs.Scanning.{Running, run-begins, run_again, run-stopped, run-ended}
+use Rattle.qasm.proofs.Scanning.{run-begins, run_again, run-stopped, run-ended}
 use Rattle.qasm.proofs.scan.blanks_end.Goals as goal
 
 pub loop-i-init : goal.loop-i-init

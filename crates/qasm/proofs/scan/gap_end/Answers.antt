@@ -3,8 +3,7 @@ use Prim.Native.Nat.{◌-◌, ◌≤◌}
 use mathlib.Core.Path.{sym, ◌∙◌}
 use native.Mathlib.Omega.{arith}
 use lib.ListN.{length}
-use borrow.Author.Tests.{not-true, not-false}
-use Rattle.qasm.proofs.Scanning.{Passing, passing_none, passing_blank, passing_comment, comment_inside, passed_here, passed_all}
+use Rattle.qasm.proofs.Scanning.{passing_none, passing_blank, passing_comment, comment_inside, passed_here, passed_all}
 use Rattle.qasm.proofs.scan.gap_end.Lts as lts
 use Rattle.qasm.proofs.scan.gap_end.Reads as reads
 use Rattle.qasm.proofs.scan.gap_end.Tie as tie

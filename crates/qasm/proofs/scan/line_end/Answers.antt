@@ -3,10 +3,9 @@ use Prim.Native.Nat.{◌-◌}
 use mathlib.Core.Path.{ap}
 use mathlib.Core.Bool.{not}
 use native.Mathlib.Omega.{arith}
-use lib.ListN.{length}
 use borrow.Author.Tests.{eq-eqb, ne_eqb}
 use Rattle.qasm.specs.Tokens.{in_line}
-use Rattle.qasm.proofs.Scanning.{Running, run-begins, run_again, run-stopped, run-ended}
+use Rattle.qasm.proofs.Scanning.{run-begins, run_again, run-stopped, run-ended}
 use Rattle.qasm.proofs.scan.line_end.Goals as goal
 
 pub loop-i-init : goal.loop-i-init

@@ -3,10 +3,9 @@ use Prim.Native.Nat.{◌-◌}
 use mathlib.Core.Path.{◌≡◌, sym, ◌∙◌}
 use mathlib.Core.Bool.{Bool, ◌&&◌, ◌||◌}
 use native.Mathlib.Omega.{arith}
-use lib.ListN.{length, get_or}
-use borrow.Author.Tests.{not-true, not-false}
+use lib.ListN.{get_or}
 use Rattle.qasm.specs.Inner.Scanning.{in_run}
-use Rattle.qasm.proofs.Scanning.{Running, run-begins, run_again, run-stopped, run-ended}
+use Rattle.qasm.proofs.Scanning.{run-begins, run_again, run-stopped, run-ended}
 use Rattle.qasm.proofs.scan.run_end.Lts as lts
 use Rattle.qasm.proofs.scan.run_end.Reads as reads
 use Rattle.qasm.proofs.scan.run_end.Tie as tie

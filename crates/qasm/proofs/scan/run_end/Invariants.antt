@@ -1,12 +1,8 @@
 -- `scan::run_end` meets its contract.
 use Prim.Native.Nat.{◌-◌}
-use mathlib.Core.Path.{◌≡◌, sym, ◌∙◌}
-use mathlib.Core.Bool.{Bool, ◌&&◌, ◌||◌}
-use native.Mathlib.Omega.{arith}
-use lib.ListN.{length, get_or}
-use borrow.Author.Tests.{not-true, not-false}
+use lib.ListN.{length}
 use Rattle.qasm.specs.Inner.Scanning.{in_run}
-use Rattle.qasm.proofs.Scanning.{Running, run-begins, run_again, run-stopped, run-ended}
+use Rattle.qasm.proofs.Scanning.{Running}
 use Rattle.qasm.proofs.scan.run_end.Given as goal
 
 abbrev pub invariant-loop-i : goal.invariant-loop-i

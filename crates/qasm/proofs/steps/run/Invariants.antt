@@ -1,10 +1,7 @@
 -- `steps::run` meets its contract.
 use Prim.Native.Nat.{◌-◌}
-use mathlib.Core.Path.{refl}
-use native.Mathlib.Omega.{arith}
 use lib.ListN.{length}
-use Rattle.qasm.specs.Inner.Progress.{May}
-use Rattle.qasm.proofs.Going.{Going, going_top, going_length, going_end, token_may, stepped-length, going_fault, going_on}
+use Rattle.qasm.proofs.Going.{Going}
 use Rattle.qasm.proofs.steps.run.Given as goal
 
 abbrev pub invariant-loop-begin : goal.invariant-loop-begin

@@ -4,12 +4,11 @@ use Prim.Native.Nat.{◌-◌, ◌/◌}
 use native.Mathlib.Omega.{arith}
 use lib.ListN.{length}
 use Rattle.algebra.specs.Lists.{concat_map}
-use Rattle.gate.specs.Gate.{gate_size, gates_of}
+use Rattle.gate.specs.Gate.{gate_size}
 use Rattle.gate.proofs.Listed.{gates-more, gates-none}
-use Rattle.text.specs.Page.{page}
-use Rattle.text.proofs.Put.{text, Left, left-all, left_less, left-none, left_is}
+use Rattle.text.proofs.Put.{text, left-all, left_less, left-none, left_is}
 use Rattle.qasm.specs.Writing.{gate_text}
-use Rattle.qasm_writer.proofs.Asked.{from, from_all}
+use Rattle.qasm_writer.proofs.Asked.{from_all}
 use Rattle.qasm_writer.proofs.printer.put_gates.Goals as goal
 
 pub loop-i-init : goal.loop-i-init

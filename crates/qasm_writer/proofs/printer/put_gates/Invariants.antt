@@ -1,15 +1,12 @@
 -- `printer::put_gates` meets its contract.
-use mathlib.Core.Path.{ap}
 use Prim.Native.Nat.{◌-◌, ◌/◌}
-use native.Mathlib.Omega.{arith}
 use lib.ListN.{length}
 use Rattle.algebra.specs.Lists.{concat_map}
 use Rattle.gate.specs.Gate.{gate_size, gates_of}
-use Rattle.gate.proofs.Listed.{gates-more, gates-none}
 use Rattle.text.specs.Page.{page}
-use Rattle.text.proofs.Put.{text, Left, left-all, left_less, left-none, left_is}
+use Rattle.text.proofs.Put.{Left}
 use Rattle.qasm.specs.Writing.{gate_text}
-use Rattle.qasm_writer.proofs.Asked.{from, from_all}
+use Rattle.qasm_writer.proofs.Asked.{from}
 use Rattle.qasm_writer.proofs.printer.put_gates.Given as goal
 
 abbrev pub invariant-loop-i : goal.invariant-loop-i

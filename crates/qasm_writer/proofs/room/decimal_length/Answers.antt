@@ -1,9 +1,5 @@
 -- `room::decimal_length` meets its contract.
-use mathlib.Core.Path.{◌≡◌}
-use Prim.Native.Nat.{◌+◌, ◌^◌, ◌<◌}
 use native.Mathlib.Omega.{arith}
-use lib.ListN.{length}
-use Rattle.text.specs.Decimal.{decimal}
 use Rattle.qasm_writer.proofs.Lengths.{decimal-most, length-one, length_more}
 use Rattle.qasm_writer.proofs.room.decimal_length.Goals as goal
 

@@ -1,12 +1,8 @@
 -- `room::is_within` meets its contract.
-use mathlib.Core.Path.{◌≡◌, sym, ◌∙◌}
-use Prim.Native.Nat.{◌-◌, ◌/◌}
+use mathlib.Core.Path.{sym, ◌∙◌}
+use Prim.Native.Nat.{◌-◌}
 use native.Mathlib.Omega.{arith}
-use lib.Dec.{leb}
-use lib.ListN.{length}
-use Rattle.gate.specs.Gate.{gate_size, gates_of}
-use Rattle.qasm.specs.Writing.{written}
-use Rattle.qasm_writer.proofs.Lengths.{decimal-most, no_room, room-left, bytes_from, head-before, line_before, none_left, less}
+use Rattle.qasm_writer.proofs.Lengths.{decimal-most, no_room, room-left, head-before, line_before, none_left, less}
 use Rattle.qasm_writer.proofs.room.is_within.Goals as goal
 
 pub overflow_add-head : goal.overflow_add-head

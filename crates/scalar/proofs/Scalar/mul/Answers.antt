@@ -5,7 +5,6 @@ use mathlib.Core.List.{List}
 use Prim.Native.Nat.{◌+◌}
 use lib.IntN.{ℤ}
 use native.Mathlib.Omega.{arith}
-use borrow.Author.Tests.{not-true, not-false}
 use Rattle.algebra.proofs.Tests.{and_split}
 use Rattle.exact.specs.Exact.{Exact, lowest, well_formed, narrow, number_of}
 use Rattle.exact.proofs.Sizes.{narrow_bound, narrow_exponent_lem}

@@ -1,6 +1,6 @@
 -- `powers::widened` meets its contract: each number is kept.
 use mathlib.Core.Path.{◌≡◌, ap, ◌∙◌}
-use mathlib.Core.List.{[], ◌∷◌}
+use mathlib.Core.List.{◌∷◌}
 use Prim.Native.Nat.{ℕ, ◌<◌, ◌^◌}
 use lib.ListN.{get_or}
 use lib.IntN.{ℤ, pos}
@@ -8,7 +8,7 @@ use lib.Signed.{mag}
 use mir.Syntax.{w8, w64}
 use mir.Val.{SFits, to_z, of_z}
 use mir.Facts.{to_z-of_z, sfits_to_z, Fits-of_z, sfits_widen}
-use borrow.Author.Rules.{rules, sfits_of}
+use borrow.Author.Rules.{sfits_of}
 use Rattle.scalar.proofs.powers.widened.Lts as lts
 use Rattle.scalar.proofs.powers.widened.Reads as reads
 use Rattle.scalar.proofs.powers.widened.Goals as goal

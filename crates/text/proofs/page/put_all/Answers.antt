@@ -1,13 +1,12 @@
 -- `page::put_all` meets its contract.
-use Prim.Native.Nat.{◌+◌, ◌≤◌, ◌-◌}
+use Prim.Native.Nat.{◌+◌, ◌-◌}
 use mathlib.Core.Path.{◌≡◌}
 use mathlib.Core.List.{◌∷◌}
 use native.Mathlib.Numerals.{add-one}
 use lib.Seq.{drop-cons}
 use native.Mathlib.Omega.{arith}
-use lib.ListN.{length, get_or, drop, drop_of_length-le}
-use Rattle.text.specs.Page.{page}
-use Rattle.text.proofs.Put.{left-all, left_less, left-none, left_is, Left}
+use lib.ListN.{get_or, drop, drop_of_length-le}
+use Rattle.text.proofs.Put.{left-all, left_less, left-none, left_is}
 use Rattle.text.proofs.page.put_all.Goals as goal
 
 pub loop-i-init : goal.loop-i-init

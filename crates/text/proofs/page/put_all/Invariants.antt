@@ -1,13 +1,8 @@
 -- `page::put_all` meets its contract.
-use Prim.Native.Nat.{◌+◌, ◌≤◌, ◌-◌}
-use mathlib.Core.Path.{◌≡◌}
-use mathlib.Core.List.{◌∷◌}
-use native.Mathlib.Numerals.{add-one}
-use lib.Seq.{drop-cons}
-use native.Mathlib.Omega.{arith}
-use lib.ListN.{length, get_or, drop, drop_of_length-le}
+use Prim.Native.Nat.{◌≤◌, ◌-◌}
+use lib.ListN.{length, drop}
 use Rattle.text.specs.Page.{page}
-use Rattle.text.proofs.Put.{left-all, left_less, left-none, left_is, Left}
+use Rattle.text.proofs.Put.{Left}
 use Rattle.text.proofs.page.put_all.Given as goal
 
 abbrev pub invariant-loop-i : goal.invariant-loop-i

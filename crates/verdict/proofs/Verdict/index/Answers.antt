@@ -1,6 +1,5 @@
 -- The index of each verdict, by what its arm is told.
 use mathlib.Core.Path.{◌≡◌, sym, ap}
-use Prim.Native.Nat.{ℕ}
 use Rattle.verdict.specs.declared.Verdict.{Verdict}
 use Rattle.verdict.specs.Verdict.{verdict_index}
 use Rattle.verdict.proofs.Verdict.index.Goals as goal

@@ -4,7 +4,7 @@ use native.Mathlib.Omega.{arith}
 use lib.ListN.{length}
 use Rattle.gate.specs.Gate.{gate_size, gates_from}
 use Rattle.gate.specs.Inner.Words.{gate_of}
-use Rattle.circuit.proofs.Counts.{Counted, counted_none, counted-more, counted-all, splits-one, newly-one, weight-one}
+use Rattle.circuit.proofs.Counts.{counted_none, counted-more, counted-all, splits-one, newly-one, weight-one}
 use Rattle.circuit.proofs.footprint.Footprint.of.Goals as goal
 
 pub loop-i-init : goal.loop-i-init

@@ -4,7 +4,7 @@ use native.Mathlib.Omega.{arith}
 use lib.ListN.{length}
 use Rattle.gate.specs.Gate.{gate_size, gates_from}
 use Rattle.gate.specs.Inner.Words.{gate_of}
-use Rattle.pauli_judge.proofs.Counted.{Counted, newly-one, counted_none, counted-more, counted-all}
+use Rattle.pauli_judge.proofs.Counted.{newly-one, counted_none, counted-more, counted-all}
 use Rattle.pauli_judge.proofs.footprint.ProgramFootprint.of.Goals as goal
 
 pub loop-i-init : goal.loop-i-init

@@ -1,10 +1,8 @@
 -- The invariant: what is counted so far and the count of the rest make the whole.
-use Prim.Native.Nat.{◌+◌, ◌-◌, ◌/◌}
-use native.Mathlib.Omega.{arith}
+use Prim.Native.Nat.{◌-◌, ◌/◌}
 use lib.ListN.{length}
-use Rattle.gate.specs.Gate.{gate_size, gates_from}
-use Rattle.gate.specs.Inner.Words.{gate_of}
-use Rattle.pauli_judge.proofs.Counted.{Counted, newly-one, counted_none, counted-more, counted-all}
+use Rattle.gate.specs.Gate.{gate_size}
+use Rattle.pauli_judge.proofs.Counted.{Counted}
 use Rattle.pauli_judge.proofs.footprint.ProgramFootprint.of.Given as goal
 
 abbrev pub invariant-loop-i : goal.invariant-loop-i
