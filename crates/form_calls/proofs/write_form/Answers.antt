@@ -21,12 +21,10 @@ use Rattle.form_calls.proofs.write_form.Goals as goal
 abbrev After-is_accepted : Type 0
 After-is_accepted = lts.After-is_accepted tie.the-claims reads.Pre reads.Post tie.handed_clauses
 
-
 abbrev Else-not-is_accepted : Type 0
 Else-not-is_accepted = lts.Else1 tie.the-claims reads.Pre reads.Post tie.handed_clauses
 
 module _ (k : After-is_accepted) where
-
   abbrev l : List ℤ
   l = k.args.channel.now
 

@@ -36,9 +36,11 @@ loop-i-preserved c =
     let x = get_or s.s.now (s.at + c.loop-i.i) (pos 0) in
     let e = edge-word x c.x-1.given in
     let bits = c.loop-i.auto.g in
-    let g = or_lt 64 c.loop-i.g-bits _ bits.fits (subst (λ (m : ℕ). m < 2 ^ 64) (sym e) (edge-fits x c.x-1.given)) in
-    (omega arith, of_z-to_z {w = w64} (record { fits = g })
-    ∙ more (λ (i : ℕ). edge (get_or s.s.now (s.at + i) (pos 0))) (sym (of_z-to_z {w = w64} bits) ∙ c.loop-i.invariant.1) e)
+    let g = or_lt 64 c.loop-i.g-bits _ bits.fits (subst (λ (m : ℕ). m < 2 ^ 64) (sym e) (edge-fits x c.x-1.given)) in (
+      omega arith,
+      of_z-to_z {w = w64} (record { fits = g })
+          ∙ more (λ (i : ℕ). edge (get_or s.s.now (s.at + i) (pos 0))) (sym (of_z-to_z {w = w64} bits) ∙ c.loop-i.invariant.1) e,
+    )
 
 pub returns : goal.returns
 returns c =

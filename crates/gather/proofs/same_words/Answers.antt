@@ -50,10 +50,12 @@ loop-i-preserved c =
     let p : SFits w64 x = record { sfits = c.d-1.given } in
     let q : SFits w64 y = record { sfits = c.d-in-loop-i-1.given } in
     let bits = c.loop-i.auto.d in
-    let g = or_lt 64 c.loop-i.d-bits _ bits.fits (xor_lt 64 (of_z w64 x) (of_z w64 y) (Fits-of_z p).fits (Fits-of_z q).fits) in
-    (omega arith, ap (λ (m : ℕ). eqb m 0) (of_z-to_z {w = w64} (record { fits = g }))
-    ∙ or_zero c.loop-i.d-bits (bit_xor (of_z w64 x) (of_z w64 y))
-    ∙ all_more c.loop-i.i (same_at s.s.now s.a s.t.now s.b) (ap (λ (m : ℕ). eqb m 0) (sym (of_z-to_z {w = w64} bits)) ∙ c.loop-i.invariant.1) (xor_words x y p q))
+    let g = or_lt 64 c.loop-i.d-bits _ bits.fits (xor_lt 64 (of_z w64 x) (of_z w64 y) (Fits-of_z p).fits (Fits-of_z q).fits) in (
+      omega arith,
+      ap (λ (m : ℕ). eqb m 0) (of_z-to_z {w = w64} (record { fits = g }))
+          ∙ or_zero c.loop-i.d-bits (bit_xor (of_z w64 x) (of_z w64 y))
+          ∙ all_more c.loop-i.i (same_at s.s.now s.a s.t.now s.b) (ap (λ (m : ℕ). eqb m 0) (sym (of_z-to_z {w = w64} bits)) ∙ c.loop-i.invariant.1) (xor_words x y p q),
+    )
 
 pub returns : goal.returns
 returns c =

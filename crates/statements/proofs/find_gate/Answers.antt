@@ -34,10 +34,10 @@ pub loop-begin-preserved : goal.loop-begin-preserved
 loop-begin-preserved c =
     let a = c.args in
     elim c.if-opening-is_declaration.branch [
-      then-opening-is_declaration+else-before-index w ↦
-        counting_more a.text.now a.index c.loop-begin.invariant c.loop-begin-test.true c.token_end-end.ensures c.is_declaration.ensures c.gap_end-begin-in-loop-begin.ensures c.is_same-opening.ensures w.if-opening-is_declaration.true w.if-before-index.false w.before-is
+      | then-opening-is_declaration+else-before-index w ↦
+          counting_more a.text.now a.index c.loop-begin.invariant c.loop-begin-test.true c.token_end-end.ensures c.is_declaration.ensures c.gap_end-begin-in-loop-begin.ensures c.is_same-opening.ensures w.if-opening-is_declaration.true w.if-before-index.false w.before-is
       | else-opening-is_declaration w ↦
-        counting_same a.text.now a.index c.loop-begin.invariant c.loop-begin-test.true c.token_end-end.ensures c.is_declaration.ensures c.gap_end-begin-in-loop-begin.ensures c.is_same-opening.ensures w.if-opening-is_declaration.false w.before-is
+          counting_same a.text.now a.index c.loop-begin.invariant c.loop-begin-test.true c.token_end-end.ensures c.is_declaration.ensures c.gap_end-begin-in-loop-begin.ensures c.is_same-opening.ensures w.if-opening-is_declaration.false w.before-is
     ]
 
 pub returns : goal.returns
