@@ -1,7 +1,7 @@
 -- A call accepts exactly where every answer is yes; and what the answers to the questions of the gates say.
 use mathlib.Core.Path.{◌≡◌, refl, sym, ◌∙◌}
 use mathlib.Core.Bool.{Bool, true, false, ◌&&◌}
-use mathlib.Core.List.{List, ◌∷◌}
+use mathlib.Core.List.{[], List, ◌∷◌}
 use Prim.Native.Nat.{ℕ, suc, ◌/◌, ◌%◌, ◌≤◌}
 use lib.Dec.{eqb, leb}
 use lib.ListN.{length}

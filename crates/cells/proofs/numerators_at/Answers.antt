@@ -1,5 +1,5 @@
 -- `numerators_at` meets its contract.
-use mathlib.Core.List.{◌∷◌}
+use mathlib.Core.List.{[], ◌∷◌}
 use Rattle.algebra.proofs.Signed.{reads}
 use Rattle.cells.specs.Cells.{cell_at}
 use Rattle.cells.proofs.numerators_at.Goals as goal

@@ -1,6 +1,6 @@
 -- `write_header` meets its contract.
 use mathlib.Core.Path.{ap, ◌∙◌}
-use mathlib.Core.List.{◌∷◌}
+use mathlib.Core.List.{[], ◌∷◌}
 use lib.ListN.{set}
 use lib.Seq.{sets}
 use Rattle.channel.specs.Layout.{channels, effects, word}

@@ -1,5 +1,5 @@
 -- `read_number` meets its contract.
-use mathlib.Core.List.{◌∷◌}
+use mathlib.Core.List.{[], ◌∷◌}
 use Rattle.algebra.proofs.Signed.{reads}
 use Rattle.overlaps.specs.Inner.Overlap.{number_in}
 use Rattle.overlaps.proofs.read_number.Goals as goal

@@ -1,6 +1,6 @@
 -- `copy_record` meets its contract.
 use mathlib.Core.Path.{refl, ap, ◌∙◌}
-use mathlib.Core.List.{◌∷◌}
+use mathlib.Core.List.{[], ◌∷◌}
 use Prim.Native.Nat.{◌+◌}
 use lib.Seq.{sets}
 use Rattle.algebra.proofs.Blocks.{append_block}

@@ -1,5 +1,5 @@
 -- `shift_words` meets its contract: i words are shifted, the rest is as it was.
-use mathlib.Core.List.{◌∷◌}
+use mathlib.Core.List.{[], ◌∷◌}
 use Prim.Native.Nat.{ℕ, ◌+◌, ◌-◌, ◌^◌}
 use lib.ListN.{get_or}
 use lib.IntN.{pos}

@@ -1,5 +1,5 @@
 -- The invariant: the first i words are copied.
-use mathlib.Core.List.{◌∷◌}
+use mathlib.Core.List.{[], ◌∷◌}
 use Prim.Native.Nat.{ℕ, ◌+◌, ◌-◌}
 use lib.ListN.{get_or}
 use lib.IntN.{pos}

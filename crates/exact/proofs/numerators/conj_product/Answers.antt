@@ -1,5 +1,5 @@
 -- `conj_product` meets its contract: each operation's size is bounded by computation, and the solver compares the coordinates.
-use mathlib.Core.List.{◌∷◌}
+use mathlib.Core.List.{[], ◌∷◌}
 use lib.IntN.{pos}
 use Rattle.algebra.specs.Quadratic.{Pair, pair}
 use Rattle.algebra.proofs.Solver.{Expr, con, ◌⊞◌, ◌⊠◌, ⊟}

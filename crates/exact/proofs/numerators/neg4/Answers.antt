@@ -1,5 +1,5 @@
 -- `neg4` meets its contract.
-use mathlib.Core.List.{◌∷◌}
+use mathlib.Core.List.{[], ◌∷◌}
 use native.Mathlib.Omega.{arith}
 use Rattle.algebra.proofs.Signed.{neg_fits, neg_back}
 use Rattle.exact.specs.Exact.{number_of}

@@ -1,5 +1,5 @@
 -- `scaled4` meets its contract.
-use mathlib.Core.List.{◌∷◌}
+use mathlib.Core.List.{[], ◌∷◌}
 use native.Mathlib.Omega.{arith}
 use Rattle.algebra.proofs.Signed.{scale_fits, scale_back}
 use Rattle.exact.specs.Exact.{number_of}

@@ -1,6 +1,6 @@
 -- `sum4` meets its contract.
 use mathlib.Core.Path.{◌≡◌}
-use mathlib.Core.List.{◌∷◌}
+use mathlib.Core.List.{[], ◌∷◌}
 use Prim.Native.Nat.{◌≤◌}
 use lib.IntN.{ℤ, nat_abs, ◌+ℤ◌}
 use mir.Syntax.{w64}

@@ -1,7 +1,7 @@
 -- Each count of used words leaves its own list.
 use mathlib.Core.Path.{sym, ap}
 use mathlib.Core.Bool.{and-true}
-use mathlib.Core.List.{◌∷◌}
+use mathlib.Core.List.{[], ◌∷◌}
 use Prim.Native.Nat.{ℕ}
 use native.Mathlib.Omega.{arith}
 use lib.Dec.{eqb}

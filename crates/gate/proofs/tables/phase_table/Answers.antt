@@ -1,5 +1,5 @@
 -- Entry by entry.
-use mathlib.Core.List.{◌∷◌}
+use mathlib.Core.List.{[], ◌∷◌}
 use Rattle.scalar.specs.Calls.{scalar_of}
 use Rattle.gate.specs.Operators.{one, none}
 use Rattle.gate.proofs.tables.phase_table.Goals as goal

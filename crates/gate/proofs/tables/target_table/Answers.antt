@@ -1,6 +1,6 @@
 -- Each kind has its target.
 use mathlib.Core.Path.{sym, ap, ◌∙◌}
-use mathlib.Core.List.{◌∷◌}
+use mathlib.Core.List.{[], ◌∷◌}
 use Prim.Native.Nat.{ℕ}
 use Rattle.gate.specs.Inner.Entries.{table_of, target_of}
 use Rattle.gate.proofs.Kind.{elem-after, elem-last}

@@ -1,6 +1,6 @@
 -- Each phase has its power, and the other kinds their table.
 use mathlib.Core.Path.{sym, ap, ◌∙◌}
-use mathlib.Core.List.{List, ◌∷◌}
+use mathlib.Core.List.{[], List, ◌∷◌}
 use Prim.Native.Nat.{ℕ}
 use Rattle.gate.specs.Gate.{rz}
 use Rattle.gate.specs.Inner.Kinds.{constants}

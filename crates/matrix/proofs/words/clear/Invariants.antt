@@ -1,5 +1,5 @@
 -- `matrix::words::clear` meets its contract.
-use mathlib.Core.List.{◌∷◌}
+use mathlib.Core.List.{[], ◌∷◌}
 use Prim.Native.Nat.{ℕ, ◌-◌}
 use lib.IntN.{pos}
 use Rattle.algebra.proofs.Blocks.{Writing}

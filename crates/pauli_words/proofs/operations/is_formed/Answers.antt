@@ -1,7 +1,7 @@
 -- By the kind.
 use mathlib.Core.Path.{sym, ap, ◌∙◌}
 use mathlib.Core.Bool.{Bool, false, ◌&&◌, and-false}
-use mathlib.Core.List.{List, ◌∷◌}
+use mathlib.Core.List.{[], List, ◌∷◌}
 use native.Mathlib.Omega.{arith}
 use lib.Dec.{eqb, ltb}
 use lib.ListN.{get_or-eq_default}

@@ -1,7 +1,7 @@
 -- `pieces::is_fixed` meets its contract.
 use mathlib.Core.Path.{sym, ap, ◌∙◌}
 use mathlib.Core.Bool.{cond}
-use mathlib.Core.List.{List, ◌∷◌}
+use mathlib.Core.List.{[], List, ◌∷◌}
 use Prim.Native.Nat.{ℕ}
 use borrow.Author.Tests.{ne_eqb}
 use Rattle.text.specs.Ascii.{ascii}

@@ -1,6 +1,6 @@
 -- `Scalar::conj` meets its contract.
 use mathlib.Core.Path.{ap, sym, ◌∙◌}
-use mathlib.Core.List.{List, ◌∷◌}
+use mathlib.Core.List.{[], List, ◌∷◌}
 use lib.ListN.{get_or}
 use lib.IntN.{ℤ, pos}
 use Rattle.algebra.proofs.Signed.{reads}

@@ -1,6 +1,6 @@
 -- `powers::widened` meets its contract: each number is kept.
 use mathlib.Core.Path.{◌≡◌, ap, ◌∙◌}
-use mathlib.Core.List.{◌∷◌}
+use mathlib.Core.List.{[], ◌∷◌}
 use Prim.Native.Nat.{ℕ, ◌<◌, ◌^◌}
 use lib.ListN.{get_or}
 use lib.IntN.{ℤ, pos}

@@ -1,6 +1,6 @@
 -- The gate's qubits are the first of a, b, c.
 use mathlib.Core.Path.{ap, ◌∙◌}
-use mathlib.Core.List.{◌∷◌}
+use mathlib.Core.List.{[], ◌∷◌}
 use Prim.Native.Nat.{ℕ}
 use lib.ListN.{take}
 use Rattle.gate.specs.Gate.{elem}
