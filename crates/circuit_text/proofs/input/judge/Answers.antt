@@ -33,7 +33,7 @@ loop-at-init c = judging_none c.args.text.now c.none-seen.ensures
 
 pub returns-then-not-number : goal.returns-then-not-number
 returns-then-not-number c =
-    judging_bad (text c.before.before.before.before.before) c.loop-at.invariant (bytes c.before.before.before.before.before) (c.next_blank-e.result + 1) c.number_in-number.result (step c.before.before.before.before.before).next c.number_in-number.ensures (not-true c.if-not-number.true)
+    judging_bad (text c.before.before.before.before.before) c.loop-at.invariant (bytes c.before.before.before.before.before) (c.next_blank-e.result + 1) c.number_in-number.result (step c.before.before.before.before.before).next c.number_in-number.ensures (not-true _ c.if-not-number.true)
 
 pub with-seen-requires : goal.with-seen-requires
 with-seen-requires c =
@@ -50,7 +50,7 @@ loop-at-smaller c =
 pub loop-at-preserved : goal.loop-at-preserved
 loop-at-preserved c =
     judging_more (text c.before.before.before.before.before.before) c.loop-at.invariant (bytes c.before.before.before.before.before.before) (c.next_blank-e.result + 1) c.number_in-number.result (step c.before.before.before.before.before.before).next c.number_in-number.ensures
-    (let q = (step c.before.before.before.before.before.before).start in omega arith) (not-false c.if-not-number.false) c.with-seen.ensures
+    (let q = (step c.before.before.before.before.before.before).start in omega arith) (not-false _ c.if-not-number.false) c.with-seen.ensures
 
 pub returns : goal.returns
 returns c =

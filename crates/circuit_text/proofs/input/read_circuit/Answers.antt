@@ -40,12 +40,12 @@ module _ (t : List ℕ) {e : ℕ} (h : e ≡ body_length t) where
     circuit_is = given_is (is_input_text t) (circuit_in (numbers_of t)) circuit told
 
     -- its numbers in the room l
-    module _ (l : List ℕ) (long : max_numbers ≤ length l) {n : List ℕ} {k : ℕ} (r : n ≡ sets l 0 (map value (pieces (take e t)))) where
+    module _ (l : List ℕ) (long : max_numbers ≤ length l) {n : List ℕ} (r : n ≡ sets l 0 (map value (pieces (take e t)))) where
       read_is : n ≡ sets l 0 (numbers_of t)
       read_is = r ∙ ap (λ (b : List ℕ). sets l 0 (map value (pieces b))) body_is
 
-      words : k ≡ length (pieces (take e t)) → (k ≤ length n) × (take k n ≡ numbers_of t)
-      words q =
+      words : {k : ℕ} → k ≡ length (pieces (take e t)) → (k ≤ length n) × (take k n ≡ numbers_of t)
+      words {k} q =
           let m = length-map (pieces (body t)) value in
           let few = few-numbers t yes in
           first-words (numbers_of t) l (q ∙ ap (λ (b : List ℕ). length (pieces b)) body_is ∙ sym m) (omega arith) read_is
