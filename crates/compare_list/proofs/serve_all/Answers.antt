@@ -7,7 +7,7 @@ use Rattle.pair_list.specs.Pairs.{pair_at}
 use Rattle.pair_list.specs.Inner.Spots.{Framed}
 use Rattle.work_list.specs.Serving.{Lent, lent, answer_to}
 use Rattle.work_list.specs.Inner.Weighing.{Blank}
-use Rattle.compare_list.proofs.Along.{Along, along-none, due, within-next, along-more, all_spent, all_answers, all_scalars}
+use Rattle.compare_list.proofs.Along.{along-none, due, within-next, along-more, all_spent, all_answers, all_scalars}
 use Rattle.compare_list.proofs.serve_all.Lts as lts
 use Rattle.compare_list.proofs.serve_all.Reads as reads
 use Rattle.compare_list.proofs.serve_all.Tie as tie

@@ -2,10 +2,10 @@
 use Prim.Native.Nat.{ℕ, ◌+◌, ◌-◌}
 use mathlib.Core.List.{List}
 use native.Mathlib.Omega.{arith}
-use lib.ListN.{length, take, drop}
+use lib.ListN.{take, drop}
 use borrow.Author.Tests.{not-true, not-false}
 use Rattle.circuit_text.proofs.Pieces.{Piece, piece}
-use Rattle.circuit_text.proofs.Judging.{Judging, judging_none, judging_bad, judging_more, judging_all}
+use Rattle.circuit_text.proofs.Judging.{judging_none, judging_bad, judging_more, judging_all}
 use borrow.Author.Rules.{rules}
 use Rattle.circuit_text.proofs.input.judge.Lts as lts
 use Rattle.circuit_text.proofs.input.judge.Reads as reads
