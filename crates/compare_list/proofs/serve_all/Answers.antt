@@ -7,7 +7,7 @@ use Rattle.pair_list.specs.Pairs.{pair_at}
 use Rattle.pair_list.specs.Inner.Spots.{Framed}
 use Rattle.work_list.specs.Serving.{Lent, lent, answer_to}
 use Rattle.work_list.specs.Inner.Weighing.{Blank}
-use Rattle.compare_list.proofs.Along.{Along, along-none, due, within-next, along-more, all_spent, all_answers, all_scalars}
+use Rattle.compare_list.proofs.Along.{along-none, due, within-next, along-more, all_spent, all_answers, all_scalars}
 use Rattle.compare_list.proofs.serve_all.Lts as lts
 use Rattle.compare_list.proofs.serve_all.Reads as reads
 use Rattle.compare_list.proofs.serve_all.Tie as tie
@@ -94,7 +94,7 @@ pair_bytes-from-requires c = (next (turn (asked c.before))).head
 
 pub overflow_add-from : goal.overflow_add-from
 unfolding asked turn
-overflow_add-from c = let l = turn (asked c.before.before) in omega (arith, (next l).bytes, c.pair_bytes-from.ensures, (s l.before).good.1.1.0)
+overflow_add-from c = let l = turn (asked c.before.before) in omega (arith, (next l).bytes, c.pair_bytes-from.ensures)
 
 pub pair_words-at-requires : goal.pair_words-at-requires
 unfolding asked turn
@@ -102,7 +102,7 @@ pair_words-at-requires c = (next (turn (asked c.before.before))).head
 
 pub overflow_add-at : goal.overflow_add-at
 unfolding asked turn
-overflow_add-at c = let l = turn (asked c.before.before.before) in omega (arith, (next l).words, c.pair_words-at.ensures, (s l.before).good.1.0)
+overflow_add-at c = let l = turn (asked c.before.before.before) in omega (arith, (next l).words, c.pair_words-at.ensures)
 
 pub overflow_add-i : goal.overflow_add-i
 unfolding asked turn
@@ -119,10 +119,10 @@ loop-i-preserved c =
     let l = turn v in
     let a = (s l.before).args in
     let (x, (y, z)) = l.loop-i.invariant.1 in
-    let e = v.serve_at-a.ensures.left_unchanged in (
+    let e = v.serve_at-a.ensures in (
       along-more a.words.now a.stores.now (t l.before) a.count a.answers.now a.scalars.now l.loop-i.invariant.0 l.loop-i-test.true (answered v) c.put.ensures.answers_after c.put.ensures.scalars_after
           c.charge_of-spent.ensures c.pair_words-at.ensures c.pair_bytes-from.ensures,
-      (e.0 ∙ x, (e.1.0 ∙ y, e.1.1 ∙ z)),
+      (e.left_unchanged ∙ x, (e.right_unchanged ∙ y, e.work_unchanged ∙ z)),
     )
 
 pub shape_of-left : goal.shape_of-left

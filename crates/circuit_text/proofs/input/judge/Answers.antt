@@ -2,10 +2,10 @@
 use Prim.Native.Nat.{ℕ, ◌+◌, ◌-◌}
 use mathlib.Core.List.{List}
 use native.Mathlib.Omega.{arith}
-use lib.ListN.{length, take, drop}
+use lib.ListN.{take, drop}
 use borrow.Author.Tests.{not-true, not-false}
 use Rattle.circuit_text.proofs.Pieces.{Piece, piece}
-use Rattle.circuit_text.proofs.Judging.{Judging, judging_none, judging_bad, judging_more, judging_all}
+use Rattle.circuit_text.proofs.Judging.{judging_none, judging_bad, judging_more, judging_all}
 use borrow.Author.Rules.{rules}
 use Rattle.circuit_text.proofs.input.judge.Lts as lts
 use Rattle.circuit_text.proofs.input.judge.Reads as reads
@@ -33,7 +33,7 @@ loop-at-init c = judging_none c.args.text.now c.none-seen.ensures
 
 pub returns-then-not-number : goal.returns-then-not-number
 returns-then-not-number c =
-    judging_bad (text c.before.before.before.before.before) c.loop-at.invariant (bytes c.before.before.before.before.before) (c.next_blank-e.result + 1) c.number_in-number.result (step c.before.before.before.before.before).next c.number_in-number.ensures (c.if-not-number.true)
+    judging_bad (text c.before.before.before.before.before) c.loop-at.invariant (bytes c.before.before.before.before.before) (c.next_blank-e.result + 1) c.number_in-number.result (step c.before.before.before.before.before).next c.number_in-number.ensures (not-true _ c.if-not-number.true)
 
 pub with-seen-requires : goal.with-seen-requires
 with-seen-requires c =
@@ -50,7 +50,7 @@ loop-at-smaller c =
 pub loop-at-preserved : goal.loop-at-preserved
 loop-at-preserved c =
     judging_more (text c.before.before.before.before.before.before) c.loop-at.invariant (bytes c.before.before.before.before.before.before) (c.next_blank-e.result + 1) c.number_in-number.result (step c.before.before.before.before.before.before).next c.number_in-number.ensures
-    (let q = (step c.before.before.before.before.before.before).start in omega arith) (c.if-not-number.false) c.with-seen.ensures
+    (let q = (step c.before.before.before.before.before.before).start in omega arith) (not-false _ c.if-not-number.false) c.with-seen.ensures
 
 pub returns : goal.returns
 returns c =

@@ -10,86 +10,45 @@ use Rattle.algebra.specs.Lists.{every}
 use Rattle.circuit_text.specs.declared.input.Circuit.{Circuit}
 use Rattle.circuit_text.specs.declared.input.Input.{Input}
 use Rattle.text.specs.Decimal.{value, is_number}
-use Rattle.circuit_text.specs.Text.{body, pieces}
+use Rattle.circuit_text.specs.Text.{max_bytes, body, body_length, pieces}
+use Rattle.circuit_text.specs.Inner.Reading.{max_numbers, input_in}
 use Rattle.circuit_text.specs.Input.{bytes, circuit_in, numbers_of, is_input_text, input_of}
 use Rattle.circuit_text.proofs.Pieces.{body-inside}
 use Rattle.circuit_text.proofs.Shapes.{given-true, given_is, refused-false, refused-text, given-text, kept, given-numbers, given-store, too_long, judged, sound, all-numbers, few-numbers, first-words}
-use Rattle.circuit_text.proofs.input.read_circuit.Lts as lts
-use Rattle.circuit_text.proofs.input.read_circuit.Reads as reads
-use Rattle.circuit_text.proofs.input.read_circuit.Tie as tie
 use Rattle.circuit_text.proofs.input.read_circuit.Goals as goal
 
-abbrev After-body_length-e : Type 0
-After-body_length-e = lts.After-body_length tie.the-claims reads.Pre reads.Post tie.handed_clauses
+-- the first e bytes of a text are its body
+module _ (t : List ℕ) {e : ℕ} (h : e ≡ body_length t) where
+  inside : e ≤ length t
+  inside = omega (arith, h, body-inside t)
 
-abbrev After-judge : Type 0
-After-judge = lts.After-judge tie.the-claims reads.Pre reads.Post tie.handed_clauses
+  part_long : length (take e t) ≡ e
+  part_long = length-take-le e t inside
 
-abbrev In-Given : Type 0
-In-Given = lts.After-known_told tie.the-claims reads.Pre reads.Post tie.handed_clauses
+  body_is : take e t ≡ body t
+  body_is = ap (λ (k : ℕ). take k t) h
 
-abbrev After-read_numbers-count : Type 0
-After-read_numbers-count = lts.After-read_numbers tie.the-claims reads.Pre reads.Post tie.handed_clauses
+  -- a circuit was read in them
+  module _ (short : length t ≤ max_bytes) {x : Input} (answer : x ≡ input_in (pieces (take e t))) {circuit : Circuit} (given : x ≡ Input.Given circuit) where
+    told : input_of t ≡ Input.Given circuit
+    told = sym (judged t short h answer) ∙ given
 
-module _ (c : After-body_length-e) where
-  abbrev text : List ℕ
-  text = c.args.text.now
+    yes : is_input_text t ≡ true
+    yes = given-true (is_input_text t) (circuit_in (numbers_of t)) circuit told
 
-  -- the room for the numbers, and for the store
-  abbrev room : List ℕ
-  room = c.args.numbers.now
+    circuit_is : circuit ≡ circuit_in (numbers_of t)
+    circuit_is = given_is (is_input_text t) (circuit_in (numbers_of t)) circuit told
 
-  abbrev bits : List ℕ
-  bits = c.args.store.now
+    -- its numbers in the room l
+    module _ (l : List ℕ) (long : max_numbers ≤ length l) {n : List ℕ} (r : n ≡ sets l 0 (map value (pieces (take e t)))) where
+      read_is : n ≡ sets l 0 (numbers_of t)
+      read_is = r ∙ ap (λ (b : List ℕ). sets l 0 (map value (pieces b))) body_is
 
-  inside : c.body_length-e.result ≤ length text
-  inside = omega (arith, c.body_length-e.ensures, body-inside text)
-
-  part_long : length (take c.body_length-e.result text) ≡ c.body_length-e.result
-  part_long = length-take-le c.body_length-e.result text inside
-
-judge-is : (c : After-judge) → c.judge.result ≡ input_of (text c.before.before)
-judge-is c = judged (text c.before) c.if-text-gt-MAX_BYTES.false c.body_length-e.ensures c.judge.ensures
-
-module _ (c : In-Given) where
-  abbrev begun : After-body_length-e
-  begun = c.before.before.before.before.before
-
-  abbrev circuit : Circuit
-  circuit = c.in-Given.circuit
-
-  abbrev ns : List ℕ
-  ns = numbers_of (text begun)
-
-  told : input_of (text begun) ≡ Input.Given circuit
-  told = sym (judge-is c.before.before.before) ∙ c.in-Given.is
-
-  yes : is_input_text (text begun) ≡ true
-  yes = given-true (is_input_text (text begun)) (circuit_in ns) circuit told
-
-  circuit_is : circuit ≡ circuit_in ns
-  circuit_is = given_is (is_input_text (text begun)) (circuit_in ns) circuit told
-
-  body_is : take begun.body_length-e.result (text begun) ≡ body (text begun)
-  body_is = ap (λ (e : ℕ). take e (text begun)) begun.body_length-e.ensures
-
-module _ (c : After-read_numbers-count) where
-  abbrev known : In-Given
-  known = c.before.before.before
-
-  abbrev read : List ℕ
-  read = c.read_numbers-count.new.numbers.0
-
-  read_is : read ≡ sets (room (begun known)) 0 (ns known)
-  read_is = c.read_numbers-count.ensures.room ∙ ap (λ (t : List ℕ). sets (room (begun known)) 0 (map value (pieces t))) (body_is known)
-
-  words : (c.read_numbers-count.result ≤ length read) × (take c.read_numbers-count.result read ≡ ns known)
-  words =
-      let t = text (begun known) in
-      let n = length-map (pieces (body t)) value in
-      let few = few-numbers t (yes known) in
-      let long = (begun known).requires.0 in
-      first-words (ns known) (room (begun known)) (c.read_numbers-count.ensures.count ∙ ap (λ (t : List ℕ). length (pieces t)) (body_is known) ∙ sym n) (omega arith) read_is
+      words : {k : ℕ} → k ≡ length (pieces (take e t)) → (k ≤ length n) × (take k n ≡ numbers_of t)
+      words {k} q =
+          let m = length-map (pieces (body t)) value in
+          let few = few-numbers t yes in
+          first-words (numbers_of t) l (q ∙ ap (λ (b : List ℕ). length (pieces b)) body_is ∙ sym m) (omega arith) read_is
 
 pub returns-then-text-gt-MAX_BYTES : goal.returns-then-text-gt-MAX_BYTES
 returns-then-text-gt-MAX_BYTES c =
@@ -98,48 +57,66 @@ returns-then-text-gt-MAX_BYTES c =
     record { answer = refused-text a.text.now no; numbers = (kept a.text.now a.numbers.now no).0; store = (kept a.text.now a.store.now no).1 }
 
 pub slice_bounds-judge-end : goal.slice_bounds-judge-end
-slice_bounds-judge-end c = sym (part_long c.before)
+slice_bounds-judge-end c = sym (part_long c.args.text.now c.body_length-e.ensures)
 
 pub judge-requires : goal.judge-requires
-judge-requires c = omega (arith, part_long c.before, inside c.before, c.if-text-gt-MAX_BYTES.false)
+judge-requires c = omega (arith, part_long c.args.text.now c.body_length-e.ensures, inside c.args.text.now c.body_length-e.ensures, c.if-text-gt-MAX_BYTES.false)
 
 pub returns-in_default : goal.returns-in_default
 returns-in_default c =
-    let t = text c.before.before.before.before in
-    let no = refused-false (is_input_text t) (circuit_in (numbers_of t)) (sym (judge-is c.before.before.before) ∙ c.enum_told-1.given.1) in
-    record { answer = refused-text t no; numbers = (kept t (room c.before.before.before.before) no).0; store = (kept t (bits c.before.before.before.before) no).1 }
+    let a = c.args in
+    let t = a.text.now in
+    let no = refused-false (is_input_text t) (circuit_in (numbers_of t)) (sym (judged t c.if-text-gt-MAX_BYTES.false c.body_length-e.ensures c.judge.ensures) ∙ c.in_default.is) in
+    record { answer = refused-text t no; numbers = (kept t a.numbers.now no).0; store = (kept t a.store.now no).1 }
 
 pub slice_bounds-read_numbers-end : goal.slice_bounds-read_numbers-end
-slice_bounds-read_numbers-end c = sym (part_long (begun c.before))
+slice_bounds-read_numbers-end c = sym (part_long c.args.text.now c.body_length-e.ensures)
 
 pub read_numbers-count-requires : goal.read_numbers-count-requires
 read_numbers-count-requires c =
-    let b = begun c.before.before in
-    let t = text b in
-    let e = sym (body_is c.before.before) in
-    let q = few-numbers t (yes c.before.before) in
-    let long = b.requires.0 in (
-      omega (arith, part_long b, inside b, b.if-text-gt-MAX_BYTES.false),
-      (ap (λ (t : List ℕ). every is_number (pieces t)) (body_is c.before.before) ∙ all-numbers t (yes c.before.before), subst (λ (t : List ℕ). length (pieces t) ≤ length (room b)) e (omega arith)),
+    let a = c.args in
+    let t = a.text.now in
+    let h = c.body_length-e.ensures in
+    let y = yes t h c.if-text-gt-MAX_BYTES.false c.judge.ensures c.in-Given.is in
+    let q = few-numbers t y in
+    let long = c.requires.0 in (
+      omega (arith, part_long t h, inside t h, c.if-text-gt-MAX_BYTES.false),
+      (ap (λ (t : List ℕ). every is_number (pieces t)) (body_is t h) ∙ all-numbers t y, subst (λ (t : List ℕ). length (pieces t) ≤ length a.numbers.now) (sym (body_is t h)) (omega arith)),
     )
 
 pub slice_bounds-copy_store-end : goal.slice_bounds-copy_store-end
-slice_bounds-copy_store-end c = (words c.before.before.before).0
+slice_bounds-copy_store-end c =
+    (words c.args.text.now c.body_length-e.ensures c.if-text-gt-MAX_BYTES.false c.judge.ensures c.in-Given.is c.args.numbers.now c.requires.0 c.read_numbers-count.ensures.room c.read_numbers-count.ensures.count).0
 
 pub slice_bounds-copy_store-end-2 : goal.slice_bounds-copy_store-end-2
-slice_bounds-copy_store-end-2 c = sym (length-take-le c.read_numbers-count.result (read c.before.before.before) (words c.before.before.before).0)
+slice_bounds-copy_store-end-2 c =
+    sym (length-take-le c.read_numbers-count.result c.read_numbers-count.new.numbers
+    (words c.args.text.now c.body_length-e.ensures c.if-text-gt-MAX_BYTES.false c.judge.ensures c.in-Given.is c.args.numbers.now c.requires.0 c.read_numbers-count.ensures.room c.read_numbers-count.ensures.count).0)
 
 pub copy_store-requires : goal.copy_store-requires
 copy_store-requires c =
-    let k = known c.before.before.before.before.before in
-    let b = begun k in
-    let q = sound (text b) (yes k) in
-    let long = b.requires.1 in
-    subst₂ (λ (h : Circuit) (ns : List ℕ). ((2 + h.bits ≤ length ns) × (h.bits ≤ length (bits b))) × (bytes ns h.bits ≡ true)) (sym (circuit_is k)) (sym (words c.before.before.before.before.before).1)
-    ((omega (arith, q.size), omega (arith, q.bits)), q.store-1)
+    let a = c.args in
+    let t = a.text.now in
+    let h = c.body_length-e.ensures in
+    let short = c.if-text-gt-MAX_BYTES.false in
+    let q = sound t (yes t h short c.judge.ensures c.in-Given.is) in
+    let long = c.requires.1 in
+    let ns-is = (words t h short c.judge.ensures c.in-Given.is a.numbers.now c.requires.0 c.read_numbers-count.ensures.room c.read_numbers-count.ensures.count).1 in
+    subst₂ (λ (g : Circuit) (ns : List ℕ). ((2 + g.bits ≤ length ns) × (g.bits ≤ length a.store.now)) × (bytes ns g.bits ≡ true)) (sym (circuit_is t h short c.judge.ensures c.in-Given.is)) (sym ns-is)
+    ((omega (arith, q.size), omega (arith, q.bits)), q.store)
 
 pub returns : goal.returns
 returns c =
-    let k = known c.before.before.before.before.before.before.before.before in
-    let t = text (begun k) in
-    record { answer = ap Input.Given (circuit_is k) ∙ given-text t (yes k); numbers = read_is c.before.before.before.before.before.before.before.before ∙ given-numbers t (room (begun k)) (yes k); store = c.copy_store.ensures ∙ (λ i. sets (bits (begun k)) 0 (take (circuit_is k i).bits (drop 2 ((words c.before.before.before.before.before.before.before.before).1 i)))) ∙ given-store t (bits (begun k)) (yes k) }
+    let a = c.args in
+    let t = a.text.now in
+    let h = c.body_length-e.ensures in
+    let short = c.if-text-gt-MAX_BYTES.false in
+    let y = yes t h short c.judge.ensures c.in-Given.is in
+    let d = circuit_is t h short c.judge.ensures c.in-Given.is in
+    let room = c.read_numbers-count.ensures.room in
+    let ns-is = (words t h short c.judge.ensures c.in-Given.is a.numbers.now c.requires.0 room c.read_numbers-count.ensures.count).1 in
+    record {
+      answer = ap Input.Given d ∙ given-text t y;
+      numbers = read_is t h short c.judge.ensures c.in-Given.is a.numbers.now c.requires.0 room ∙ given-numbers t a.numbers.now y;
+      store = c.copy_store.ensures ∙ (λ i. sets a.store.now 0 (take (d i).bits (drop 2 (ns-is i)))) ∙ given-store t a.store.now y;
+    }

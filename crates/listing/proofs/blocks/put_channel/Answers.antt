@@ -1,5 +1,5 @@
 -- `blocks::put_channel` meets its contract.
-use Prim.Native.Nat.{ℕ, ◌*◌, ◌≤◌}
+use Prim.Native.Nat.{◌*◌, ◌≤◌}
 use mathlib.Core.Path.{◌≡◌, ap}
 use mathlib.Core.List.{List, ◌++◌}
 use native.Mathlib.Omega.{arith}
@@ -70,24 +70,24 @@ pub bounds-s-0 : goal.bounds-s-0
 bounds-s-0 c = let h = (head c.before).long in omega arith
 
 pub overflow_cast-dim : goal.overflow_cast-dim
-overflow_cast-dim c = read (dim-fits c.before) (Casts w64) (cast_ok 16 (word (words c.before.before) 0) (head c.before.before).dim-1 (record { fits = lit< tt }))
+overflow_cast-dim c = read (dim-fits c.before) (Casts w64) (cast_ok 16 (word (words c.before.before) 0) (head c.before.before).dim (record { fits = lit< tt }))
 
 pub bounds-s-1 : goal.bounds-s-1
 bounds-s-1 c = let h = (head c.before.before).long in omega arith
 
 pub overflow_cast-bits : goal.overflow_cast-bits
-overflow_cast-bits c = read (bits-fits c.before) (Casts w32) (cast_ok 64 (word (words c.before.before.before) 1) (head c.before.before.before).bits-1 (record { fits = lit< tt }))
+overflow_cast-bits c = read (bits-fits c.before) (Casts w32) (cast_ok 64 (word (words c.before.before.before) 1) (head c.before.before.before).bits (record { fits = lit< tt }))
 
 pub bounds-s-2 : goal.bounds-s-2
 bounds-s-2 c = let h = (head c.before.before.before).long in omega arith
 
 pub overflow_cast-count : goal.overflow_cast-count
-overflow_cast-count c = read (count_fits c.before) (Casts w64) (casts_up _ (word (words (begun c.before)) 2) (count_fits c.before) (head (begun c.before)).count-1)
+overflow_cast-count c = read (count_fits c.before) (Casts w64) (casts_up _ (word (words (begun c.before)) 2) (count_fits c.before) (head (begun c.before)).count)
 
 pub overflow_cast-bits-2 : goal.overflow_cast-bits-2
 overflow_cast-bits-2 c =
     let l = words (begun c.before) in
-    let few = read (bits-fits c.before.before) (λ (z : ℤ). nat_abs z ≤ 64) (up-abs 64 (word l 1) (head (begun c.before)).bits-1) in
+    let few = read (bits-fits c.before.before) (λ (z : ℤ). nat_abs z ≤ 64) (up-abs 64 (word l 1) (head (begun c.before)).bits) in
     record { fits = omega (arith, few) }
 
 pub overflow_mul-dim : goal.overflow_mul-dim

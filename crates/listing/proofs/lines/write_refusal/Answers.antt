@@ -1,10 +1,6 @@
 -- `lines::write_refusal` meets its contract.
 use Rattle.text.proofs.Put.{then}
-use borrow.Author.Rules.{rules}
 use Rattle.listing.proofs.lines.write_refusal.Goals as goal
-
-slice-aggregate-put-all : tie.Need-slice-aggregate-put-all
-slice-aggregate-put-all c = search rules
 
 pub returns : goal.returns
 returns c =

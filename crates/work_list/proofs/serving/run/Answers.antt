@@ -9,4 +9,4 @@ returns c =
     let a = c.args in
     let k = circuit_in a.words.now a.stores.now a.c in
     let e = c.circuit_channel.ensures in
-    record { res_after = e.1.0; work_unchanged = e.1.1 ∙ work_kept k.qubits k.bits k.store a.limits k.gates a.res.now a.work.now c.requires.1 }
+    record { res_after = e.res_after; work_unchanged = e.work_after ∙ work_kept k.qubits k.bits k.store a.limits k.gates a.res.now a.work.now c.requires.1 }
