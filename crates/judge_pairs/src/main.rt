@@ -4,10 +4,11 @@
 
 use circuit::limits::Limits;
 use judge_texts::judge_texts;
-use libc::{STDIN_FILENO, STDOUT_FILENO};
+use replay::input::read_full;
 use replay::lines::read_line;
 use replay::numeral::read;
 use replay::words::{fitting, read_bytes};
+use std::io;
 use text_channel::MAX_ANSWER;
 
 // Room for the pairs, and for initial bits.
@@ -16,7 +17,7 @@ const TEXT: usize = 30000;
 const BITS: usize = 80;
 
 // Judges a pair, and writes the answer.
-fn judge_pair(store: &[u8], left: &[u8], right: &[u8]) {
+fn judge_pair(rt: &impl Print, store: &[u8], left: &[u8], right: &[u8]) -> io::Result<()> {
     let mut gates = [0u32; 1100];
     let mut first = [0i64; 5200];
     let mut second = [0i64; 5200];
@@ -35,12 +36,12 @@ fn judge_pair(store: &[u8], left: &[u8], right: &[u8]) {
         &mut out,
     );
     let n = fitting(j.bytes as u64, MAX_ANSWER);
-    io::write_all(STDOUT_FILENO, &out[..n]);
-    io::write_all(STDOUT_FILENO, b"----\n");
+    rt.write_all(&out[..n])?;
+    rt.write_all(b"----\n")
 }
 
 // The pair that begins at `at`: where the next one begins.
-fn turn(text: &[u8], at: usize) -> usize {
+fn turn(rt: &impl Print, text: &[u8], at: usize) -> io::Result<usize> {
     let mut store = [0u8; BITS];
     let given = read_bytes(text, at, &mut store);
     let left = read_line(text, given.next);
@@ -50,23 +51,24 @@ fn turn(text: &[u8], at: usize) -> usize {
     let b = left.end;
     let c = right.start;
     let d = right.end;
-    judge_pair(&store[..n], &text[a..b], &text[c..d]);
-    right.next
+    judge_pair(rt, &store[..n], &text[a..b], &text[c..d])?;
+    Ok(right.next)
 }
 
 // All pairs.
-fn judge_all(text: &[u8]) {
+fn judge_all(rt: &impl Print, text: &[u8]) -> io::Result<()> {
     let count = read(text, 0);
     let mut at = count.next;
     let mut rest = count.size;
     while 0 < rest {
         rest -= 1;
-        at = turn(text, at);
+        at = turn(rt, text, at)?;
     }
+    Ok(())
 }
 
-fn main() {
+fn main(rt: HostRuntime) -> io::Result<()> {
     let mut text = [0u8; TEXT];
-    let n = io::read_full(STDIN_FILENO, &mut text);
-    judge_all(&text[..n]);
+    let n = read_full(&mut rt.reader(), &mut text)?;
+    judge_all(&rt, &text[..n])
 }

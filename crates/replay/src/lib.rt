@@ -4,6 +4,7 @@
 pub mod answers;
 pub mod calls;
 pub mod count;
+pub mod input;
 pub mod lines;
 pub mod numeral;
 pub mod progress;

@@ -6,6 +6,7 @@ ghost use Rattle.replay.specs.Progress.{heading_at, progress_of, tally_for, with
 use crate::numeral::read;
 use crate::record::Record;
 use crate::tally::Tally;
+use std::io;
 
 // How a case begins: its kind, whether its record is the Rust's, and where what it is given begins.
 #[derive(Clone, Copy)]
@@ -54,19 +55,26 @@ impl Progress {
     }
 
     // Prints what was counted of the last kind, if anything was.
-    pub fn print(self) {
+    pub fn print(self, rt: &impl Print) -> io::Result<()> {
         let tally = self.tally;
-        tally.print(self.kind);
+        tally.print(rt, self.kind)
     }
 
-    // What was counted of this kind. Where it is another than the last, that one is printed.
+    // The same, where the case that comes next is of another kind.
+    pub fn print_before(self, rt: &impl Print, after: Progress) -> io::Result<()> {
+        if after.kind == self.kind {
+            return Ok(());
+        }
+        self.print(rt)
+    }
+
+    // What was counted of this kind: nothing, where it is another than the last.
     fn tally_for(self, kind: u64) -> Tally
         ensures { result ≡ tally_for self kind }
     {
         if kind == self.kind {
             return self.tally;
         }
-        self.print();
         Tally::empty()
     }
 

@@ -4,7 +4,7 @@ ghost use Rattle.replay.specs.Tally.{first_of, none, with_case};
 
 use crate::count::{added, counted};
 use crate::record::Record;
-use libc::STDOUT_FILENO;
+use std::io;
 
 // All cases; those that agree, by where the record comes from; those that do not, and the number of the first of these, from 1; the numbers compared.
 #[derive(Clone, Copy)]
@@ -22,12 +22,6 @@ fn first_of(before: u64, case: u64, agrees: bool) -> u64
     ensures { result ≡ first_of before case agrees }
 {
     if agrees | (0 < before) { before } else { case }
-}
-
-// Prints a number and what follows it.
-fn say(n: u64, words: &[u8]) {
-    io::print_decimal(STDOUT_FILENO, n);
-    io::write_all(STDOUT_FILENO, words);
 }
 
 impl Tally {
@@ -60,20 +54,18 @@ impl Tally {
         }
     }
 
-    // One line for a kind that had cases; a second one names the first case that does not agree. It answers nothing, and no contract can say what is written.
-    pub fn print(self, kind: u64) {
+    // One line for a kind that had cases; a second one names the first case that does not agree. No contract can say what is written.
+    pub fn print(self, rt: &impl Print, kind: u64) -> io::Result<()> {
         if self.cases == 0 {
-            return;
+            return Ok(());
         }
-        io::write_all(STDOUT_FILENO, b"kind ");
-        say(kind, b": ");
-        say(self.of_rust, b" agree with the Rust, ");
-        say(self.of_document, b" with the documents, ");
-        say(self.disagree, b" disagree; ");
-        say(self.compared, b" numbers compared\n");
+        println!(rt;
+            "kind {kind}: {} agree with the Rust, {} with the documents, {} disagree; {} numbers compared",
+            self.of_rust, self.of_document, self.disagree, self.compared
+        )?;
         if 0 < self.disagree {
-            io::write_all(STDOUT_FILENO, b"the first is case ");
-            say(self.first, b"\n");
+            println!(rt; "the first is case {}", self.first)?;
         }
+        Ok(())
     }
 }

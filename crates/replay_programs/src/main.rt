@@ -9,9 +9,10 @@ ghost use Rattle.replay.specs.Progress.{with_next, replay_of};
 ghost use Rattle.replay_programs.specs.Cases.{case_of};
 
 use crate::programs::program_case;
-use libc::STDIN_FILENO;
+use replay::input::read_full;
 use replay::numeral::read;
 use replay::progress::{Progress, read_heading};
+use std::io;
 
 // Room for the text.
 const TEXT: usize = 24000;
@@ -25,27 +26,31 @@ fn turn(text: &[u8], progress: Progress) -> Progress
     progress.with(h, seen)
 }
 
-// All cases.
-fn replayed(text: &[u8]) -> Progress
-    ensures { result ≡ replay_of case_of text.now }
+// All cases, and whether each line could be written. A line that could not be keeps none of the others back.
+fn replayed(rt: &impl Print, text: &[u8]) -> (Progress, io::Result<()>)
+    ensures { result.0 ≡ replay_of case_of text.now }
 {
     let count = read(text, 0);
     let mut progress = Progress::begin(count.next);
+    let mut written = Ok(());
     let mut rest = count.size;
     while 0 < rest {
         rest -= 1;
-        progress = turn(text, progress);
+        let after = turn(text, progress);
+        written = written.and(progress.print_before(rt, after));
+        progress = after;
     }
-    progress
+    (progress, written)
 }
 
 // Reads the text, and replays it.
-fn replay_input(text: &mut [u8]) {
-    let n = io::read_full(STDIN_FILENO, text);
-    replayed(&text[..n]).print();
+fn replay_input(rt: &(impl Input + Print), text: &mut [u8]) -> io::Result<()> {
+    let n = read_full(&mut rt.reader(), text)?;
+    let (progress, written) = replayed(rt, &text[..n]);
+    written.and(progress.print(rt))
 }
 
-fn main() {
+fn main(rt: HostRuntime) -> io::Result<()> {
     let mut text = [0u8; TEXT];
-    replay_input(&mut text);
+    replay_input(&rt, &mut text)
 }

@@ -5,4 +5,4 @@ use borrow.Author.Rules.{rules}
 use Rattle.judge_pairs.proofs.turn.Goals as goal
 
 pub slice_bounds-judge_pair-end : goal.slice_bounds-judge_pair-end
-slice_bounds-judge_pair-end c = sym (length-take-le _ _ (search rules))
+slice_bounds-judge_pair-end g c = sym (length-take-le _ _ (search rules))

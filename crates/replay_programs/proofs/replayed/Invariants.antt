@@ -7,7 +7,7 @@ use Rattle.replay_programs.specs.Cases.{case_of}
 use Rattle.replay_programs.proofs.replayed.Given as goal
 
 abbrev pub invariant-loop-rest : goal.invariant-loop-rest
-invariant-loop-rest l = replay_of case_of l.text ≡ with_nexts case_of l.text l.rest l.progress
+invariant-loop-rest g l = replay_of case_of l.text ≡ with_nexts case_of l.text l.rest l.progress
 
 abbrev pub decreases-loop-rest : goal.decreases-loop-rest
-decreases-loop-rest l = l.rest
+decreases-loop-rest g l = l.rest
