@@ -5,6 +5,7 @@ use Prim.Native.Nat.{◌-◌}
 use native.Mathlib.Omega.{arith}
 use lib.ListN.{length, drop}
 use lib.IntN.{pos}
+use mir.Syntax.{w64}
 use mir.Facts.{to_z-of_z}
 use Rattle.replay.specs.Checksum.{sums, with_word, joined}
 use Rattle.replay.proofs.Reading.{fold_more, fold_end}
@@ -28,7 +29,7 @@ loop-i-smaller c = omega arith
 pub loop-i-preserved : goal.loop-i-preserved
 loop-i-preserved c =
     let ws = c.args.words.now in
-    c.loop-i.invariant ∙ fold_more with_word ws c.loop-i.i (pos 0) c.loop-i-test.true (c.with_word-sums.ensures ∙ ap (with_word c.loop-i.sums) (to_z-of_z (record { sfits = c.w-1.given })))
+    c.loop-i.invariant ∙ fold_more with_word ws c.loop-i.i (pos 0) c.loop-i-test.true (c.with_word-sums.ensures ∙ ap (with_word c.loop-i.sums) (to_z-of_z {w = w64} (record { sfits = c.w-1.given })))
 
 pub returns : goal.returns
 returns c =

@@ -15,7 +15,7 @@ returns c =
     let x = c.read_circuit-c.ensures.circuit in
     let store = taken (ap (λ (y : Circuit). y.stored) x) c.read_circuit-c.ensures.store in
     let gates = taken (ap (λ (y : Circuit). y.gates) x) c.read_circuit-c.ensures.gates in
-    record { next = ap (λ (y : Circuit). y.next) x; channel = c.circuit_channel.ensures.res_after ∙ (λ i. result_after (x i).n (x i).bits (store i) (x i).limits-1 (gates i) r w); work = c.circuit_channel.ensures.work_after ∙ (λ i. work_after (x i).n (x i).bits (store i) (x i).limits-1 (gates i) r w) }
+    record { next = ap (λ (y : Circuit). y.next) x; channel = c.circuit_channel.ensures.res_after ∙ (λ i. result_after (x i).n (x i).bits (store i) (x i).limits (gates i) r w); work = c.circuit_channel.ensures.work_after ∙ (λ i. work_after (x i).n (x i).bits (store i) (x i).limits (gates i) r w) }
 
 pub slice_bounds-circuit_channel-end : goal.slice_bounds-circuit_channel-end
 slice_bounds-circuit_channel-end c = sym (length-take-le _ _ (search rules))

@@ -13,6 +13,6 @@ returns c =
     let t = c.args.text.now in
     let left = c.channel_of-second.ensures in
     let right = c.channel_of-answer.ensures in
-    let begin = c.begin.ensures ∙ (λ i. begun ((right.0 ∙ (λ j. (given t (left.0 j)).next)) i)) in
-    let second = right.1.0 ∙ (λ i. channel_of t (left.0 i) (room 41000) (left.1.1 i)) in
-    c.compare_call.ensures ∙ (λ i. with_difference t (begin i) (compare_of (left.1.0 i) (second i)))
+    let begin = c.begin.ensures ∙ (λ i. begun ((right.next ∙ (λ j. (given t (left.next j)).next)) i)) in
+    let second = right.channel ∙ (λ i. channel_of t (left.next i) (room 41000) (left.work i)) in
+    c.compare_call.ensures ∙ (λ i. with_difference t (begin i) (compare_of (left.channel i) (second i)))

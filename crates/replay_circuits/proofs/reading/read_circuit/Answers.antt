@@ -18,4 +18,4 @@ returns c =
     let words = c.read_u32s-part.ensures.part ∙ (λ i. numbers_part 4294967296 t (bytes i).next ws) in
     let qubits = c.low.ensures ∙ (λ i. (n i).size % 4294967296) in
     let bits = c.low-2.ensures ∙ (λ i. (m i).size % 4294967296) in
-    record { circuit = (λ i. record { limits = (bounds i).limits-1; n = qubits i; bits = bits i; stored = (bytes i).len; gates = (words i).len; next = (words i).next }); room = (c.read_bytes-bytes.ensures.room, c.read_u32s-part.ensures.room); store = c.read_bytes-bytes.ensures.words ∙ (λ i. (numbers_at 256 t (m i).next σ).words-1); gates = c.read_u32s-part.ensures.words ∙ (λ i. (numbers_at 4294967296 t (bytes i).next ws).words-1) }
+    record { circuit = (λ i. record { limits = (bounds i).limits; n = qubits i; bits = bits i; stored = (bytes i).len; gates = (words i).len; next = (words i).next }); room = (c.read_bytes-bytes.ensures.room, c.read_u32s-part.ensures.room); store = c.read_bytes-bytes.ensures.words ∙ (λ i. (numbers_at 256 t (m i).next σ).words); gates = c.read_u32s-part.ensures.words ∙ (λ i. (numbers_at 4294967296 t (bytes i).next ws).words) }

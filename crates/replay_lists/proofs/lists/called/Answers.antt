@@ -17,9 +17,9 @@ returns c =
     let w0 = c.read-high.ensures in
     let w1 = following t s.at 0 w0 c.read-rest.ensures in
     let p = c.read_u32s-pairs.ensures.part ∙ (λ i. numbers_part 4294967296 t (w1 i).next (replicate 1600 0)) in
-    let words = taken (λ i. (p i).len) (c.read_u32s-pairs.ensures.words ∙ (λ i. (numbers_at 4294967296 t (w1 i).next (replicate 1600 0)).words-1)) in
+    let words = taken (λ i. (p i).len) (c.read_u32s-pairs.ensures.words ∙ (λ i. (numbers_at 4294967296 t (w1 i).next (replicate 1600 0)).words)) in
     let q = c.read_bytes-bytes.ensures.part ∙ (λ i. numbers_part 256 t (p i).next (replicate 100 0)) in
-    let stores = taken (λ i. (q i).len) (c.read_bytes-bytes.ensures.words ∙ (λ i. (numbers_at 256 t (p i).next (replicate 100 0)).words-1)) in
+    let stores = taken (λ i. (q i).len) (c.read_bytes-bytes.ensures.words ∙ (λ i. (numbers_at 256 t (p i).next (replicate 100 0)).words)) in
     let high = c.low.ensures ∙ (λ i. (w0 i).size % 4294967296) in
     let rest = c.low-2.ensures ∙ (λ i. (w1 i).size % 4294967296) in
     c.compared.ensures

@@ -17,34 +17,34 @@ past k h ne = omega arith
 pub returns-in-0 : goal.returns-in-0
 returns-in-0 c =
     let s = c.args in
-    let fits : SFits w64 (get_or s.t3.n 0 (pos 0)) = record { sfits = c.integer-arg-1.given } in
-    c.integer.ensures ∙ ap integer_answer (to_z-of_z fits) ∙ sym (ap (λ (k : ℕ). answer_of k s.first s.t3 s.y) c.in-0.is)
+    let fits : SFits w64 (get_or s.x.n 0 (pos 0)) = record { sfits = c.integer-arg-1.given } in
+    c.integer.ensures ∙ ap integer_answer (to_z-of_z fits) ∙ sym (ap (λ (k : ℕ). answer_of k s.first s.x s.y) c.in-0.is)
 
 pub returns-in-1 : goal.returns-in-1
-returns-in-1 c = let s = c.args in c.zero.ensures ∙ sym (ap (λ (k : ℕ). answer_of k s.first s.t3 s.y) c.in-1.is)
+returns-in-1 c = let s = c.args in c.zero.ensures ∙ sym (ap (λ (k : ℕ). answer_of k s.first s.x s.y) c.in-1.is)
 
 pub returns-in-2 : goal.returns-in-2
-returns-in-2 c = let s = c.args in c.i.ensures ∙ sym (ap (λ (k : ℕ). answer_of k s.first s.t3 s.y) c.in-2.is)
+returns-in-2 c = let s = c.args in c.i.ensures ∙ sym (ap (λ (k : ℕ). answer_of k s.first s.x s.y) c.in-2.is)
 
 pub returns-in-3 : goal.returns-in-3
-returns-in-3 c = let s = c.args in c.inv_sqrt_two.ensures ∙ sym (ap (λ (k : ℕ). answer_of k s.first s.t3 s.y) c.in-3.is)
+returns-in-3 c = let s = c.args in c.inv_sqrt_two.ensures ∙ sym (ap (λ (k : ℕ). answer_of k s.first s.x s.y) c.in-3.is)
 
 pub returns-in-4 : goal.returns-in-4
 returns-in-4 c =
     let s = c.args in
-    c.omega.ensures ∙ ap omega_answer c.low.ensures ∙ sym (ap (λ (k : ℕ). answer_of k s.first s.t3 s.y) c.in-4.is)
+    c.omega.ensures ∙ ap omega_answer c.low.ensures ∙ sym (ap (λ (k : ℕ). answer_of k s.first s.x s.y) c.in-4.is)
 
 pub returns-in-5 : goal.returns-in-5
-returns-in-5 c = let s = c.args in c.add.ensures ∙ sym (ap (λ (k : ℕ). answer_of k s.first s.t3 s.y) c.in-5.is)
+returns-in-5 c = let s = c.args in c.add.ensures ∙ sym (ap (λ (k : ℕ). answer_of k s.first s.x s.y) c.in-5.is)
 
 pub returns-in-6 : goal.returns-in-6
-returns-in-6 c = let s = c.args in c.neg.ensures ∙ sym (ap (λ (k : ℕ). answer_of k s.first s.t3 s.y) c.in-6.is)
+returns-in-6 c = let s = c.args in c.neg.ensures ∙ sym (ap (λ (k : ℕ). answer_of k s.first s.x s.y) c.in-6.is)
 
 pub returns-in-7 : goal.returns-in-7
-returns-in-7 c = let s = c.args in c.half.ensures ∙ sym (ap (λ (k : ℕ). answer_of k s.first s.t3 s.y) c.in-7.is)
+returns-in-7 c = let s = c.args in c.half.ensures ∙ sym (ap (λ (k : ℕ). answer_of k s.first s.x s.y) c.in-7.is)
 
 pub returns-in-8 : goal.returns-in-8
-returns-in-8 c = let s = c.args in c.conj.ensures ∙ sym (ap (λ (k : ℕ). answer_of k s.first s.t3 s.y) c.in-8.is)
+returns-in-8 c = let s = c.args in c.conj.ensures ∙ sym (ap (λ (k : ℕ). answer_of k s.first s.x s.y) c.in-8.is)
 
 pub returns-in_default : goal.returns-in_default
 returns-in_default c =
@@ -53,4 +53,4 @@ returns-in_default c =
     let three = past 2 (past 1 (past 0 zero-le r.0.0.0.0.0.0.0.0.1) r.0.0.0.0.0.0.0.1) r.0.0.0.0.0.0.1 in
     let six = past 5 (past 4 (past 3 three r.0.0.0.0.0.1) r.0.0.0.0.1) r.0.0.0.1 in
     let nine = past 8 (past 7 (past 6 six r.0.0.1) r.0.1) r.1 in
-    c.mul.ensures ∙ sym (get_or-eq_default (answers_of s.first s.t3 s.y) (mul_answer (value s.t3) (value s.y)) nine)
+    c.mul.ensures ∙ sym (get_or-eq_default (answers_of s.first s.x s.y) (mul_answer (value s.x) (value s.y)) nine)

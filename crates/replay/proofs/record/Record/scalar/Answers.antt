@@ -10,5 +10,5 @@ use Rattle.replay.proofs.record.Record.scalar.Goals as goal
 pub returns : goal.returns
 returns c =
     let s = c.args in
-    let same = c.equals.ensures ∙ ap (λ (x : ScalarRead). equal (value s.s) (value x.value-1)) c.read_scalar-recorded.ensures in
+    let same = c.equals.ensures ∙ ap (λ (x : ScalarRead). equal (value s.s) (value x.value)) c.read_scalar-recorded.ensures in
     λ i. record_of (s.self.agrees && same i) (c.read_scalar-recorded.ensures i).next (c.added.ensures i)
