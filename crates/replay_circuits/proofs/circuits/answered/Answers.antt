@@ -22,7 +22,7 @@ returns c =
     let lent = take-fitting n c.read-after.result.size r c.fitting-r.ensures ∙ (λ i. take (a i).size r) in
     let worked = take-fitting c.fitting-w.result c.read-spent.result.size w c.fitting-w.ensures ∙ (λ i. take (b i).size w) in
     let left = c.called-seen.new.res in
-    let long = c.called-seen.auto.1.1.1.0 ∙ length-take-le n r (fitted_less c.read-after.result.size (length r) c.fitting-r.ensures) in
+    let long = c.called-seen.auto.res ∙ length-take-le n r (fitted_less c.read-after.result.size (length r) c.fitting-r.ensures) in
     let held = c.called-seen.ensures.held ∙ (λ i. called s.kind t (e i).next (lent i) (worked i)) in
     let channel = take_at left (drop n r) n long ∙ c.called-seen.ensures.res ∙ (λ i. called_result s.kind t (e i).next (lent i) (worked i)) in
     c.traced.ensures ∙ (λ i. traced s.kind (held i) t (e i).size (channel i))
