@@ -69,6 +69,6 @@ fn judge_all(rt: &impl Print, text: &[u8]) -> io::Result<()> {
 
 fn main(rt: HostRuntime) -> io::Result<()> {
     let mut text = [0u8; TEXT];
-    let n = read_full(&mut rt.reader(), &mut text)?;
+    let n = read_full(&mut rt.stdin(), &mut text)?;
     judge_all(&rt, &text[..n])
 }

@@ -14,7 +14,7 @@ fn main(rt: HostRuntime) -> io::Result<()> {
     let mut result = [0; 5200];
     let mut work = [0; 2000];
     let mut page = [0; MAX_LISTING];
-    let n = read_full(&mut rt.reader(), &mut text)?;
+    let n = read_full(&mut rt.stdin(), &mut text)?;
     let count = list(&text[..n], &mut result, &mut work, &mut page);
     rt.write_all(&page[..count])
 }

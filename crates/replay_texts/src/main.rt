@@ -55,8 +55,8 @@ fn replayed(rt: &impl Print, text: &[u8]) -> (Progress, io::Result<()>)
 }
 
 // Reads the text, and replays it.
-fn replay_input(rt: &(impl Input + Print), text: &mut [u8]) -> io::Result<()> {
-    let n = read_full(&mut rt.reader(), text)?;
+fn replay_input(rt: &HostRuntime, text: &mut [u8]) -> io::Result<()> {
+    let n = read_full(&mut rt.stdin(), text)?;
     let (progress, written) = replayed(rt, &text[..n]);
     written.and(progress.print(rt))
 }

@@ -8,4 +8,4 @@ pub slice_bounds-page-end : goal.slice_bounds-page-end
 slice_bounds-page-end c = inside _ _ c.list-count.ensures.answer
 
 pub slice_bounds-write_all-end : goal.slice_bounds-write_all-end
-slice_bounds-write_all-end c = sym (length-take-le _ _ (slice_bounds-page-end c))
+slice_bounds-write_all-end c = sym (length-take-le _ _ (inside _ _ c.list-count.ensures.answer))
