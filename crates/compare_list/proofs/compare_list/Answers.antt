@@ -14,7 +14,7 @@ returns-then-is_accepted c =
     let a = c.args in
     let e = c.serve_all-total.ensures in
     let all = accepts a.count a.words.now a.stores.now a.limits a.allowance a.left.now a.right.now a.work.now a.answers.now a.scalars.now c.judge_list-v.ensures (sym c.is_accepted.ensures ∙ c.if-is_accepted.true)
-        c.wipe.ensures c.wipe-then-is_accepted.ensures c.wipe-then-is_accepted-2.ensures e.value e.answers_after e.scalars_after e.left_unchanged e.right_unchanged e.work_unchanged
+    c.wipe.ensures c.wipe-then-is_accepted.ensures c.wipe-then-is_accepted-2.ensures e.value e.answers_after e.scalars_after e.left_unchanged e.right_unchanged e.work_unchanged
     in record { reply = all.0; answers = all.1.0; scalars = all.1.1.0; left = all.1.1.1.0; right = all.1.1.1.1.0; work = all.1.1.1.1.1 }
 
 pub returns : goal.returns

@@ -1,13 +1,8 @@
 -- `serve_all` meets its contract.
-use mathlib.Core.Path.{◌≡◌, refl, sym, ap, ◌∙◌, subst}
+use mathlib.Core.Path.{◌≡◌}
 use Prim.Native.Nat.{◌-◌}
-use native.Mathlib.Omega.{arith}
-use lib.ListN.{length}
-use Rattle.pair_list.specs.Pairs.{pair_at}
-use Rattle.pair_list.specs.Inner.Spots.{Framed}
-use Rattle.work_list.specs.Serving.{Lent, lent, answer_to}
-use Rattle.work_list.specs.Inner.Weighing.{Blank}
-use Rattle.compare_list.proofs.Along.{Along, along-none, due, within-next, along-more, all_spent, all_answers, all_scalars}
+use Rattle.work_list.specs.Serving.{lent}
+use Rattle.compare_list.proofs.Along.{Along}
 use Rattle.compare_list.proofs.serve_all.Given as goal
 
 abbrev pub invariant-loop-i : goal.invariant-loop-i

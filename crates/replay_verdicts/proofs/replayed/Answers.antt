@@ -1,7 +1,5 @@
 -- `replayed` meets its contract: each turn leaves one case less.
-use mathlib.Core.Path.{◌≡◌}
 use native.Mathlib.Omega.{arith}
-use Rattle.replay.specs.Progress.{with_nexts, replay_of}
 use Rattle.replay.proofs.Turns.{turns_begin, turns_more, turns_end}
 use Rattle.replay_verdicts.specs.Cases.{case_of}
 use Rattle.replay_verdicts.proofs.replayed.Goals as goal

@@ -6,7 +6,7 @@ use lib.ListN.{get_or}
 use borrow.Author.Tests.{leb-true}
 use Rattle.algebra.proofs.Tests.{all-at}
 use Rattle.circuit_text.specs.Input.{max_byte}
-use Rattle.circuit_text.proofs.Shapes.{Copied, copied_none, copied_more, copied_all}
+use Rattle.circuit_text.proofs.Shapes.{copied_none, copied_more, copied_all}
 use Rattle.circuit_text.proofs.input.copy_store.Goals as goal
 
 pub loop-i-init : goal.loop-i-init

@@ -1,9 +1,7 @@
 -- `numbers::next_blank` meets its contract.
-use Prim.Native.Nat.{◌+◌, ◌-◌, ◌≤◌}
-use mathlib.Core.Path.{◌≡◌, refl, sym, ◌∙◌}
+use Prim.Native.Nat.{◌-◌}
+use mathlib.Core.Path.{refl, sym, ◌∙◌}
 use native.Mathlib.Omega.{arith}
-use lib.ListN.{length, drop}
-use Rattle.circuit_text.specs.Inner.Reading.{run}
 use Rattle.circuit_text.proofs.Pieces.{run_end, run-here, run_more}
 use Rattle.circuit_text.proofs.numbers.next_blank.Goals as goal
 

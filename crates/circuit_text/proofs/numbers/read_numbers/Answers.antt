@@ -5,7 +5,7 @@ use mathlib.Core.Bool.{true}
 use mathlib.Core.List.{List}
 use native.Mathlib.Omega.{arith}
 use lib.ListN.{length, take, drop, set}
-use Rattle.text.specs.Decimal.{is_number, value}
+use Rattle.text.specs.Decimal.{is_number}
 use Rattle.text.proofs.Read.{number_test, number-value}
 use Rattle.circuit_text.proofs.Pieces.{Piece, piece, along-count, along-sound, along-inside, Taken, taken_none, taken_more, taken-all}
 use borrow.Author.Rules.{rules}

@@ -1,13 +1,7 @@
 -- `numbers::read_numbers` meets its contract.
-use Prim.Native.Nat.{ℕ, ◌+◌, ◌-◌, ◌<◌}
-use mathlib.Core.Path.{◌≡◌, sym, ◌∙◌, subst}
-use mathlib.Core.Bool.{true}
-use mathlib.Core.List.{List}
-use native.Mathlib.Omega.{arith}
-use lib.ListN.{length, take, drop, set}
-use Rattle.text.specs.Decimal.{is_number, value}
-use Rattle.text.proofs.Read.{number_test, number-value}
-use Rattle.circuit_text.proofs.Pieces.{Piece, piece, along-count, along-sound, along-inside, Taken, taken_none, taken_more, taken-all}
+use Prim.Native.Nat.{◌+◌, ◌-◌}
+use lib.ListN.{length}
+use Rattle.circuit_text.proofs.Pieces.{Taken}
 use Rattle.circuit_text.proofs.numbers.read_numbers.Given as goal
 
 abbrev pub invariant-loop-at : goal.invariant-loop-at

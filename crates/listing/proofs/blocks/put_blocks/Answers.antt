@@ -1,19 +1,18 @@
 -- `blocks::put_blocks` meets its contract.
-use Prim.Native.Nat.{ℕ, ◌+◌, ◌*◌, ◌-◌, ◌≤◌}
+use Prim.Native.Nat.{ℕ, ◌+◌, ◌-◌, ◌≤◌}
 use mathlib.Core.Path.{◌≡◌, sym, ap, subst, subst₂}
 use mathlib.Core.Bool.{true}
 use native.Mathlib.Omega.{arith}
 use lib.ListN.{length}
 use Rattle.algebra.specs.Lists.{concat_map}
-use Rattle.channel.specs.Layout.{channels, dim_at, chain, read_back}
+use Rattle.channel.specs.Layout.{channels, dim_at, chain}
 use Rattle.channel.specs.WellFormed.{store_ok}
 use Rattle.channel.specs.Inner.Shapes.{Onward}
 use Rattle.channel.proofs.Judging.{Formed, formed}
 use Rattle.channel.proofs.Merging.{entries_held}
 use Rattle.channel.proofs.Chain.{onward_begin, first-index, header_long, on-inside, on_store, on-next, on-index}
-use Rattle.text.specs.Page.{page}
 use Rattle.listing.specs.Listing.{block_lines}
-use Rattle.text.proofs.Put.{Left, left-all, left_less, left-none, left_is}
+use Rattle.text.proofs.Put.{left-all, left_less, left-none, left_is}
 use Rattle.listing.proofs.Listing.{chain_more, chain-end}
 use Rattle.listing.proofs.blocks.put_blocks.Lts as lts
 use Rattle.listing.proofs.blocks.put_blocks.Reads as reads

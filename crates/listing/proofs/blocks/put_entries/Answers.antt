@@ -1,14 +1,11 @@
 -- `blocks::put_entries` meets its contract.
 use mathlib.Core.Path.{◌≡◌, ap}
-use Prim.Native.Nat.{ℕ, ◌+◌, ◌*◌, ◌-◌, ◌/◌, ◌%◌, ◌≤◌}
+use Prim.Native.Nat.{ℕ, ◌*◌, ◌-◌, ◌/◌, ◌%◌}
 use native.Mathlib.Nat.{mul-le-mul}
 use native.Mathlib.Omega.{arith}
-use lib.ListN.{length}
 use Rattle.scalar.specs.Calls.{value}
 use Rattle.scalar.specs.declared.Scalar.{Scalar}
 use Rattle.channel.specs.Layout.{channels, entry_at, dim_at}
-use Rattle.text.specs.Page.{page}
-use Rattle.text.specs.Inner.Written.{Written}
 use Rattle.listing.specs.Listing.{entry_line, entry_lines}
 use Rattle.text.proofs.Put.{then, text, none, long}
 use Rattle.listing.proofs.Listing.{entries_none, entries-more, side-some}

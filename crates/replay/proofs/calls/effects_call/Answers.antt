@@ -1,7 +1,5 @@
 -- `effects_call` meets its contract.
 use mathlib.Core.Path.{ap, ◌∙◌}
-use mathlib.Core.List.{List}
-use lib.IntN.{ℤ}
 use Rattle.replay.specs.Answers.{with_effects, with_blocks}
 use Rattle.replay.proofs.calls.effects_call.Goals as goal
 

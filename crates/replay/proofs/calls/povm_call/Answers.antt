@@ -1,7 +1,5 @@
 -- `povm_call` meets its contract.
 use mathlib.Core.Path.{ap, ◌∙◌}
-use mathlib.Core.List.{List}
-use lib.IntN.{ℤ}
 use Rattle.replay.specs.Answers.{with_effects, with_povm}
 use Rattle.replay.proofs.calls.povm_call.Goals as goal
 

@@ -1,10 +1,10 @@
 -- `numeral::read` meets its contract.
-use mathlib.Core.Path.{◌≡◌, sym, ap, ◌∙◌}
+use mathlib.Core.Path.{sym, ap, ◌∙◌}
 use Prim.Native.Nat.{◌+◌, ◌-◌}
 use native.Mathlib.Omega.{arith}
-use lib.ListN.{length, drop}
+use lib.ListN.{drop}
 use Rattle.replay.specs.declared.numeral.Digits.{Digits}
-use Rattle.replay.specs.Numerals.{word_from, word_at}
+use Rattle.replay.specs.Numerals.{word_from}
 use Rattle.replay.proofs.Reading.{from_start, from_end, from_blank, from_more}
 use Rattle.replay.proofs.numeral.read.Goals as goal
 

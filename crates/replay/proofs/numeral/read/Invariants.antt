@@ -1,11 +1,8 @@
 -- `numeral::read` meets its contract.
-use mathlib.Core.Path.{◌≡◌, sym, ap, ◌∙◌}
-use Prim.Native.Nat.{◌+◌, ◌-◌}
-use native.Mathlib.Omega.{arith}
+use mathlib.Core.Path.{◌≡◌}
+use Prim.Native.Nat.{◌-◌}
 use lib.ListN.{length, drop}
-use Rattle.replay.specs.declared.numeral.Digits.{Digits}
 use Rattle.replay.specs.Numerals.{word_from, word_at}
-use Rattle.replay.proofs.Reading.{from_start, from_end, from_blank, from_more}
 use Rattle.replay.proofs.numeral.read.Given as goal
 
 abbrev pub invariant-loop-i : goal.invariant-loop-i

@@ -1,9 +1,7 @@
 -- `sum::checksum` meets its contract.
-use mathlib.Core.Path.{◌≡◌, refl, sym, ap, ◌∙◌}
-use mathlib.Core.List.{foldl}
+use mathlib.Core.Path.{refl, sym, ap, ◌∙◌}
 use Prim.Native.Nat.{◌-◌}
 use native.Mathlib.Omega.{arith}
-use lib.ListN.{length, drop}
 use lib.IntN.{pos}
 use mir.Syntax.{w64}
 use mir.Facts.{to_z-of_z}

@@ -1,13 +1,9 @@
 -- `sum::checksum` meets its contract.
-use mathlib.Core.Path.{◌≡◌, refl, sym, ap, ◌∙◌}
+use mathlib.Core.Path.{◌≡◌}
 use mathlib.Core.List.{foldl}
 use Prim.Native.Nat.{◌-◌}
-use native.Mathlib.Omega.{arith}
 use lib.ListN.{length, drop}
-use lib.IntN.{pos}
-use mir.Facts.{to_z-of_z}
-use Rattle.replay.specs.Checksum.{sums, with_word, joined}
-use Rattle.replay.proofs.Reading.{fold_more, fold_end}
+use Rattle.replay.specs.Checksum.{sums, with_word}
 use Rattle.replay.proofs.sum.checksum.Given as goal
 
 abbrev pub invariant-loop-i : goal.invariant-loop-i

@@ -5,7 +5,7 @@ use native.Mathlib.Omega.{arith}
 use lib.ListN.{length}
 use Rattle.replay.specs.declared.numeral.Word.{Word}
 use Rattle.replay.specs.Words.{Filled}
-use Rattle.replay.proofs.Filling.{Numbers, none_yet, one_more, all_read}
+use Rattle.replay.proofs.Filling.{none_yet, one_more, all_read}
 use Rattle.replay.proofs.words.read_u32s.Goals as goal
 
 pub loop-i-init : goal.loop-i-init

@@ -1,13 +1,7 @@
 -- `words::read_words` meets its contract.
-use mathlib.Core.Path.{◌≡◌, refl, sym, ap, ◌∙◌}
-use Prim.Native.Nat.{min}
-use native.Mathlib.Omega.{arith}
-use lib.ListN.{length, set}
-use lib.IntN.{ℤ}
-use Rattle.replay.specs.declared.numeral.Word.{Word}
-use Rattle.replay.specs.Words.{Filled, placed}
-use Rattle.replay.proofs.Reading.{a_word, following}
-use Rattle.replay.proofs.Filling.{placed_end, placed-more}
+use mathlib.Core.Path.{◌≡◌}
+use lib.ListN.{length}
+use Rattle.replay.specs.Words.{placed}
 use Rattle.replay.proofs.words.read_words.Given as goal
 
 abbrev pub invariant-loop-left : goal.invariant-loop-left

@@ -3,7 +3,6 @@ use mathlib.Core.Path.{sym, ◌∙◌}
 use Prim.Native.Nat.{◌%◌}
 use lib.ListN.{take, replicate}
 use lib.Seq.{length-take-le}
-use Rattle.replay.specs.declared.words.Part.{Part}
 use Rattle.replay.specs.Words.{numbers_at, numbers_part}
 use Rattle.replay.proofs.Parts.{take-fitting}
 use Rattle.replay.proofs.Reading.{following}

@@ -1,11 +1,9 @@
 -- `texts::check_words` meets its contract.
-use mathlib.Core.Path.{◌≡◌, refl, sym, ap, ◌∙◌}
+use mathlib.Core.Path.{◌≡◌}
 use mathlib.Core.List.{foldl}
 use Prim.Native.Nat.{◌-◌}
-use native.Mathlib.Omega.{arith}
 use lib.ListN.{length, drop}
 use Rattle.replay.specs.Record.{with_number}
-use Rattle.replay.proofs.Reading.{fold_more, fold_end}
 use Rattle.replay_texts.proofs.texts.check_words.Given as goal
 
 abbrev pub invariant-loop-i : goal.invariant-loop-i

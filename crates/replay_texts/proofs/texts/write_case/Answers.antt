@@ -1,5 +1,5 @@
 -- `texts::write_case` meets its contract.
-use mathlib.Core.Path.{◌≡◌, sym, ap, ◌∙◌}
+use mathlib.Core.Path.{sym, ap, ◌∙◌}
 use Prim.Native.Nat.{ℕ, min, ◌%◌}
 use lib.ListN.{length-replicate, take}
 use lib.Seq.{length-take-le}

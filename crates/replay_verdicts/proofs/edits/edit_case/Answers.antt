@@ -2,7 +2,6 @@
 use mathlib.Core.Path.{sym, ap, ◌∙◌}
 use Prim.Native.Nat.{ℕ, min}
 use lib.ListN.{take, replicate, length-replicate}
-use lib.IntN.{pos}
 use lib.Seq.{length-take-le}
 use Rattle.replay.specs.Numerals.{word_at}
 use Rattle.replay.specs.Words.{numbers_at, numbers_part}

@@ -6,9 +6,9 @@ use native.Mathlib.Omega.{arith}
 use lib.ListN.{length}
 use Rattle.verdict.specs.Verdict.{accepted}
 use Rattle.gate.specs.Gate.{gate_size}
-use Rattle.pair_list.specs.Pairs.{Circuit, part}
+use Rattle.pair_list.specs.Pairs.{Circuit}
 use Rattle.pair_list.specs.Inner.Spots.{circuit_in}
-use Rattle.work_list.proofs.Weighing.{Small, small, part_long, weight-yes, weight_no}
+use Rattle.work_list.proofs.Weighing.{small, part_long, weight-yes, weight_no}
 use Rattle.work_list.proofs.serving.weigh.Lts as lts
 use Rattle.work_list.proofs.serving.weigh.Reads as reads
 use Rattle.work_list.proofs.serving.weigh.Tie as tie

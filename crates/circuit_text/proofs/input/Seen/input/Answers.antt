@@ -1,9 +1,7 @@
 -- `Seen::input` meets its contract.
 use mathlib.Core.Path.{sym, ap}
 use mathlib.Core.Bool.{Bool, cond}
-use borrow.Author.Tests.{not-true, not-false}
 use Rattle.circuit_text.specs.declared.input.Input.{Input}
-use Rattle.circuit_text.specs.Inner.Reading.{seen_ok}
 use Rattle.circuit_text.proofs.input.Seen.input.Goals as goal
 
 pub returns-then-not-sized-self : goal.returns-then-not-sized-self

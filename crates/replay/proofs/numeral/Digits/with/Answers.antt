@@ -1,7 +1,7 @@
 -- `Digits::with` meets its contract.
 use mathlib.Core.Path.{◌≡◌, refl, sym, ◌∙◌}
 use mathlib.Core.Bool.{true, false}
-use borrow.Author.Tests.{not-true, not-false, eq-eqb, ne_eqb, lt-ltb, le-ltb}
+use borrow.Author.Tests.{eq-eqb, ne_eqb, lt-ltb, le-ltb}
 use Rattle.text.specs.Decimal.{is_digit}
 use Rattle.text.specs.Inner.Number.{max_tenth}
 use Rattle.replay.specs.Numerals.{digits}

@@ -1,9 +1,7 @@
 -- `Record::bytes` meets its contract.
-use mathlib.Core.Path.{◌≡◌, refl, sym, ◌∙◌}
-use mathlib.Core.List.{foldl}
+use mathlib.Core.Path.{refl, sym, ◌∙◌}
 use Prim.Native.Nat.{◌-◌}
 use native.Mathlib.Omega.{arith}
-use lib.ListN.{length, drop}
 use Rattle.replay.specs.Record.{with_byte}
 use Rattle.replay.proofs.Reading.{fold_more, fold_end}
 use Rattle.replay.proofs.record.Record.bytes.Goals as goal

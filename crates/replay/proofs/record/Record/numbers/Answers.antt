@@ -1,9 +1,7 @@
 -- `Record::numbers` meets its contract.
-use mathlib.Core.Path.{◌≡◌, refl, sym, ◌∙◌}
-use mathlib.Core.List.{foldl}
+use mathlib.Core.Path.{refl, sym, ◌∙◌}
 use Prim.Native.Nat.{◌-◌}
 use native.Mathlib.Omega.{arith}
-use lib.ListN.{length, drop}
 use Rattle.replay.specs.Record.{with_number}
 use Rattle.replay.proofs.Reading.{fold_more, fold_end}
 use Rattle.replay.proofs.record.Record.numbers.Goals as goal
