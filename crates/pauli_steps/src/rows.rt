@@ -1,4 +1,4 @@
-// The rows of p·1 + typeof.q.A, where the axis A has a mask form: row r has p in column r, and q times a power of i in the column with the bits x flipped.
+// The rows of p·1 + q·A, where the axis A has a mask form: row r has p in column r, and q times a power of i in the column with the bits x flipped.
 ghost use Rattle.std.specs.Prelude.{◌≡◌, cond, ◌+◌, ◌*◌, ◌≤◌, ◌<◌, eqb, length};
 ghost use Rattle.std.specs.Int.Bits.{bit_and};
 ghost use Rattle.exact.specs.Exact.{exact, narrow_exponent};
