@@ -1,5 +1,5 @@
 -- Which fractions are z / √2^w with z in ℤ[ω]: their sums, products and exponents.
--- 𝓛 is ℤ[i], with j = i; ℤ[ω] is 𝓛 with a root of j; in 𝓚, s is √2 and β is 1 + i = √2·ω.
+-- 𝓖 is ℤ[i], with j = i; ℤ[ω] is 𝓖 with a root of j; in 𝓚, s is √2 and β is 1 + i = √2·ω.
 use mathlib.Core.Path.{◌≡◌, refl, sym, ap, ap₂, ◌∙◌}
 use mathlib.Core.Logic.{◌⊎◌, inl, inr}
 use mathlib.Core.List.{[], ◌∷◌}
