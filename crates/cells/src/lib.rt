@@ -3,7 +3,7 @@
 
 ghost use Rattle.std.specs.Prelude.{◌≡◌, true, ◌+◌, ◌≤◌, length};
 ghost use Rattle.std.proofs.lemmas.List.Edits.{sets};
-ghost use Rattle.exact.specs.Exact.{list_of};
+ghost use Rattle.exact.specs.Exact.{list_of, number_of};
 ghost use Rattle.scalar.specs.Calls.{value, scalar_of};
 ghost use Rattle.cells.specs.Cells.{cell_size, cell_at, cell_words, exponent_at, well_formed_at};
 ghost use Rattle.cells.specs.Inner.Zero.{zero_at};
@@ -15,16 +15,14 @@ use scalar::Scalar;
 // The words of a cell.
 pub const CELL: usize = 5;
 
+// Kept: a buffer and a place in it, as two parameters. There is no heap: rows are read from and written to one buffer that a caller lends, so a cell borrowed as a value of its own could not stand beside the next one.
+
 // The numerators in the first four words from `at` on.
-fn numerators_at(s: &[i64], at: usize) -> [i64; 4]
-    requires { at + cell_size ≤ length s.now }
+pub fn numerators_at(s: &[i64], at: usize) -> [i64; 4]
+    requires { at + 4 ≤ length s.now }
     ensures { result ≡ list_of (cell_at s.now at).num }
 {
-    let a = s[at];
-    let b = s[at + 1];
-    let c = s[at + 2];
-    let d = s[at + 3];
-    [a, b, c, d]
+    [s[at], s[at + 1], s[at + 2], s[at + 3]]
 }
 
 // The scalar in the five words from `at` on.
@@ -32,10 +30,21 @@ pub fn read_cell(s: &[i64], at: usize) -> Scalar
     requires { (at + cell_size ≤ length s.now) × (exponent_at s.now at ≡ true) }
     ensures { result ≡ scalar_of (cell_at s.now at) }
 {
-    let n = numerators_at(s, at);
-    let e = s[at + 4];
-    let f = e as u32;
-    Scalar { n, e: f }
+    Scalar {
+        n: numerators_at(s, at),
+        e: s[at + 4] as u32,
+    }
+}
+
+// Write four numerators into the words from `at` on.
+pub fn write_numerators(s: &mut [i64], at: usize, x: [i64; 4])
+    requires { at + 4 ≤ length s.old }
+    ensures { s.new ≡ sets s.old at (list_of (number_of x)) }
+{
+    s[at] = x[0];
+    s[at + 1] = x[1];
+    s[at + 2] = x[2];
+    s[at + 3] = x[3];
 }
 
 // Write a scalar into the five words from `at` on.
@@ -43,16 +52,11 @@ pub fn write_cell(s: &mut [i64], at: usize, v: Scalar)
     requires { at + cell_size ≤ length s.old }
     ensures { s.new ≡ sets s.old at (cell_words (value v)) }
 {
-    let a = v.n[0];
-    let b = v.n[1];
-    let c = v.n[2];
-    let d = v.n[3];
-    let e = v.e as i64;
-    s[at] = a;
-    s[at + 1] = b;
-    s[at + 2] = c;
-    s[at + 3] = d;
-    s[at + 4] = e;
+    s[at] = v.n[0];
+    s[at + 1] = v.n[1];
+    s[at + 2] = v.n[2];
+    s[at + 3] = v.n[3];
+    s[at + 4] = i64::from(v.e);
 }
 
 // Whether the scalar at `at` is zero.
@@ -60,8 +64,7 @@ pub fn zero_at(s: &[i64], at: usize) -> bool
     requires { at + cell_size ≤ length s.now }
     ensures { result ≡ zero_at s.now at }
 {
-    let n = numerators_at(s, at);
-    all_zero(n)
+    all_zero(numerators_at(s, at))
 }
 
 // Whether the five words from `at` on are a scalar in range and in lowest form.
@@ -69,13 +72,5 @@ pub fn well_formed_at(s: &[i64], at: usize) -> bool
     requires { at + cell_size ≤ length s.now }
     ensures { result ≡ well_formed_at s.now at }
 {
-    let e = s[at + 4];
-    if e < 0 {
-        return false;
-    }
-    if (MAX_EXPONENT as i64) < e {
-        return false;
-    }
-    let v = read_cell(s, at);
-    v.is_well_formed()
+    (0..=i64::from(MAX_EXPONENT)).contains(&s[at + 4]) && read_cell(s, at).is_well_formed()
 }

@@ -14,7 +14,7 @@ use Rattle.algebra.proofs.Ring.{ℤR, semi, mul-one}
 use Rattle.algebra.proofs.Quadratic.{ℤ√2, ℤ√2i, conj_add, conj_mul, conj-conj as number-conj-conj, conj-one}
 use Rattle.algebra.proofs.Parts.{abs_neg}
 use Rattle.algebra.proofs.Dyadic.{Halving, ℤ-halving, quad_halving, fractions, low-odd, map_low, map_plus, map_by}
-use Rattle.exact.specs.Exact.{Number, numbers, number_halves, root2, Exact, exact, lowest, conj, half, is_lowest}
+use Rattle.exact.specs.Exact.{Number, numbers, number_halves, root2, Exact, exact, lowest, conj, is_lowest}
 
 abbrev pub exact_halving : Halving ℤ√2i
 exact_halving = quad_halving ℤ√2 (ℤ√2.ops.int (negsuc 0)) (quad_halving ℤR (pos 2) ℤ-halving)

@@ -1,55 +1,26 @@
 -- Sizes: what the tests of numerators say, and what a well-formed or narrow number's numerators are at most.
-use mathlib.Core.Path.{◌≡◌, sym, ap, ◌∙◌, subst}
-use mathlib.Core.Bool.{Bool, true, false, ◌&&◌}
+use mathlib.Core.Path.{◌≡◌, ap, ◌∙◌}
+use mathlib.Core.Bool.{Bool, true, ◌&&◌}
 use mathlib.Core.List.{List}
 use Prim.Native.Nat.{ℕ, ◌%◌, ◌≤◌, ◌<◌, ◌^◌}
 use lib.Dec.{eqb, leb}
 use lib.ListN.{get_or}
-use lib.IntN.{ℤ, pos, neg_ℤ, nat_abs, ◌-ℤ◌}
-use lib.Signed.{mag, lt_z}
+use lib.IntN.{ℤ, pos}
+use lib.Signed.{mag}
 use lib.Bits.{bit_and, bit_or}
 use mir.Syntax.{w64}
-use mir.Val.{SFits, to_z, of_z}
-use mir.Facts.{to_z-of_z}
-use borrow.Author.Tests.{le-leb, lt-leb, leb-true}
+use mir.Val.{to_z, of_z}
+use borrow.Author.Tests.{le-leb, leb-true}
 use Rattle.algebra.specs.Dyadic.{evenℤ}
 use Rattle.algebra.proofs.Tests.{and_split}
-use Rattle.algebra.proofs.Signed.{reads, neg_fits, neg_back, under_by, over, within as within_by, and_one, or_even, bit-parity}
+use Rattle.algebra.proofs.Signed.{reads, and_one, or_even, bit-parity}
 use Rattle.exact.specs.Exact.{Exact, Number, number, within, number_halves, in_range, is_lowest, well_formed, narrow, max_numerator, max_exponent, narrow_numerator, narrow_exponent, number_of}
 use Rattle.exact.specs.Inner.Sizes.{Within, room_numerator}
 use Rattle.exact.proofs.Align.{roomy}
 
--- ---- x from −m to m, as code tests it
-module _ (x m : ℤ) (fx : SFits w64 x) (fm : SFits w64 m) (p : m ≡ pos (nat_abs m)) where
-  small : nat_abs m < 2 ^ 63
-  small = subst (λ (n : ℕ). n < 2 ^ 63) (ap mag p) fm.sfits
-
-  pub bound_fits : SFits w64 (pos 0 -ℤ to_z w64 (of_z w64 m))
-  bound_fits = neg_fits m small
-
-  low : (t : Bool) → lt_z (to_z w64 (of_z w64 x)) (to_z w64 (of_z w64 (pos 0 -ℤ to_z w64 (of_z w64 m)))) ≡ t → lt_z x (neg_ℤ (pos (nat_abs m))) ≡ t
-  low t e = ap (λ (z : ℤ). lt_z x (neg_ℤ z)) (sym p) ∙ (rw (to_z-of_z fx, neg_back m small) at e)
-
-  high : (t : Bool) → lt_z (to_z w64 (of_z w64 m)) (to_z w64 (of_z w64 x)) ≡ t → lt_z (pos (nat_abs m)) x ≡ t
-  high t e = ap (λ (z : ℤ). lt_z z x) (sym p) ∙ (rw (to_z-of_z fx, to_z-of_z fm) at e)
-
-  pub too_low : lt_z (to_z w64 (of_z w64 x)) (to_z w64 (of_z w64 (pos 0 -ℤ to_z w64 (of_z w64 m)))) ≡ true → leb (nat_abs x) (nat_abs m) ≡ false
-  too_low e = lt-leb (nat_abs x) (nat_abs m) (under_by x (nat_abs m) (low true e))
-
-  pub too_high : lt_z (to_z w64 (of_z w64 m)) (to_z w64 (of_z w64 x)) ≡ true → leb (nat_abs x) (nat_abs m) ≡ false
-  too_high e = lt-leb (nat_abs x) (nat_abs m) (over x (nat_abs m) (high true e))
-
-  pub between : lt_z (to_z w64 (of_z w64 x)) (to_z w64 (of_z w64 (pos 0 -ℤ to_z w64 (of_z w64 m)))) ≡ false → lt_z (to_z w64 (of_z w64 m)) (to_z w64 (of_z w64 x)) ≡ false
-      → leb (nat_abs x) (nat_abs m) ≡ true
-  between e f = le-leb (nat_abs x) (nat_abs m) (within_by x (nat_abs m) (low false e) (high false f))
-
 -- four tests, joined
 pub and4 : {a b c d a' b' c' d' : Bool} → a ≡ a' → b ≡ b' → c ≡ c' → d ≡ d' → (((a && b) && c) && d) ≡ (((a' && b') && c') && d')
 and4 p q r s = λ i. ((p i && q i) && r i) && s i
-
--- a test of what was read
-pub read_test : (x m : ℤ) → mag x < 2 ^ 63 → SFits w64 m → leb (nat_abs (to_z w64 (of_z w64 x))) (nat_abs (to_z w64 (of_z w64 m))) ≡ leb (nat_abs x) (nat_abs m)
-read_test x m h f = rw (reads x h, to_z-of_z f)
 
 -- `a | b` is even where both are
 even-two : (x y : ℤ) → mag x < 2 ^ 63 → mag y < 2 ^ 63 → eqb (bit_or (of_z w64 x) (of_z w64 y) % 2) 0 ≡ (evenℤ x && evenℤ y)

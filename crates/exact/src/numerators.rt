@@ -1,5 +1,5 @@
 // Four numerators: their sums, products and multiples, and the zeros that end all of them. No verdicts: a caller shows that all fits.
-ghost use Rattle.std.specs.Prelude.{◌≡◌, ◌%◌, ◌≤◌, ◌^◌, min};
+ghost use Rattle.std.specs.Prelude.{◌≡◌, ◌%◌, ◌≤◌, ◌^◌};
 ghost use Rattle.std.specs.Int.Bits.{bit_or};
 ghost use Rattle.std.specs.Int.Count.{count_trailing_zeros};
 ghost use Rattle.std.specs.Int.{w64};
@@ -12,14 +12,8 @@ ghost use Rattle.exact.specs.Inner.Sizes.{Within, scaled, room_numerator};
 pub fn common_zeros(a: i64, b: i64, c: i64, d: i64) -> u32
     ensures { result ≡ count_trailing_zeros 64 (bit_or (bit_or (of_z w64 a) (of_z w64 b)) (bit_or (of_z w64 c) (of_z w64 d)) % 2 ^ 63) }
 {
-    let m = ((a | b) | (c | d)) & 9223372036854775807;
-    u64::trailing_zeros(m as u64)
-}
-
-pub fn least(t: u32, e: u32) -> u32
-    ensures { result ≡ min t e }
-{
-    if t < e { t } else { e }
+    let m = ((a | b) | (c | d)) & i64::MAX;
+    (m as u64).trailing_zeros()
 }
 
 // The product of the numerators.

@@ -1,27 +1,19 @@
 // The questions that are asked of four numerators: ranges, and whether all are even or zero.
-ghost use Rattle.std.specs.Prelude.{◌≡◌, ◌≤◌, leb, pos, nat_abs};
+ghost use Rattle.std.specs.Prelude.{◌≡◌, ◌≤◌, leb, nat_abs};
 ghost use Rattle.exact.specs.Exact.{number_halves, max_exponent, within, is_zero, number_of};
 ghost use Rattle.exact.specs.Inner.Sizes.{scaled, room_numerator};
 
 use super::ROOM_NUMERATOR;
 
-// Whether x lies from −m to m.
+// Whether x lies from −|m| to |m|.
 pub fn at_most(x: i64, m: i64) -> bool
-    requires { m ≡ pos (nat_abs m) }
     ensures { result ≡ leb (nat_abs x) (nat_abs m) }
 {
-    if x < -m {
-        return false;
-    }
-    if m < x {
-        return false;
-    }
-    true
+    x.unsigned_abs() <= m.unsigned_abs()
 }
 
-// Whether each of the four lies from −m to m.
+// Whether each of the four lies from −|m| to |m|.
 pub fn are_within(x: [i64; 4], m: i64) -> bool
-    requires { m ≡ pos (nat_abs m) }
     ensures { result ≡ within (nat_abs m) (number_of x) }
 {
     at_most(x[0], m) & at_most(x[1], m) & at_most(x[2], m) & at_most(x[3], m)
@@ -32,8 +24,7 @@ pub fn can_scale(x: [i64; 4], d: u32) -> bool
     requires { d ≤ max_exponent }
     ensures { result ≡ within room_numerator (scaled (number_of x) d) }
 {
-    let m = ROOM_NUMERATOR >> d;
-    are_within(x, m)
+    are_within(x, ROOM_NUMERATOR >> d)
 }
 
 // Whether all four are even.

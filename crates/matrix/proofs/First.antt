@@ -1,16 +1,19 @@
 -- The first number at which a test fails: what a loop finds, and none where the test holds of all.
+use Rattle.std.specs.Prelude.{Option, Some, None, is_some}
+use native.Mathlib.Nat.{le_refl}
 use mathlib.Core.Path.{◌≡◌, refl, sym, ap, ◌∙◌, subst}
-use mathlib.Core.Bool.{Bool, true, false, cond}
+use mathlib.Core.Bool.{Bool, true, false, cond, not}
 use mathlib.Core.Logic.{◌⊎◌, inl, inr}
 use Prim.Native.Nat.{ℕ, zero, suc, ◌+◌, ◌-◌, ◌<◌, ◌≤◌}
 use native.Mathlib.Numerals.{add-one}
 use native.Mathlib.Decide.{ℕ_discrete}
 use native.Mathlib.Omega.{arith}
-use lib.Dec.{T, eqb}
-use borrow.Author.Tests.{eq-eqb, ne_eqb}
+use lib.Dec.{T, ltb}
+use borrow.Author.Tests.{lt-ltb, le-ltb, ltb-true, ltb-false}
 use Rattle.algebra.specs.Lists.{all_below}
 use Rattle.algebra.proofs.Tests.{all-at, all-by}
 use Rattle.matrix.specs.Phase.{first_not}
+use Rattle.matrix.specs.Inner.Written.{one_of}
 
 pub record First (k i : ℕ) (p : ℕ → Bool) (j : ℕ) : Type 0 where
   pub below : j < i + k
@@ -56,6 +59,28 @@ module _ (n i : ℕ) (p : ℕ → Bool) where
       all : i ≡ n
       all = omega arith
 
+-- ---- where it is one of n
+pub is_one : {n i : ℕ} → i < n → one_of n i ≡ Some i
+is_one {n} {i} h = ap (λ (b : Bool). cond b (Some i) None) (lt-ltb i n h)
+
+pub is_none : (n : ℕ) → one_of n n ≡ None
+is_none n = ap (λ (b : Bool). cond b (Some n) None) (le-ltb n n (le_refl n))
+
+module _ {n k : ℕ} where
+  pub found-some : {i : ℕ} → Some i ≡ one_of n k → (i ≡ k) × (k < n)
+  found-some {i} h = go (ltb k n) refl h
+    where
+      go : (b : Bool) → ltb k n ≡ b → Some i ≡ cond b (Some k) None → (i ≡ k) × (k < n)
+      go true e f = (cc, ltb-true k n e)
+      go false e f = cc
+
+  pub found-none : None ≡ one_of n k → n ≤ k
+  found-none h = go (ltb k n) refl h
+    where
+      go : (b : Bool) → ltb k n ≡ b → ◌≡◌ {A = Option ℕ} None (cond b (Some k) None) → n ≤ k
+      go true e f = cc
+      go false e f = ltb-false k n e
+
 -- ---- of all n
 module _ (n : ℕ) (p : ℕ → Bool) where
   -- the first that fails, or that all hold
@@ -80,10 +105,10 @@ module _ (n : ℕ) (p : ℕ → Bool) where
   pub first-whole : first_not (n - 0) 0 p ≡ first_not n 0 p
   first-whole = let e : n - 0 ≡ n = omega arith in ap (λ (k : ℕ). first_not k 0 p) e
 
-  -- none fails exactly where all hold
-  pub first-all : eqb (first_not (n - 0) 0 p) n ≡ all_below n p
-  first-all = ap (λ (k : ℕ). eqb k n) first-whole ∙ go (all_below n p) refl
+  -- none is found exactly where all hold
+  pub none-all : not (is_some (one_of n (first_not (n - 0) 0 p))) ≡ all_below n p
+  none-all = ap (λ (k : ℕ). not (is_some (one_of n k))) first-whole ∙ go (all_below n p) refl
     where
-      go : (b : Bool) → all_below n p ≡ b → eqb (first_not n 0 p) n ≡ all_below n p
-      go true z = eq-eqb (first_not n 0 p) n (first-none z) ∙ sym z
-      go false z = ne_eqb (first_not n 0 p) n (λ h. omega (arith, (first_is z).0)) ∙ sym z
+      go : (b : Bool) → all_below n p ≡ b → not (is_some (one_of n (first_not n 0 p))) ≡ all_below n p
+      go true z = ap (λ (k : ℕ). not (is_some (one_of n k))) (first-none z) ∙ ap (λ (o : Option ℕ). not (is_some o)) (is_none n) ∙ sym z
+      go false z = ap (λ (o : Option ℕ). not (is_some o)) (is_one (first_is z).0) ∙ sym z

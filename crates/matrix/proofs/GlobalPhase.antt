@@ -1,9 +1,10 @@
 -- Equality up to a global phase is what it says: y = u·x for some number u of modulus 1, whichever entry is the pivot.
+use Rattle.std.specs.Prelude.{Ok, Err}
 use mathlib.Core.Path.{◌≡◌, refl, sym, ap, ◌∙◌, subst}
 use mathlib.Core.Bool.{Bool, true, false, cond, ◌&&◌}
-use mathlib.Core.Logic.{◌≢◌, ◌↔◌, ◌⊎◌, inl, inr, ⊎_elim}
+use mathlib.Core.Logic.{◌≢◌, ◌↔◌, ⊎_elim}
 use mathlib.Core.List.{List}
-use Prim.Native.Nat.{ℕ, zero, suc, ◌+◌, ◌*◌, ◌-◌, ◌<◌, ◌≤◌}
+use Prim.Native.Nat.{ℕ, ◌*◌, ◌<◌, ◌≤◌}
 use native.Mathlib.Omega.{arith}
 use lib.Dec.{T}
 use lib.IntN.{ℤ}
@@ -17,13 +18,13 @@ use Rattle.algebra.proofs.Domain.{ℤ√2i-domain, zero_fraction, cancel_fractio
 use Rattle.exact.specs.Exact.{Exact, exact, Number, numbers, root2, conj, lowest, equal, is_zero}
 use Rattle.exact.proofs.Equal.{equal-true, equal_of}
 use Rattle.exact.proofs.Exact.{exacts, exact_halving, conj-by, conj-conj, is_lowest_lem, mul-lowest}
-use Rattle.verdict.specs.declared.Verdict.TheVariants.{TooLarge, Malformed}
+use Rattle.verdict.specs.declared.Refusal.TheVariants.{TooLarge, Malformed}
 use Rattle.exact.proofs.IsZero.{zero_is}
-use Rattle.matrix.specs.declared.Phase.TheVariants.{Equivalent, Different}
-use Rattle.matrix.specs.declared.PhaseAnswer.{PhaseAnswer}
+use Rattle.matrix.specs.declared.Phase.TheVariants.{Different}
 use Rattle.matrix.proofs.Terms.{zero-by}
+use Rattle.matrix.proofs.Questions.{agreed}
 use Rattle.matrix.proofs.First.{first_is, first-none}
-use Rattle.matrix.specs.Phase.{◌·◌, zero_matrix, equal_modulus, equal_ratios, in_phase_at, pivot, in_phase, answered, refused_phase, entry_of, well_formed_matrix, narrow_matrix, phase_answer, GlobalPhase, Meaning}
+use Rattle.matrix.specs.Phase.{◌·◌, zero_matrix, equal_modulus, equal_ratios, in_phase_at, pivot, in_phase, entry_of, well_formed_matrix, narrow_matrix, phase_answer, GlobalPhase, Meaning}
 
 -- ---- with x·b = y·a and p·b = q·a
 module _ (𝓡 : Semi) (bar : 𝓡.R → 𝓡.R) (bar-mul : (x y : 𝓡.R) → bar (𝓡.ops.◌⊗◌ x y) ≡ 𝓡.ops.◌⊗◌ (bar x) (bar y)) where
@@ -140,20 +141,20 @@ module _ (n : ℕ) (x y : ℕ → Exact) where
       go false z = absurd (omega (arith, (pivot_is n x z).0))
 
 -- ---- the answer
-answered-true : (b : Bool) → answered b ≡ answered true → b ≡ true
+answered-true : (b : Bool) → agreed b ≡ agreed true → b ≡ true
 answered-true true e = refl
-answered-true false e = let p : Different ≡ Equivalent = ap (λ (r : PhaseAnswer). r.phase) e in let z : ◌≡◌ {A = ℕ} 0 1 = cc in absurd (omega arith)
+answered-true false e = cc
 
 pub asked : (d : ℕ) (l m : List ℤ) → well_formed_matrix d l ≡ true → well_formed_matrix d m ≡ true → narrow_matrix d l ≡ true → narrow_matrix d m ≡ true
-    → phase_answer d l d m ≡ answered (in_phase (d * d) (entry_of l) (entry_of m))
-asked d l m f g h k = λ i. cond (f i && g i) (cond (eq-eqb d d refl i) (cond (h i && k i) (answered (in_phase (d * d) (entry_of l) (entry_of m))) (refused_phase TooLarge)) (answered false)) (refused_phase Malformed)
+    → phase_answer d l d m ≡ agreed (in_phase (d * d) (entry_of l) (entry_of m))
+asked d l m f g h k = λ i. cond (f i && g i) (cond (eq-eqb d d refl i) (cond (h i && k i) (agreed (in_phase (d * d) (entry_of l) (entry_of m))) (Err TooLarge)) (Ok Different)) (Err Malformed)
 
 pub meaning : Meaning
 meaning = record {
   exactly = λ d l m f g h k.
       let a = asked d l m f g h k in
       let p = phase_is (d * d) (entry_of l) (entry_of m) in
-      (λ e. p.0 (answered-true (in_phase (d * d) (entry_of l) (entry_of m)) (sym a ∙ e)), λ e. a ∙ ap answered (p.1 e));
+      (λ e. p.0 (answered-true (in_phase (d * d) (entry_of l) (entry_of m)) (sym a ∙ e)), λ e. a ∙ ap agreed (p.1 e));
   zero_only = λ n x y z. (zero-phase n x y z, phase-zero n x y z);
   any_pivot = λ n x y i l h. test_same (in_phase_at n x y i) (in_phase n x y) (λ e. (phase_is n x y).1 (at-phase n x y i h e)) (λ e. phase-at n x y ((phase_is n x y).0 e) i l);
 }

@@ -1,5 +1,6 @@
 -- The operands of the rule: conjugates and products of them, and the tests as code makes them.
-use mathlib.Core.Path.{◌≡◌, refl, ap, ◌∙◌}
+use Rattle.std.specs.Prelude.{Ok}
+use mathlib.Core.Path.{◌≡◌, refl, ◌∙◌}
 use mathlib.Core.Bool.{Bool, true, false, ◌&&◌, ◌||◌}
 use mathlib.Core.List.{List}
 use Prim.Native.Nat.{ℕ, ◌*◌, ◌≤◌, ◌<◌}
@@ -11,8 +12,7 @@ use Rattle.algebra.proofs.Tests.{and_split, all-at}
 use Rattle.algebra.proofs.Parts.{abs_neg}
 use Rattle.exact.specs.Exact.{Exact, conj, within, max_numerator, max_exponent, narrow_numerator, narrow_exponent, well_formed, narrow}
 use Rattle.exact.proofs.Exact.{conj-form}
-use Rattle.scalar.specs.declared.Answer.{Answer}
-use Rattle.scalar.specs.Calls.{value, scalar_of, mul_answer, conj_answer}
+use Rattle.scalar.specs.Calls.{scalar_of, mul_answer, conj_answer}
 use Rattle.scalar.proofs.Questions.{asked-yes, mul-yes}
 use Rattle.cells.specs.Cells.{exponent_at, well_formed_at, cell_size}
 use Rattle.matrix.specs.Phase.{◌·◌, entry_of}
@@ -22,19 +22,19 @@ use Rattle.matrix.specs.Inner.Operands.{Operand, Operands}
 conj-within : (m : ℕ) (x : Exact) → within m (conj x).num ≡ within m x.num
 conj-within m x = λ i. ((leb (nat_abs x.num.re.re) m && leb (nat_abs x.num.re.im) m) && leb (abs_neg x.num.im.re i) m) && leb (abs_neg x.num.im.im i) m
 
-pub conj-operand : {x : Exact} → Operand x → Operand (conj x)
-conj-operand {x} o =
+pub conj_operand : {x : Exact} → Operand x → Operand (conj x)
+conj_operand {x} o =
     record {
       form = (λ i. (conj-within max_numerator x i && leb x.exp max_exponent) && conj-form x i) ∙ o.form;
       small = (λ i. conj-within narrow_numerator x i && leb x.exp narrow_exponent) ∙ o.small;
     }
 
 -- ---- the calls accept operands
-pub mul-value : {x y : Exact} → Operand x → Operand y → (mul_answer x y).value ≡ scalar_of (x · y)
-mul-value {x} {y} p q = ap (λ (a : Answer). a.value) (mul-yes x y (λ i. p.form i && q.form i) (λ i. p.small i && q.small i))
+pub mul_value : {x y : Exact} → Operand x → Operand y → mul_answer x y ≡ Ok (scalar_of (x · y))
+mul_value {x} {y} p q = mul-yes x y (λ i. p.form i && q.form i) (λ i. p.small i && q.small i)
 
-pub conj-value : {x : Exact} → Operand x → (conj_answer x).value ≡ scalar_of (conj x)
-conj-value {x} p = ap (λ (a : Answer). a.value) (asked-yes x _ p.form)
+pub conj_value : {x : Exact} → Operand x → conj_answer x ≡ Ok (scalar_of (conj x))
+conj_value {x} p = asked-yes x _ p.form
 
 -- ---- entries that passed the questions
 pub operands : (l : List ℤ) (n : ℕ) → n * cell_size ≤ length l → all_below n (λ (i : ℕ). well_formed_at l (i * cell_size)) ≡ true → all_below n (λ (i : ℕ). narrow (entry_of l i)) ≡ true → Operands l n

@@ -1,5 +1,6 @@
 -- The questions of the answer: what a well-formed matrix is, and the reply by their three answers.
-use mathlib.Core.Path.{◌≡◌, refl, subst}
+use Rattle.std.specs.Prelude.{Result, Ok, Err}
+use mathlib.Core.Path.{◌≡◌, refl, ap, ◌∙◌, subst}
 use mathlib.Core.Bool.{Bool, true, false, not, cond, ◌&&◌, ◌||◌}
 use mathlib.Core.List.{List, [], ◌∷◌}
 use Prim.Native.Nat.{ℕ, ◌*◌, ◌≤◌}
@@ -11,10 +12,12 @@ use lib.IntN.{ℤ}
 use borrow.Author.Tests.{eqb-true}
 use Rattle.algebra.specs.Lists.{all_below, some, All}
 use Rattle.algebra.proofs.Tests.{and_split}
-use Rattle.verdict.specs.declared.Verdict.TheVariants.{TooLarge, Malformed}
+use Rattle.verdict.specs.declared.Refusal.{Refusal}
+use Rattle.verdict.specs.declared.Refusal.TheVariants.{TooLarge, Malformed}
 use Rattle.cells.specs.Cells.{well_formed_at, cell_size}
-use Rattle.matrix.specs.declared.PhaseAnswer.{PhaseAnswer}
-use Rattle.matrix.specs.Phase.{is_dim, entry_of, well_formed_matrix, narrow_matrix, in_phase, answered, refused_phase, phase_answer}
+use Rattle.matrix.specs.declared.Phase.{Phase}
+use Rattle.matrix.specs.declared.Phase.TheVariants.{Different}
+use Rattle.matrix.specs.Phase.{is_dim, entry_of, well_formed_matrix, narrow_matrix, in_phase, phase_of, phase_answer}
 use Rattle.matrix.specs.Inner.Operands.{Operands}
 use Rattle.matrix.proofs.Operands.{operands}
 
@@ -53,10 +56,16 @@ module _ {d : ℕ} {l : List ℤ} where
   formed_operands f e = operands l (d * d) (omega (arith, f.long)) f.entries e
 
 -- ---- the reply
+abbrev pub agreed : Bool → Result Phase Refusal
+agreed b = Ok (phase_of b)
+
+pub agreeing : {p : Phase} {b k : Bool} → p ≡ phase_of b → b ≡ k → ◌≡◌ {A = Result Phase Refusal} (Ok p) (agreed k)
+agreeing e f = (λ i. Ok (e i)) ∙ ap agreed f
+
 module _ (d : ℕ) (l : List ℤ) (e : ℕ) (m : List ℤ) where
   -- by the answers of the three questions
-  abbrev reply : Bool → Bool → Bool → PhaseAnswer
-  reply a b c = cond a (cond b (cond c (answered (in_phase (d * d) (entry_of l) (entry_of m))) (refused_phase TooLarge)) (answered false)) (refused_phase Malformed)
+  abbrev reply : Bool → Bool → Bool → Result Phase Refusal
+  reply a b c = cond a (cond b (cond c (Ok (phase_of (in_phase (d * d) (entry_of l) (entry_of m)))) (Err TooLarge)) (Ok Different)) (Err Malformed)
 
   module _ {a b c : Bool} (f : (well_formed_matrix d l && well_formed_matrix e m) ≡ a) (g : eqb d e ≡ b) (h : (narrow_matrix d l && narrow_matrix e m) ≡ c) where
     pub replied : phase_answer d l e m ≡ reply a b c

@@ -1,12 +1,12 @@
 -- Equality of two matrices up to a global phase: the answer, and what it means.
-use Rattle.std.specs.Prelude.{◌≡◌, Bool, true, false, cond, ◌&&◌, List, [], ◌∷◌, ◌↔◌, ℕ, zero, suc, ◌*◌, ◌<◌, eqb, length, ℤ}
+use Rattle.std.specs.Prelude.{◌≡◌, Bool, true, false, cond, ◌&&◌, List, [], ◌∷◌, ◌↔◌, ℕ, zero, suc, ◌*◌, ◌<◌, eqb, length, ℤ, Result, Ok, Err}
 use Rattle.algebra.specs.Lists.{all_below, some}
 use Rattle.exact.specs.Exact.{Exact, exact, conj, narrow, equal, is_zero}
-use Rattle.verdict.specs.declared.Verdict.{Verdict}
-use Rattle.verdict.specs.declared.Verdict.TheVariants.{Accepted, TooLarge, Malformed}
+use Rattle.verdict.specs.declared.Refusal.{Refusal}
+use Rattle.verdict.specs.declared.Refusal.TheVariants.{TooLarge, Malformed}
 use Rattle.cells.specs.Cells.{cell_size, cell_at, well_formed_at}
+use Rattle.matrix.specs.declared.Phase.{Phase}
 use Rattle.matrix.specs.declared.Phase.TheVariants.{Equivalent, Different}
-use Rattle.matrix.specs.declared.PhaseAnswer.{PhaseAnswer}
 
 -- ---- the questions
 -- a matrix of no to five qubits
@@ -58,21 +58,17 @@ abbrev pub in_phase : ℕ → (ℕ → Exact) → (ℕ → Exact) → Bool
 in_phase n x y = cond (zero_matrix n x) (zero_matrix n y) (in_phase_at n x y (pivot n x))
 
 -- ---- the answer
-abbrev pub answered : Bool → PhaseAnswer
-answered b = record { phase = cond b Equivalent Different; verdict = Accepted }
-
--- a refusal says "different"
-abbrev pub refused_phase : Verdict → PhaseAnswer
-refused_phase v = record { phase = Different; verdict = v }
+abbrev pub phase_of : Bool → Phase
+phase_of b = cond b Equivalent Different
 
 -- 10, then the dims, then 9, then the rule
-abbrev pub phase_answer : ℕ → List ℤ → ℕ → List ℤ → PhaseAnswer
+abbrev pub phase_answer : ℕ → List ℤ → ℕ → List ℤ → Result Phase Refusal
 phase_answer d l e m =
     cond (well_formed_matrix d l && well_formed_matrix e m)
     (cond (eqb d e)
-    (cond (narrow_matrix d l && narrow_matrix e m) (answered (in_phase (d * d) (entry_of l) (entry_of m))) (refused_phase TooLarge))
-    (answered false))
-    (refused_phase Malformed)
+    (cond (narrow_matrix d l && narrow_matrix e m) (Ok (phase_of (in_phase (d * d) (entry_of l) (entry_of m)))) (Err TooLarge))
+    (Ok Different))
+    (Err Malformed)
 
 -- ---- what it means: y = u·x, where u = b/a is a number of modulus 1
 pub record GlobalPhase (n : ℕ) (x y : ℕ → Exact) : Type 0 where
@@ -85,7 +81,7 @@ pub record GlobalPhase (n : ℕ) (x y : ℕ → Exact) : Type 0 where
 pub record Meaning : Type 0 where
   -- "equivalent" exactly where there is such a phase
   pub exactly : (d : ℕ) (l m : List ℤ) → well_formed_matrix d l ≡ true → well_formed_matrix d m ≡ true → narrow_matrix d l ≡ true → narrow_matrix d m ≡ true
-      → (phase_answer d l d m ≡ answered true) ↔ GlobalPhase (d * d) (entry_of l) (entry_of m)
+      → (phase_answer d l d m ≡ Ok Equivalent) ↔ GlobalPhase (d * d) (entry_of l) (entry_of m)
   -- a zero matrix has a phase to a zero matrix alone
   pub zero_only : (n : ℕ) (x y : ℕ → Exact) → zero_matrix n x ≡ true → GlobalPhase n x y ↔ (zero_matrix n y ≡ true)
   -- any nonzero entry serves as the pivot

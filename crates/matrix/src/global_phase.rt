@@ -4,32 +4,30 @@ ghost use Rattle.algebra.specs.Lists.{all_below};
 ghost use Rattle.exact.specs.Exact.{conj, narrow};
 ghost use Rattle.scalar.specs.Calls.{value, scalar_of};
 ghost use Rattle.cells.specs.Cells.{well_formed_at, cell_size};
-ghost use Rattle.matrix.specs.Phase.{◌·◌, is_dim, entry_of, well_formed_matrix, equal_ratios, in_phase_at, in_phase, answered, refused_phase, phase_answer};
+ghost use Rattle.matrix.specs.Phase.{◌·◌, is_dim, entry_of, well_formed_matrix, equal_ratios, in_phase_at, in_phase, phase_of, phase_answer};
 ghost use Rattle.matrix.specs.Inner.Operands.{Operand, Operands};
 
+use super::Phase;
 use super::words::{first_nonzero, is_zero};
-use super::{Phase, PhaseAnswer};
 use cells::{CELL, read_cell, well_formed_at};
 use scalar::Scalar;
-use verdict::Verdict;
+use verdict::Refusal;
 
 // ---- the questions
 fn is_dim(d: usize) -> bool
     ensures { result ≡ is_dim d }
 {
-    (d == 1) | ((d == 2) | ((d == 4) | ((d == 8) | ((d == 16) | (d == 32)))))
+    matches!(d, 1 | 2 | 4 | 8 | 16 | 32)
 }
 
 fn all_well_formed(s: &[i64], n: usize) -> bool
     requires { n * cell_size ≤ length s.now }
     ensures { result ≡ all_below n (λ (i : ℕ). well_formed_at s.now (i * cell_size)) }
 {
-    let mut i = 0;
-    while i < n {
+    for i in 0..n {
         if !well_formed_at(s, i * CELL) {
             return false;
         }
-        i += 1;
     }
     true
 }
@@ -51,34 +49,30 @@ fn all_narrow(s: &[i64], n: usize) -> bool
     requires { (n * cell_size ≤ length s.now) × (all_below n (λ (i : ℕ). well_formed_at s.now (i * cell_size)) ≡ true) }
     ensures { result ≡ all_below n (λ (i : ℕ). narrow (entry_of s.now i)) }
 {
-    let mut i = 0;
-    while i < n {
-        let v = read_cell(s, i * CELL);
-        if !v.is_narrow() {
+    for i in 0..n {
+        if !read_cell(s, i * CELL).is_narrow() {
             return false;
         }
-        i += 1;
     }
     true
 }
 
 // ---- the rule
+#[tactic(auto, using(crate::proofs::Operands::mul_value))]
 fn times(x: Scalar, y: Scalar) -> Scalar
     requires { Operand (value x) × Operand (value y) }
     ensures { result ≡ scalar_of (value x · value y) }
 {
-    let p = x.mul(y);
-    p.value
+    x.mul(y).unwrap()
 }
 
 // x times its conjugate
+#[tactic(auto, using(crate::proofs::Operands::conj_value, crate::proofs::Operands::conj_operand))]
 fn squared_modulus(x: Scalar) -> Scalar
     requires { Operand (value x) }
     ensures { result ≡ scalar_of (value x · conj (value x)) }
 {
-    let c = x.conj();
-    let y = c.value;
-    times(x, y)
+    times(x, x.conj().unwrap())
 }
 
 // Whether each pair is in the ratio of a to b.
@@ -86,16 +80,12 @@ fn ratios_same(left: &[i64], right: &[i64], n: usize, a: Scalar, b: Scalar) -> b
     requires { (Operands left.now n × Operands right.now n) × (Operand (value a) × Operand (value b)) }
     ensures { result ≡ equal_ratios n (entry_of left.now) (entry_of right.now) (value a) (value b) }
 {
-    let mut j = 0;
-    while j < n {
+    for j in 0..n {
         let x = read_cell(left, j * CELL);
         let y = read_cell(right, j * CELL);
-        let p = times(x, b);
-        let q = times(y, a);
-        if !p.equals(q) {
+        if !times(x, b).equals(times(y, a)) {
             return false;
         }
-        j += 1;
     }
     true
 }
@@ -118,35 +108,20 @@ fn in_phase(left: &[i64], right: &[i64], n: usize) -> bool
     requires { Operands left.now n × Operands right.now n }
     ensures { result ≡ in_phase n (entry_of left.now) (entry_of right.now) }
 {
-    let i = first_nonzero(left, 0, n, 0);
-    if i < n {
-        in_phase_at(left, right, n, i)
-    } else {
-        is_zero(right, 0, n)
+    match first_nonzero(left, 0, n, 0) {
+        Some(i) => in_phase_at(left, right, n, i),
+        None => is_zero(right, 0, n),
     }
 }
 
 // ---- the answer
-fn answered(b: bool) -> PhaseAnswer
-    ensures { result ≡ answered b }
+fn phase_of(b: bool) -> Phase
+    ensures { result ≡ phase_of b }
 {
-    let phase = if b {
+    if b {
         Phase::Equivalent
     } else {
         Phase::Different
-    };
-    PhaseAnswer {
-        phase,
-        verdict: Verdict::Accepted,
-    }
-}
-
-fn refused_phase(v: Verdict) -> PhaseAnswer
-    ensures { result ≡ refused_phase v }
-{
-    PhaseAnswer {
-        phase: Phase::Different,
-        verdict: v,
     }
 }
 
@@ -156,20 +131,20 @@ pub fn equivalent_up_to_global_phase(
     left: &[i64],
     right_dim: usize,
     right: &[i64],
-) -> PhaseAnswer
+) -> Result<Phase, Refusal>
     ensures { result ≡ phase_answer left_dim left.now right_dim right.now }
 {
     let formed = is_matrix(left_dim, left) & is_matrix(right_dim, right);
     if !formed {
-        return refused_phase(Verdict::Malformed);
+        return Err(Refusal::Malformed);
     }
     if left_dim != right_dim {
-        return answered(false);
+        return Ok(Phase::Different);
     }
     let n = left_dim * left_dim;
     let narrow = all_narrow(left, n) & all_narrow(right, n);
     if !narrow {
-        return refused_phase(Verdict::TooLarge);
+        return Err(Refusal::TooLarge);
     }
-    answered(in_phase(left, right, n))
+    Ok(phase_of(in_phase(left, right, n)))
 }

@@ -21,14 +21,7 @@ pub fn identity_into(buf: &mut [i64], at: usize, d: usize)
     requires { at + d * d * cell_size ≤ length buf.old }
     ensures { buf.new ≡ identified buf.old at d }
 {
-    let n = d * d;
-    let mut i = 0;
-    while i < n {
-        let r = i / d;
-        let c = i % d;
-        let v = unit_entry(r, c);
-        let to = at + i * CELL;
-        write_cell(buf, to, v);
-        i += 1;
+    for i in 0..d * d {
+        write_cell(buf, at + i * CELL, unit_entry(i / d, i % d));
     }
 }

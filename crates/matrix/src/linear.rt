@@ -1,4 +1,5 @@
 // Rows of numbers in words: one multiplied, or two multiplied and added.
+// Kept: rows as places in one buffer. There is no heap: the rows that are read and the row that is written lie in the buffer that a caller lends, and cannot be borrowed apart.
 ghost use Rattle.std.specs.Prelude.{◌≡◌};
 ghost use Rattle.exact.specs.Exact.{exact, narrow_exponent};
 ghost use Rattle.exact.specs.Inner.Sizes.{Coords};
@@ -19,8 +20,7 @@ fn scaled_entry(buf: &[i64], x: Scalar, q: usize) -> Scalar
     if zero_at(buf, q) {
         return ZERO;
     }
-    let b = read_cell(buf, q);
-    times(x, b)
+    times(x, read_cell(buf, q))
 }
 
 // x times the number at p plus y times the number at q; zeros are passed over.
@@ -44,13 +44,9 @@ fn multiply_row(buf: &mut [i64], x: Scalar, from: usize, to: usize, d: usize)
     requires { Scaling buf.old (value x) from to d }
     ensures { buf.new ≡ fill buf.old to d (scaled_row buf.old (value x) from) }
 {
-    let mut c = 0;
-    while c < d {
-        let q = from + c * CELL;
-        let v = scaled_entry(buf, x, q);
-        let at = to + c * CELL;
-        write_cell(buf, at, v);
-        c += 1;
+    for c in 0..d {
+        let v = scaled_entry(buf, x, from + c * CELL);
+        write_cell(buf, to + c * CELL, v);
     }
 }
 
@@ -75,14 +71,9 @@ fn add_rows(buf: &mut [i64], x: Scalar, p: usize, y: Scalar, q: usize, to: usize
     requires { Scaling buf.old (value x) p to d × Scaling buf.old (value y) q to d }
     ensures { buf.new ≡ fill buf.old to d (combined_row buf.old (value x) p (value y) q) }
 {
-    let mut c = 0;
-    while c < d {
-        let a = p + c * CELL;
-        let b = q + c * CELL;
-        let v = combined_entry(buf, x, a, y, b);
-        let at = to + c * CELL;
-        write_cell(buf, at, v);
-        c += 1;
+    for c in 0..d {
+        let v = combined_entry(buf, x, p + c * CELL, y, q + c * CELL);
+        write_cell(buf, to + c * CELL, v);
     }
 }
 

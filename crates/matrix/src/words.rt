@@ -5,7 +5,7 @@ ghost use Rattle.algebra.specs.Inner.Apart.{Apart};
 ghost use Rattle.cells.specs.Cells.{cell_size};
 ghost use Rattle.cells.specs.Inner.Zero.{zero_at};
 ghost use Rattle.matrix.specs.Phase.{first_not};
-ghost use Rattle.matrix.specs.Inner.Written.{zeros};
+ghost use Rattle.matrix.specs.Inner.Written.{one_of, zeros};
 
 use cells::{CELL, zero_at};
 
@@ -14,10 +14,8 @@ pub fn clear(s: &mut [i64], at: usize, n: usize)
     requires { at + n ≤ length s.old }
     ensures { s.new ≡ fill_words s.old at n (λ (i : ℕ). pos 0) }
 {
-    let mut i = 0;
-    while i < n {
+    for i in 0..n {
         s[at + i] = 0;
-        i += 1;
     }
 }
 
@@ -26,27 +24,22 @@ pub fn copy(s: &mut [i64], from: usize, to: usize, n: usize)
     requires { (from + n ≤ length s.old) × ((to + n ≤ length s.old) × Apart from n to n) }
     ensures { s.new ≡ fill_words s.old to n (λ (i : ℕ). get_or s.old (from + i) (pos 0)) }
 {
-    let mut i = 0;
-    while i < n {
-        let x = s[from + i];
-        s[to + i] = x;
-        i += 1;
+    for i in 0..n {
+        s[to + i] = s[from + i];
     }
 }
 
-// Of n entries from `at` on, the first from entry r on that is not zero; n where there is none.
-pub fn first_nonzero(s: &[i64], at: usize, n: usize, r: usize) -> usize
+// Of n entries from `at` on, the first from entry r on that is not zero.
+pub fn first_nonzero(s: &[i64], at: usize, n: usize, r: usize) -> Option<usize>
     requires { (r ≤ n) × (at + n * cell_size ≤ length s.now) }
-    ensures { result ≡ first_not (n - r) r (λ (k : ℕ). zero_at s.now (at + k * cell_size)) }
+    ensures { result ≡ one_of n (first_not (n - r) r (λ (k : ℕ). zero_at s.now (at + k * cell_size))) }
 {
-    let mut i = r;
-    while i < n {
+    for i in r..n {
         if !zero_at(s, at + i * CELL) {
-            return i;
+            return Some(i);
         }
-        i += 1;
     }
-    n
+    None
 }
 
 // Whether n entries from `at` on are zero.
@@ -54,6 +47,5 @@ pub fn is_zero(s: &[i64], at: usize, n: usize) -> bool
     requires { at + n * cell_size ≤ length s.now }
     ensures { result ≡ zeros s.now at n }
 {
-    let i = first_nonzero(s, at, n, 0);
-    i == n
+    first_nonzero(s, at, n, 0).is_none()
 }

@@ -15,11 +15,8 @@ pub fn times(x: Scalar, y: Scalar) -> Scalar
     requires { Coords 1 narrow_exponent (value x) × Coords 1 narrow_exponent (value y) }
     ensures { result ≡ scalar_of (exact.◌⊗◌ (value x) (value y)) }
 {
-    let u = x.n;
-    let v = y.n;
-    let f = x.e + y.e;
-    let z = product(u, v);
-    reduce(z, f)
+    let e = x.e + y.e;
+    reduce(product(x.n, y.n), e)
 }
 
 // x·p + y·q, put into lowest form once.
@@ -27,14 +24,10 @@ pub fn sum_of_products(x: Scalar, p: Scalar, y: Scalar, q: Scalar) -> Scalar
     requires { (Coords 1 narrow_exponent (value x) × Coords 1 narrow_exponent (value p)) × (Coords 1 narrow_exponent (value y) × Coords 1 narrow_exponent (value q)) }
     ensures { result ≡ scalar_of (exact.◌⊕◌ (exact.◌⊗◌ (value x) (value p)) (exact.◌⊗◌ (value y) (value q))) }
 {
-    let a = x.n;
-    let b = p.n;
-    let c = y.n;
-    let d = q.n;
     let e = x.e + p.e;
     let f = y.e + q.e;
-    let u = product(a, b);
-    let v = product(c, d);
+    let u = product(x.n, p.n);
+    let v = product(y.n, q.n);
     if e < f {
         aligned_sum(u, e, v, f)
     } else {

@@ -1,26 +1,20 @@
 -- Document 01's rows on scalars, with rows at the edges of the ranges, and the claim that all of them hold.
-use Rattle.std.specs.Prelude.{◌≡◌, Bool, true, ◌&&◌, List, [], ◌∷◌, ℕ, ◌+◌, ◌-◌, ◌^◌, eqb, pos, neg_ℤ}
-use Rattle.verdict.specs.Verdict.{verdict_number}
+use Rattle.std.specs.Prelude.{◌≡◌, Bool, true, false, List, [], ◌∷◌, ℕ, ◌+◌, ◌-◌, ◌^◌, Ok, Err, eqb, pos, neg_ℤ}
+use Rattle.verdict.specs.Verdict.{refusal_number}
 use Rattle.algebra.specs.Dyadic.{frac}
 use Rattle.algebra.specs.Lists.{every}
 use Rattle.exact.specs.Exact.{number, Exact, exact, equal, imaginary, inv_sqrt_two, omega}
-use Rattle.scalar.specs.declared.Answer.{Answer}
-use Rattle.scalar.specs.Calls.{value, integer_answer, omega_answer, neg_answer, conj_answer, half_answer, add_answer, mul_answer}
+use Rattle.scalar.specs.Calls.{Answer, value, accepted, integer_answer, neg_answer, conj_answer, half_answer, add_answer, mul_answer}
 
--- an answer, document 01's number for its verdict, and the number that it hands back
-pub record Row : Type 0 where
-  pub answer : Answer
-  pub verdict : ℕ
-  pub result : Exact
+-- the call hands back the number
+abbrev pub accepts : Answer → Exact → Bool
+accepts (Ok s) x = equal (value s) x
+accepts (Err r) x = false
 
-abbrev pub holds : Row → Bool
-holds r = eqb (verdict_number r.answer.verdict) r.verdict && equal (value r.answer.value) r.result
-
-abbrev pub accepts : Answer → Exact → Row
-accepts a x = record { answer = a; verdict = 0; result = x }
-
-abbrev pub refuses : Answer → ℕ → Row
-refuses a k = record { answer = a; verdict = k; result = exact.𝟘 }
+-- the call refuses, with document 01's number
+abbrev pub refuses : Answer → ℕ → Bool
+refuses (Ok s) k = false
+refuses (Err r) k = eqb (refusal_number r) k
 
 -- n / 2^e and −n / 2^e
 abbrev pub ratio : ℕ → ℕ → Exact
@@ -29,10 +23,10 @@ ratio n e = frac (number (pos n) (pos 0) (pos 0) (pos 0)) e
 abbrev pub minus : ℕ → ℕ → Exact
 minus n e = exact.neg (ratio n e)
 
-abbrev pub rows : List Row
+abbrev pub rows : List Bool
 rows =
     -- document 01's
-    accepts (omega_answer 1) (frac (number (pos 0) (pos 1) (pos 0) (pos 1)) 1)
+    accepts (accepted (omega 1)) (frac (number (pos 0) (pos 1) (pos 0) (pos 1)) 1)
     ∷ accepts (mul_answer (omega 1) (omega 1)) imaginary
     ∷ accepts (mul_answer inv_sqrt_two inv_sqrt_two) (ratio 1 1)
     ∷ accepts (mul_answer (ratio (2 ^ 29) 0) (ratio 1 0)) (ratio (2 ^ 29) 0)
@@ -64,4 +58,4 @@ rows =
     ∷ []
 
 abbrev pub Claim : Type 0
-Claim = every holds rows ≡ true
+Claim = every (λ (row : Bool). row) rows ≡ true

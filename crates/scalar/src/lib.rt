@@ -1,9 +1,9 @@
-// Exact scalars and their calls. Each call answers with a scalar and a verdict; a refusal hands back zero.
+// Exact scalars and their calls. A call that can fail hands back a scalar or a refusal.
 #![tactic(auto)]
 
-ghost use Rattle.std.specs.Prelude.{◌≡◌, true, ◌≤◌};
-ghost use Rattle.exact.specs.Exact.{exact, imaginary, inv_sqrt_two, well_formed};
-ghost use Rattle.scalar.specs.Calls.{value, accepted_as, accepted, refused_with, fitting, integer_answer, omega_answer, neg_answer, conj_answer, half_answer, add_answer, mul_answer};
+ghost use Rattle.std.specs.Prelude.{◌≡◌, true, ◌≤◌, Ok};
+ghost use Rattle.exact.specs.Exact.{exact, imaginary, inv_sqrt_two, omega, well_formed};
+ghost use Rattle.scalar.specs.Calls.{value, scalar_of, fitting, integer_answer, neg_answer, conj_answer, half_answer, add_answer, mul_answer};
 ghost use Rattle.scalar.specs.Inner.Fitting.{fitting_scalar};
 
 pub mod numerators;
@@ -15,10 +15,10 @@ use exact::ranges::can_scale;
 use numerators::{aligned_sum, reduce};
 use powers::power;
 use ranges::{are_narrow, are_well_formed};
-use verdict::Verdict;
+use verdict::Refusal;
 
 // (n[0] + n[1]·√2 + n[2]·i + n[3]·i·√2) / 2^e
-#[derive(Clone, Copy)]
+#[derive(Clone, Copy, Debug, PartialEq, Eq)]
 pub struct Scalar {
     pub n: [i64; 4],
     pub e: u32,
@@ -31,63 +31,30 @@ pub const ONE: Scalar = Scalar {
     e: 0,
 };
 
-#[derive(Clone, Copy)]
-pub struct Answer {
-    pub value: Scalar,
-    pub verdict: Verdict,
-}
-
-// A refusal hands back zero.
-pub fn refused(v: Verdict) -> Answer
-    ensures { result ≡ refused_with v }
-{
-    Answer {
-        value: ZERO,
-        verdict: v,
-    }
-}
-
-fn accept(n: [i64; 4], e: u32) -> Answer
-    ensures { result ≡ accepted_as (record { n = n; e = e }) }
-{
-    Answer {
-        value: Scalar { n, e },
-        verdict: Verdict::Accepted,
-    }
-}
-
 // The scalar if it is in range, else 9.
-pub fn checked(s: Scalar) -> Answer
+pub fn checked(s: Scalar) -> Result<Scalar, Refusal>
     ensures { result ≡ fitting_scalar s }
 {
     if s.in_range() {
-        Answer {
-            value: s,
-            verdict: Verdict::Accepted,
-        }
+        Ok(s)
     } else {
-        refused(Verdict::TooLarge)
+        Err(Refusal::TooLarge)
     }
 }
 
 // The sum of two scalars, the first over the smaller power of two. Scaled, its numerators may be too large for a word: then so is the sum.
-fn add_ordered(low: Scalar, high: Scalar) -> Answer
+fn add_ordered(low: Scalar, high: Scalar) -> Result<Scalar, Refusal>
     requires { (well_formed (value low) ≡ true) × ((well_formed (value high) ≡ true) × (low.e ≤ high.e)) }
     ensures { result ≡ fitting (exact.◌⊕◌ (value low) (value high)) }
 {
-    let x = low.n;
-    let e = low.e;
-    let y = high.n;
-    let f = high.e;
-    if can_scale(x, f - e) {
-        checked(aligned_sum(x, e, y, f))
-    } else {
-        refused(Verdict::TooLarge)
+    if !can_scale(low.n, high.e - low.e) {
+        return Err(Refusal::TooLarge);
     }
+    checked(aligned_sum(low.n, low.e, high.n, high.e))
 }
 
 impl Scalar {
-    pub fn integer(n: i64) -> Answer
+    pub fn integer(n: i64) -> Result<Scalar, Refusal>
         ensures { result ≡ integer_answer n }
     {
         checked(Scalar {
@@ -96,102 +63,96 @@ impl Scalar {
         })
     }
 
-    pub fn zero() -> Answer
-        ensures { result ≡ accepted exact.𝟘 }
+    pub fn zero() -> Scalar
+        ensures { result ≡ scalar_of exact.𝟘 }
     {
-        accept([0; 4], 0)
+        ZERO
     }
 
-    pub fn i() -> Answer
-        ensures { result ≡ accepted imaginary }
+    pub fn i() -> Scalar
+        ensures { result ≡ scalar_of imaginary }
     {
-        accept([0, 0, 1, 0], 0)
+        Scalar {
+            n: [0, 0, 1, 0],
+            e: 0,
+        }
     }
 
     // √2 / 2
-    pub fn inv_sqrt_two() -> Answer
-        ensures { result ≡ accepted inv_sqrt_two }
+    pub fn inv_sqrt_two() -> Scalar
+        ensures { result ≡ scalar_of inv_sqrt_two }
     {
-        accept([0, 1, 0, 0], 1)
+        Scalar {
+            n: [0, 1, 0, 0],
+            e: 1,
+        }
     }
 
     // ((1 + i) / √2)^(k mod 8)
-    pub fn omega(k: u32) -> Answer
-        ensures { result ≡ omega_answer k }
+    pub fn omega(k: u32) -> Scalar
+        ensures { result ≡ scalar_of (omega k) }
     {
-        Answer {
-            value: power(k),
-            verdict: Verdict::Accepted,
-        }
+        power(k)
     }
 
-    pub fn add(self, other: Scalar) -> Answer
+    pub fn add(self, other: Scalar) -> Result<Scalar, Refusal>
         ensures { result ≡ add_answer (value self) (value other) }
     {
         if !are_well_formed(self, other) {
-            return refused(Verdict::Malformed);
+            return Err(Refusal::Malformed);
         }
-        let e = self.e;
-        let f = other.e;
-        if e <= f {
+        if self.e <= other.e {
             add_ordered(self, other)
         } else {
             add_ordered(other, self)
         }
     }
 
-    pub fn neg(self) -> Answer
+    pub fn neg(self) -> Result<Scalar, Refusal>
         ensures { result ≡ neg_answer (value self) }
     {
         if !self.is_well_formed() {
-            return refused(Verdict::Malformed);
+            return Err(Refusal::Malformed);
         }
-        let x = self.n;
-        let e = self.e;
-        accept(neg4(x), e)
+        Ok(Scalar {
+            n: neg4(self.n),
+            e: self.e,
+        })
     }
 
     // n0 + n1·√2 − n2·i − n3·i·√2
-    pub fn conj(self) -> Answer
+    pub fn conj(self) -> Result<Scalar, Refusal>
         ensures { result ≡ conj_answer (value self) }
     {
         if !self.is_well_formed() {
-            return refused(Verdict::Malformed);
+            return Err(Refusal::Malformed);
         }
         let x = self.n;
-        let e = self.e;
         let y = neg4(x);
-        accept([x[0], x[1], y[2], y[3]], e)
+        Ok(Scalar {
+            n: [x[0], x[1], y[2], y[3]],
+            e: self.e,
+        })
     }
 
-    pub fn half(self) -> Answer
+    pub fn half(self) -> Result<Scalar, Refusal>
         ensures { result ≡ half_answer (value self) }
     {
         if !self.is_well_formed() {
-            return refused(Verdict::Malformed);
+            return Err(Refusal::Malformed);
         }
-        let x = self.n;
-        let e = self.e;
-        checked(reduce(x, e + 1))
+        checked(reduce(self.n, self.e + 1))
     }
 
-    pub fn mul(self, other: Scalar) -> Answer
+    pub fn mul(self, other: Scalar) -> Result<Scalar, Refusal>
         ensures { result ≡ mul_answer (value self) (value other) }
     {
         if !are_well_formed(self, other) {
-            return refused(Verdict::Malformed);
+            return Err(Refusal::Malformed);
         }
         if !are_narrow(self, other) {
-            return refused(Verdict::TooLarge);
+            return Err(Refusal::TooLarge);
         }
-        let x = self.n;
-        let y = other.n;
-        let e = self.e;
-        let f = other.e;
-        let z = product(x, y);
-        Answer {
-            value: reduce(z, e + f),
-            verdict: Verdict::Accepted,
-        }
+        Ok(reduce(product(self.n, other.n), self.e + other.e))
     }
 }

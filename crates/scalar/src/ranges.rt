@@ -1,4 +1,4 @@
-// Ranges, lowest forms and equality: the questions that are asked of scalars.
+// Ranges and lowest forms: the questions that are asked of scalars.
 ghost use Rattle.std.specs.Prelude.{◌≡◌, ◌&&◌};
 ghost use Rattle.exact.specs.Exact.{exact, in_range, is_lowest, well_formed, narrow, is_zero, equal};
 ghost use Rattle.scalar.specs.Calls.{value};
@@ -11,26 +11,20 @@ impl Scalar {
     pub fn in_range(self) -> bool
         ensures { result ≡ in_range (value self) }
     {
-        let x = self.n;
-        let e = self.e;
-        are_within(x, MAX_NUMERATOR) & (e <= MAX_EXPONENT)
+        are_within(self.n, MAX_NUMERATOR) & (self.e <= MAX_EXPONENT)
     }
 
     pub fn is_narrow(self) -> bool
         ensures { result ≡ narrow (value self) }
     {
-        let x = self.n;
-        let e = self.e;
-        are_within(x, NARROW_NUMERATOR) & (e <= NARROW_EXPONENT)
+        are_within(self.n, NARROW_NUMERATOR) & (self.e <= NARROW_EXPONENT)
     }
 
     // Whether e is 0 or some numerator is odd.
     pub fn is_lowest(self) -> bool
         ensures { result ≡ is_lowest (value self) }
     {
-        let x = self.n;
-        let e = self.e;
-        (e == 0) | !all_even(x)
+        (self.e == 0) | !all_even(self.n)
     }
 
     pub fn is_well_formed(self) -> bool
@@ -43,18 +37,13 @@ impl Scalar {
     pub fn equals(self, other: Scalar) -> bool
         ensures { result ≡ equal (value self) (value other) }
     {
-        let x = self.n;
-        let y = other.n;
-        let e = self.e;
-        let f = other.e;
-        (((x[0] == y[0]) & (x[1] == y[1])) & ((x[2] == y[2]) & (x[3] == y[3]))) & (e == f)
+        self == other
     }
 
     pub fn is_zero(self) -> bool
         ensures { result ≡ is_zero (value self).num }
     {
-        let x = self.n;
-        all_zero(x)
+        all_zero(self.n)
     }
 
     pub fn is_one(self) -> bool

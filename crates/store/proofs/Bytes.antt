@@ -1,31 +1,21 @@
 -- Stores as bytes: the test of each byte, the number packed from the top down, and the bits read back from it.
 use mathlib.Core.Path.{◌≡◌, refl, ap, ◌∙◌, subst}
-use mathlib.Core.Bool.{Bool, true, ◌&&◌}
+use mathlib.Core.Bool.{true}
 use mathlib.Core.List.{List, [], ◌∷◌}
 use Prim.Native.Nat.{ℕ, zero, suc, ◌+◌, ◌*◌, ◌-◌, ◌/◌, ◌%◌, ◌^◌, ◌<◌, ◌≤◌}
 use native.Mathlib.Nat.{pow-succ', div-lt_iff_lt-mul, div-add-mod', le_trans}
-use native.Mathlib.Numerals.{add-one}
 use native.Mathlib.Omega.{arith}
 use lib.Dec.{eqb, leb}
 use lib.Pow.{pow_mono}
-use lib.ListN.{length, get_or, take, drop, drop_of_length-le, length-drop}
+use lib.ListN.{length, get_or, take, drop, length-drop}
 use lib.Seq.{drop-cons, get_or-take, length-take-le}
 use borrow.Author.Tests.{leb-true, eqb-true}
-use Rattle.algebra.specs.Lists.{every}
 use Rattle.algebra.specs.Words.{from_bits}
 use Rattle.algebra.proofs.Bits.{bits-take, bits-drop, bits_below}
 use Rattle.algebra.proofs.Lists.{every-all}
 use Rattle.algebra.proofs.Tests.{and_split}
 use Rattle.store.specs.Store.{store_fits, bits}
 use Rattle.store.specs.Inner.Held.{Bits}
-
--- ---- the test of the bytes from i on
-module _ (p : ℕ → Bool) (s : List ℕ) where
-  pub every_more : (i : ℕ) → i < length s → every p (drop i s) ≡ p (get_or s i 0) && every p (drop (i + 1) s)
-  every_more i l = rw (add-one i, drop-cons s i 0)
-
-  pub every-none : (i : ℕ) → length s ≤ i → every p (drop i s) ≡ true
-  every-none i l = ap (every p) (drop_of_length-le s l)
 
 -- what the test of a store says
 pub fits_word : (m : ℕ) (σ : List ℕ) → store_fits m σ ≡ true → (length σ ≡ m) × Bits σ
@@ -47,9 +37,6 @@ module _ (σ : List ℕ) (to : ℕ) (room : to ≤ length σ) where
   packed_below b i k h =
       le_trans (bits_below (drop i (take to σ)) (bits-drop i (take to σ) (bits-take to σ b)))
       (pow_mono {i = length (drop i (take to σ))} {j = k} (omega (arith, length-drop i (take to σ), length-take-le to σ room)))
-
-  pub packed_none : from_bits (drop to (take to σ)) ≡ 0
-  packed_none = ap from_bits (drop_of_length-le (take to σ) {i = to} (omega (arith, length-take-le to σ room)))
 
 -- ---- a number's bits
 pub bits_back : (m x : ℕ) → x < 2 ^ m → from_bits (bits m x) ≡ x

@@ -60,6 +60,3 @@ no_high s m = go (eqb (s / 2 ^ m) 0) refl
         by : s / 2 ^ m ≡ 0 → s < 2 ^ m
         by z = omega (arith, div-add-mod' s (2 ^ m), mod-lt s (pow_pos m), ap (λ (k : ℕ). k * 2 ^ m) z)
     go false e = let n : ¬ (s < 2 ^ m) = λ h. eqb-false (s / 2 ^ m) 0 e (div-eq_of_lt h) in e ∙ sym (le-ltb s (2 ^ m) (omega arith))
-
-pub whole : (s m : ℕ) → Fits w64 s → m ≤ 64 → 64 ≤ m → true ≡ ltb s (2 ^ m)
-whole s m f h k = let e : 64 ≡ m = omega arith in sym (lt-ltb s (2 ^ m) (subst (λ (j : ℕ). s < 2 ^ j) e f.fits))

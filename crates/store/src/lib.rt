@@ -10,7 +10,7 @@ ghost use Rattle.store.specs.Inner.Held.{Bits, StoreAt};
 pub const WORD_BITS: u32 = 32;
 
 // The weight of the high word.
-const HIGH: u64 = 4294967296;
+const HIGH: u64 = 1 << WORD_BITS;
 
 // The largest word of a store.
 pub const MAX_WORD: u64 = HIGH - 1;
@@ -19,23 +19,7 @@ pub const MAX_WORD: u64 = HIGH - 1;
 pub fn is_store(store: &[u8], bits: u32) -> bool
     ensures { result ≡ store_fits bits store.now }
 {
-    if store.len() != bits as usize {
-        return false;
-    }
-    let mut i = 0;
-    while i < store.len() {
-        if 1 < store[i] {
-            return false;
-        }
-        i += 1;
-    }
-    true
-}
-
-fn wide(x: u8) -> u64
-    ensures { result ≡ x }
-{
-    x as u64
+    store.len() == bits as usize && store.iter().all(|&b| b <= 1)
 }
 
 // The number of the bits from `from` to before `to`, the lowest first.
@@ -43,11 +27,9 @@ pub fn pack(store: &[u8], from: usize, to: usize) -> u64
     requires { (from ≤ to) × ((to ≤ length store.now) × ((to ≤ from + 64) × Bits store.now)) }
     ensures { result ≡ from_bits (drop from (take to store.now)) }
 {
-    let mut x: u64 = 0;
-    let mut i = to;
-    while from < i {
-        i -= 1;
-        x = x * 2 + wide(store[i]);
+    let mut x = 0;
+    for i in (from..to).rev() {
+        x = x * 2 + u64::from(store[i]);
     }
     x
 }
@@ -57,18 +39,15 @@ pub fn fits_bits(store: u64, m: u32) -> bool
     requires { m ≤ 64 }
     ensures { result ≡ ltb store (2 ^ m) }
 {
-    if m < 64 {
-        return store >> m == 0;
-    }
-    true
+    64 <= m || store >> m == 0
 }
 
 // Whether store x comes before store y: the first bit that differs is 0 in x.
 pub fn comes_before(x: u64, y: u64) -> bool
     ensures { result ≡ before x y }
 {
-    let t = u64::trailing_zeros(x ^ y);
-    if t < 64 { (y >> t) & 1 == 1 } else { false }
+    let t = (x ^ y).trailing_zeros();
+    t < 64 && (y >> t) & 1 == 1
 }
 
 // A store from its two words.
@@ -84,7 +63,5 @@ pub fn store_from(s: &[i64], at: usize) -> u64
     requires { StoreAt s.now at }
     ensures { result ≡ store_from (get_or s.now at (pos 0)) (get_or s.now (at + 1) (pos 0)) }
 {
-    let low = s[at];
-    let high = s[at + 1];
-    join(low, high)
+    join(s[at], s[at + 1])
 }

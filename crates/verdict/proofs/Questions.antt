@@ -4,16 +4,12 @@ use mathlib.Core.Bool.{Bool, true, false, cond, ◌&&◌, true≢false}
 use mathlib.Core.List.{List, [], ◌∷◌, ◌++◌}
 use Prim.Native.Nat.{ℕ}
 use Rattle.algebra.specs.Lists.{All, every}
-use Rattle.verdict.specs.declared.Verdict.{Verdict}
-use Rattle.verdict.specs.Verdict.{accepted}
-use Rattle.verdict.specs.Questions.{Question, first_by, first_no, decided_by}
+use Rattle.std.specs.Prelude.{Result, Ok, Err, is_ok, IsErrAnd}
+use Rattle.verdict.specs.declared.Refusal.{Refusal}
+use Rattle.verdict.specs.Questions.{Verdict, Question, first_by, granted, first_no, decided_by}
 
 abbrev pub yes : Question → Bool
 yes q = q.answer
-
--- a refusal is no acceptance
-abbrev pub Refuses : Question → Type 0
-Refuses q = accepted q.refusal ≡ false
 
 module _ {A : Type 0} (f : Question → A) (z : A) where
   -- the questions ys after xs: they decide where xs do not
@@ -55,9 +51,9 @@ every_append (x ∷ xs) ys = ap (λ (b : Bool). x.answer && b) (every_append xs 
     assoc false b c = refl
 
 -- where every answer before q is yes and that to q is no, the verdict is the refusal of q
-pub decided : (xs ys : List Question) (q : Question) → every yes xs ≡ true → q.answer ≡ false → first_no (xs ++ (q ∷ ys)) ≡ q.refusal
+pub decided : (xs ys : List Question) (q : Question) → every yes xs ≡ true → q.answer ≡ false → first_no (xs ++ (q ∷ ys)) ≡ Err q.refusal
 decided xs ys q e f =
-    append_yes (λ (q : Question). q.refusal) _ xs (q ∷ ys) e ∙ ap (λ (b : Bool). cond b (first_no ys) q.refusal) f
+    append_yes (λ (q : Question). Err q.refusal) _ xs (q ∷ ys) e ∙ ap (λ (b : Bool). cond b (first_no ys) (Err q.refusal)) f
 
 -- the number that decides is one of theirs
 pub decided_among : (p : ℕ → Bool) (qs : List Question) → All (λ (q : Question). p q.number ≡ true) qs → every yes qs ≡ false → p (decided_by qs) ≡ true
@@ -68,22 +64,62 @@ decided_among p (q ∷ qs) h e = go q.answer e (decided_among p qs h.1)
     go true e r = r e
     go false e r = h.0
 
--- every answer is yes exactly where the verdict accepts
-pub all_yes : (qs : List Question) → All Refuses qs → accepted (first_no qs) ≡ every yes qs
-all_yes [] h = refl
-all_yes (q ∷ qs) h = go q.answer (all_yes qs h.1)
-  where
-    go : (b : Bool) → accepted (first_no qs) ≡ every yes qs → accepted (cond b (first_no qs) q.refusal) ≡ (b && every yes qs)
-    go true r = r
-    go false r = h.0
+module _ {A : Type 0} (x : A) where
+  -- every answer is yes exactly where nothing is refused
+  pub all_yes : (qs : List Question) → is_ok (granted x qs) ≡ every yes qs
+  all_yes [] = refl
+  all_yes (q ∷ qs) = go q.answer (all_yes qs)
+    where
+      go : (b : Bool) → is_ok (granted x qs) ≡ every yes qs → is_ok (cond b (granted x qs) (Err q.refusal)) ≡ (b && every yes qs)
+      go true r = r
+      go false r = refl
 
 -- ---- v is the verdict on xs: it stands where it refuses, and that on ys follows where it accepts
-module _ (xs ys : List Question) (h : All Refuses xs) {v : Verdict} (e : v ≡ first_no xs) where
-  answers : accepted v ≡ every yes xs
-  answers = ap accepted e ∙ all_yes xs h
+module _ (xs ys : List Question) {v : Verdict} (e : v ≡ first_no xs) where
+  answers : is_ok v ≡ every yes xs
+  answers = ap is_ok e ∙ all_yes tt xs
 
-  pub after-yes : {w : Verdict} → accepted v ≡ true → w ≡ first_no ys → w ≡ first_no (xs ++ ys)
+  pub after-yes : {w : Verdict} → is_ok v ≡ true → w ≡ first_no ys → w ≡ first_no (xs ++ ys)
   after-yes a k = k ∙ sym (append_yes _ _ xs ys (sym answers ∙ a))
 
-  pub after_no : accepted v ≡ false → v ≡ first_no (xs ++ ys)
+  pub after_no : is_ok v ≡ false → v ≡ first_no (xs ++ ys)
   after_no a = e ∙ sym (append_no _ _ xs ys (sym answers ∙ a))
+
+-- the refusal that a `?` returns is the one that it was given
+pub returned : {B : Type 0} (v : Result B Refusal) {r : Refusal} → IsErrAnd v (λ (s : Refusal). s ≡ r) → v ≡ Err r
+returned (Ok x) h = absurd h
+returned (Err s) h = ap Err h
+
+-- ---- an answer behind a `?`: a refusal stands for all that is asked, and an acceptance leaves it to the rest
+module _ {A B : Type 0} (x : A) (y : B) where
+  pub refused_alike : (xs : List Question) {r : Refusal} → Err r ≡ granted x xs → Err r ≡ granted y xs
+  refused_alike [] e = absurd (cc)
+  refused_alike (q ∷ qs) {r} e = go q.answer e (refused_alike qs)
+    where
+      go : (b : Bool) → Err r ≡ cond b (granted x qs) (Err q.refusal) → (Err r ≡ granted x qs → Err r ≡ granted y qs) → Err r ≡ cond b (granted y qs) (Err q.refusal)
+      go true e h = h e
+      go false e h = cc
+
+  pub handed : (xs : List Question) {z : A} → Ok z ≡ granted x xs → Ok y ≡ granted y xs
+  handed [] e = refl
+  handed (q ∷ qs) {z} e = go q.answer e (handed qs)
+    where
+      go : (b : Bool) → Ok z ≡ cond b (granted x qs) (Err q.refusal) → (Ok z ≡ granted x qs → Ok y ≡ granted y qs) → Ok y ≡ cond b (granted y qs) (Err q.refusal)
+      go true e h = h e
+      go false e h = absurd (cc)
+
+  -- of the questions xs before ys
+  pub refused : (xs ys : List Question) {r : Refusal} → Err r ≡ granted x xs → Err r ≡ granted y (xs ++ ys)
+  refused xs ys {r} e = sym (append_no _ _ xs ys (sym (all_yes x xs) ∙ sym (ap is_ok e)) ∙ sym (refused_alike xs e))
+
+  pub passed : (xs ys : List Question) {z : A} → Ok z ≡ granted x xs → granted y ys ≡ granted y (xs ++ ys)
+  passed xs ys {z} e = sym (append_yes _ _ xs ys (sym (all_yes x xs) ∙ sym (ap is_ok e)))
+
+-- what is handed over is what all the answers grant
+pub handed_value : {A : Type 0} (x : A) (xs : List Question) {z : A} → Ok z ≡ granted x xs → z ≡ x
+handed_value x [] e = cc
+handed_value x (q ∷ qs) {z} e = go q.answer e (handed_value x qs)
+  where
+    go : (b : Bool) → Ok z ≡ cond b (granted x qs) (Err q.refusal) → (Ok z ≡ granted x qs → z ≡ x) → z ≡ x
+    go true e h = h e
+    go false e h = absurd (cc)

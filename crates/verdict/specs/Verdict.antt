@@ -1,65 +1,69 @@
--- What a call answers: document 01's number and index of each verdict. A refusal that a later call brings gets its line here.
-use Rattle.std.specs.Prelude.{Bool, ℕ, eqb}
-use Rattle.verdict.specs.declared.Verdict.{Verdict}
-use Rattle.verdict.specs.declared.Verdict.TheVariants.{Accepted, OverLimit, UnsupportedAt, OperandAt, BadStore, MalformedAt, OverCeiling, TooHeavy, ShortBuffer, TooLarge, Malformed}
-use Rattle.verdict.specs.declared.Verdict.TheVariants.{BadLayers, ClashAt, BadText, UnknownNameAt, NotScheduleAt, ZeroBlock, BadNodeAt, BadAxisAt, NoOutcomeAt, NoPlace, NoGate, NotHermitianAt, NotPlainAt, TooManyPairs, BadCounts}
+-- What a call answers: document 01's number and index of each refusal. A refusal that a later call brings gets its line here.
+use Rattle.std.specs.Prelude.{ℕ, Result, Ok, Err}
+use Rattle.verdict.specs.declared.Refusal.{Refusal}
+use Rattle.verdict.specs.declared.Refusal.TheVariants.{OverLimit, UnsupportedAt, OperandAt, BadStore, MalformedAt, OverCeiling, TooHeavy, ShortBuffer, TooLarge, Malformed}
+use Rattle.verdict.specs.declared.Refusal.TheVariants.{BadLayers, ClashAt, BadText, UnknownNameAt, NotScheduleAt, ZeroBlock, BadNodeAt, BadAxisAt, NoOutcomeAt, NoPlace, NoGate, NotHermitianAt, NotPlainAt, TooManyPairs, BadCounts}
 
-abbrev pub verdict_number : Verdict → ℕ
-verdict_number Accepted = 0
-verdict_number OverLimit = 1
-verdict_number (UnsupportedAt i) = 2
-verdict_number (OperandAt i) = 3
-verdict_number BadStore = 4
-verdict_number (MalformedAt i) = 5
-verdict_number OverCeiling = 6
-verdict_number TooHeavy = 7
-verdict_number ShortBuffer = 8
-verdict_number TooLarge = 9
-verdict_number Malformed = 10
-verdict_number BadLayers = 11
-verdict_number (ClashAt i) = 12
-verdict_number BadText = 13
-verdict_number (UnknownNameAt i) = 14
-verdict_number (NotScheduleAt i) = 15
-verdict_number ZeroBlock = 16
-verdict_number (BadNodeAt i) = 17
-verdict_number (BadAxisAt i) = 18
-verdict_number (NoOutcomeAt i) = 19
-verdict_number NoPlace = 20
-verdict_number NoGate = 21
-verdict_number (NotHermitianAt i) = 22
-verdict_number (NotPlainAt i) = 23
-verdict_number TooManyPairs = 24
-verdict_number BadCounts = 25
+abbrev pub refusal_number : Refusal → ℕ
+refusal_number OverLimit = 1
+refusal_number (UnsupportedAt i) = 2
+refusal_number (OperandAt i) = 3
+refusal_number BadStore = 4
+refusal_number (MalformedAt i) = 5
+refusal_number OverCeiling = 6
+refusal_number TooHeavy = 7
+refusal_number ShortBuffer = 8
+refusal_number TooLarge = 9
+refusal_number Malformed = 10
+refusal_number BadLayers = 11
+refusal_number (ClashAt i) = 12
+refusal_number BadText = 13
+refusal_number (UnknownNameAt i) = 14
+refusal_number (NotScheduleAt i) = 15
+refusal_number ZeroBlock = 16
+refusal_number (BadNodeAt i) = 17
+refusal_number (BadAxisAt i) = 18
+refusal_number (NoOutcomeAt i) = 19
+refusal_number NoPlace = 20
+refusal_number NoGate = 21
+refusal_number (NotHermitianAt i) = 22
+refusal_number (NotPlainAt i) = 23
+refusal_number TooManyPairs = 24
+refusal_number BadCounts = 25
 
--- 0 where the verdict names no index
-abbrev pub verdict_index : Verdict → ℕ
-verdict_index Accepted = 0
-verdict_index OverLimit = 0
-verdict_index (UnsupportedAt i) = i
-verdict_index (OperandAt i) = i
-verdict_index BadStore = 0
-verdict_index (MalformedAt i) = i
-verdict_index OverCeiling = 0
-verdict_index TooHeavy = 0
-verdict_index ShortBuffer = 0
-verdict_index TooLarge = 0
-verdict_index Malformed = 0
-verdict_index BadLayers = 0
-verdict_index (ClashAt i) = i
-verdict_index BadText = 0
-verdict_index (UnknownNameAt i) = i
-verdict_index (NotScheduleAt i) = i
-verdict_index ZeroBlock = 0
-verdict_index (BadNodeAt i) = i
-verdict_index (BadAxisAt i) = i
-verdict_index (NoOutcomeAt i) = i
-verdict_index NoPlace = 0
-verdict_index NoGate = 0
-verdict_index (NotHermitianAt i) = i
-verdict_index (NotPlainAt i) = i
-verdict_index TooManyPairs = 0
-verdict_index BadCounts = 0
+-- 0 where the refusal names no index
+abbrev pub refusal_index : Refusal → ℕ
+refusal_index OverLimit = 0
+refusal_index (UnsupportedAt i) = i
+refusal_index (OperandAt i) = i
+refusal_index BadStore = 0
+refusal_index (MalformedAt i) = i
+refusal_index OverCeiling = 0
+refusal_index TooHeavy = 0
+refusal_index ShortBuffer = 0
+refusal_index TooLarge = 0
+refusal_index Malformed = 0
+refusal_index BadLayers = 0
+refusal_index (ClashAt i) = i
+refusal_index BadText = 0
+refusal_index (UnknownNameAt i) = i
+refusal_index (NotScheduleAt i) = i
+refusal_index ZeroBlock = 0
+refusal_index (BadNodeAt i) = i
+refusal_index (BadAxisAt i) = i
+refusal_index (NoOutcomeAt i) = i
+refusal_index NoPlace = 0
+refusal_index NoGate = 0
+refusal_index (NotHermitianAt i) = i
+refusal_index (NotPlainAt i) = i
+refusal_index TooManyPairs = 0
+refusal_index BadCounts = 0
 
-abbrev pub accepted : Verdict → Bool
-accepted v = eqb (verdict_number v) 0
+-- 0 where a call was accepted
+abbrev pub verdict_number : {A : Type 0} → Result A Refusal → ℕ
+verdict_number (Ok x) = 0
+verdict_number (Err r) = refusal_number r
+
+abbrev pub verdict_index : {A : Type 0} → Result A Refusal → ℕ
+verdict_index (Ok x) = 0
+verdict_index (Err r) = refusal_index r

@@ -1,13 +1,12 @@
-// What a call answers: accepted, or a refusal with document 01's number and, where it names one, an index.
+// What a call answers: what it was asked for, or a refusal with document 01's number and, where it names one, an index.
 #![tactic(auto)]
 
 ghost use Rattle.std.specs.Prelude.{◌≡◌};
-ghost use Rattle.verdict.specs.Verdict.{verdict_number, verdict_index, accepted};
+ghost use Rattle.verdict.specs.Verdict.{refusal_number, refusal_index, verdict_number, verdict_index};
 
-// In the order of document 01's numbers, from 0 to 25.
-#[derive(Clone, Copy)]
-pub enum Verdict {
-    Accepted,
+// In the order of document 01's numbers, from 1 to 25.
+#[derive(Clone, Copy, Debug, PartialEq, Eq)]
+pub enum Refusal {
     OverLimit,
     UnsupportedAt(usize),
     OperandAt(usize),
@@ -35,78 +34,79 @@ pub enum Verdict {
     BadCounts,
 }
 
-impl Verdict {
+// The answer of a call that hands nothing back.
+pub type Verdict = Result<(), Refusal>;
+
+impl Refusal {
     pub fn number(self) -> u32
-        ensures { result ≡ verdict_number self }
+        ensures { result ≡ refusal_number self }
     {
         match self {
-            Verdict::Accepted => 0,
-            Verdict::OverLimit => 1,
-            Verdict::UnsupportedAt(_) => 2,
-            Verdict::OperandAt(_) => 3,
-            Verdict::BadStore => 4,
-            Verdict::MalformedAt(_) => 5,
-            Verdict::OverCeiling => 6,
-            Verdict::TooHeavy => 7,
-            Verdict::ShortBuffer => 8,
-            Verdict::TooLarge => 9,
-            Verdict::Malformed => 10,
-            Verdict::BadLayers => 11,
-            Verdict::ClashAt(_) => 12,
-            Verdict::BadText => 13,
-            Verdict::UnknownNameAt(_) => 14,
-            Verdict::NotScheduleAt(_) => 15,
-            Verdict::ZeroBlock => 16,
-            Verdict::BadNodeAt(_) => 17,
-            Verdict::BadAxisAt(_) => 18,
-            Verdict::NoOutcomeAt(_) => 19,
-            Verdict::NoPlace => 20,
-            Verdict::NoGate => 21,
-            Verdict::NotHermitianAt(_) => 22,
-            Verdict::NotPlainAt(_) => 23,
-            Verdict::TooManyPairs => 24,
-            Verdict::BadCounts => 25,
+            Refusal::OverLimit => 1,
+            Refusal::UnsupportedAt(_) => 2,
+            Refusal::OperandAt(_) => 3,
+            Refusal::BadStore => 4,
+            Refusal::MalformedAt(_) => 5,
+            Refusal::OverCeiling => 6,
+            Refusal::TooHeavy => 7,
+            Refusal::ShortBuffer => 8,
+            Refusal::TooLarge => 9,
+            Refusal::Malformed => 10,
+            Refusal::BadLayers => 11,
+            Refusal::ClashAt(_) => 12,
+            Refusal::BadText => 13,
+            Refusal::UnknownNameAt(_) => 14,
+            Refusal::NotScheduleAt(_) => 15,
+            Refusal::ZeroBlock => 16,
+            Refusal::BadNodeAt(_) => 17,
+            Refusal::BadAxisAt(_) => 18,
+            Refusal::NoOutcomeAt(_) => 19,
+            Refusal::NoPlace => 20,
+            Refusal::NoGate => 21,
+            Refusal::NotHermitianAt(_) => 22,
+            Refusal::NotPlainAt(_) => 23,
+            Refusal::TooManyPairs => 24,
+            Refusal::BadCounts => 25,
         }
     }
 
-    // 0 where the verdict names no index.
+    // 0 where the refusal names no index.
     pub fn index(self) -> usize
-        ensures { result ≡ verdict_index self }
+        ensures { result ≡ refusal_index self }
     {
         match self {
-            Verdict::Accepted => 0,
-            Verdict::OverLimit => 0,
-            Verdict::UnsupportedAt(i) => i,
-            Verdict::OperandAt(i) => i,
-            Verdict::BadStore => 0,
-            Verdict::MalformedAt(i) => i,
-            Verdict::OverCeiling => 0,
-            Verdict::TooHeavy => 0,
-            Verdict::ShortBuffer => 0,
-            Verdict::TooLarge => 0,
-            Verdict::Malformed => 0,
-            Verdict::BadLayers => 0,
-            Verdict::ClashAt(i) => i,
-            Verdict::BadText => 0,
-            Verdict::UnknownNameAt(i) => i,
-            Verdict::NotScheduleAt(i) => i,
-            Verdict::ZeroBlock => 0,
-            Verdict::BadNodeAt(i) => i,
-            Verdict::BadAxisAt(i) => i,
-            Verdict::NoOutcomeAt(i) => i,
-            Verdict::NoPlace => 0,
-            Verdict::NoGate => 0,
-            Verdict::NotHermitianAt(i) => i,
-            Verdict::NotPlainAt(i) => i,
-            Verdict::TooManyPairs => 0,
-            Verdict::BadCounts => 0,
+            Refusal::UnsupportedAt(i) => i,
+            Refusal::OperandAt(i) => i,
+            Refusal::MalformedAt(i) => i,
+            Refusal::ClashAt(i) => i,
+            Refusal::UnknownNameAt(i) => i,
+            Refusal::NotScheduleAt(i) => i,
+            Refusal::BadNodeAt(i) => i,
+            Refusal::BadAxisAt(i) => i,
+            Refusal::NoOutcomeAt(i) => i,
+            Refusal::NotHermitianAt(i) => i,
+            Refusal::NotPlainAt(i) => i,
+            _ => 0,
         }
     }
+}
 
-    pub fn is_accepted(self) -> bool
-        ensures { result ≡ accepted self }
-    {
-        let number = self.number();
-        number == 0
+// An answer's number: 0 where the call was accepted.
+pub fn number<T>(answer: &Result<T, Refusal>) -> u32
+    ensures { result ≡ verdict_number answer.now }
+{
+    match answer {
+        Ok(_) => 0,
+        Err(refusal) => refusal.number(),
+    }
+}
+
+// An answer's index: 0 where it names none.
+pub fn index<T>(answer: &Result<T, Refusal>) -> usize
+    ensures { result ≡ verdict_index answer.now }
+{
+    match answer {
+        Ok(_) => 0,
+        Err(refusal) => refusal.index(),
     }
 }

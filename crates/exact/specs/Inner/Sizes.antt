@@ -1,5 +1,5 @@
 -- How large four numerators are, as they stand or over a larger power of two.
-use Rattle.std.specs.Prelude.{ℕ, ◌*◌, ◌-◌, ◌^◌, ◌≤◌, ℤ, pos, nat_abs, ◌*ℤ◌}
+use Rattle.std.specs.Prelude.{ℕ, ◌*◌, ◌-◌, ◌^◌, ◌≤◌, pos, nat_abs, ◌*ℤ◌}
 use Rattle.exact.specs.Exact.{Exact, Number, number, max_numerator, narrow_exponent}
 
 -- each numerator lies from −m to m

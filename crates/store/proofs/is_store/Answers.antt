@@ -1,57 +1,28 @@
--- The invariant: the bytes passed so far are 0 or 1, so the rest decides.
+-- `is_store` meets its contract.
 use mathlib.Core.Path.{◌≡◌, refl, sym, ap, ◌∙◌}
 use mathlib.Core.Bool.{Bool, ◌&&◌}
-use mathlib.Core.List.{List}
-use Prim.Native.Nat.{ℕ, ◌+◌, ◌-◌}
-use native.Mathlib.Omega.{arith}
-use lib.ListN.{length, get_or, drop}
-use borrow.Author.Tests.{le-leb, lt-leb, eq-eqb, ne_eqb}
+use mathlib.Core.List.{List, [], ◌∷◌}
+use Prim.Native.Nat.{ℕ}
+use lib.Dec.{leb}
+use lib.ListN.{length}
+use borrow.Author.Tests.{eq-eqb}
+use Rattle.std.proofs.Common.{rules}
+use Rattle.std.specs.List.{list_all}
+use Rattle.std.proofs.lemmas.Iterator.{YieldsList-from_slice}
+use Rattle.std.proofs.lemmas.Iterator.Search.{all_from_yields_List}
 use Rattle.algebra.specs.Lists.{every}
-use Rattle.store.proofs.Bytes.{every_more, every-none}
-use Rattle.store.proofs.is_store.Invariants.{good}
-use Rattle.store.proofs.is_store.Lts as lts
-use Rattle.store.proofs.is_store.Reads as reads
 use Rattle.store.proofs.is_store.Goals as goal
 
-abbrev After-shared_slice_known-1 : Type 0
-After-shared_slice_known-1 = lts.After-shared_slice_known reads.Pre reads.Post goal.the-invariant-loop-i goal.the-decreases-loop-i
+abbrev good : ℕ → Bool
+good b = leb b 1
 
--- at a byte that is to be tested
-module _ (c : After-shared_slice_known-1) where
-  abbrev σ : List ℕ
-  σ = c.args.store.now
-
-  abbrev at : ℕ
-  at = c.loop-i.i
-
-  more : (b : Bool) → good (get_or σ at 0) ≡ b → every good σ ≡ b && every good (drop (at + 1) σ)
-  more b e =
-      c.loop-i.invariant ∙ every_more good σ at c.loop-i-test.true
-      ∙ ap (λ (t : Bool). t && every good (drop (at + 1) σ)) e
+every_is : (l : List ℕ) → list_all good l ≡ every good l
+every_is [] = refl
+every_is (b ∷ l) = ap (λ (t : Bool). good b && t) (every_is l)
 
 pub returns-then-store-bits : goal.returns-then-store-bits
-returns-then-store-bits c = simp (ne_eqb (length c.args.store.now) c.args.bits c.if-store-bits.true)
-
-pub loop-i-init : goal.loop-i-init
-loop-i-init c = refl
-
-pub bounds-store-i : goal.bounds-store-i
-bounds-store-i c = omega arith
-
-pub returns-then-store-i-gt1 : goal.returns-then-store-i-gt1
-returns-then-store-i-gt1 c =
-    simp (eq-eqb (length c.args.store.now) c.args.bits c.if-store-bits.false) (sym (more c.before.before _ (lt-leb _ 1 c.if-store-i-gt1.true)))
-
-pub overflow_add-i : goal.overflow_add-i
-overflow_add-i c = omega arith
-
-pub loop-i-smaller : goal.loop-i-smaller
-loop-i-smaller c = omega arith
-
-pub loop-i-preserved : goal.loop-i-preserved
-loop-i-preserved c = more c.before.before _ (le-leb _ 1 c.if-store-i-gt1.false)
-
-pub returns : goal.returns
-returns c =
-    simp (eq-eqb (length c.args.store.now) c.args.bits c.if-store-bits.false)
-    (sym (c.loop-i.invariant ∙ every-none good c.args.store.now c.loop-i.i c.loop-i-test.false))
+returns-then-store-bits c =
+    let l = c.args.store.now in
+    all_from_yields_List good _ _ _ c.all.ensures.ran (YieldsList-from_slice l cc) (λ x b q k. search rules)
+    ∙ every_is l
+    ∙ sym (ap (λ (t : Bool). t && every good l) (eq-eqb (length l) c.args.bits c.if-store-bits.true))

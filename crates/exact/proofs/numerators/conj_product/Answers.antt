@@ -88,12 +88,6 @@ overflow_mul-a k = fits (start k).requires (x0 ⊠ y0) tt
 pub overflow_mul-b : goal.overflow_mul-b
 overflow_mul-b k = fits (start k).requires (x1 ⊠ y1) tt
 
-pub overflow_add-c : goal.overflow_add-c
-overflow_add-c k = fits (start k).requires (x0 ⊞ x1) tt
-
-pub overflow_add-c-2 : goal.overflow_add-c-2
-overflow_add-c-2 k = fits (start k).requires (y0 ⊞ y1) tt
-
 pub overflow_mul-c : goal.overflow_mul-c
 overflow_mul-c k = fits (start k).requires ((x0 ⊞ x1) ⊠ (y0 ⊞ y1)) tt
 
@@ -109,12 +103,6 @@ overflow_mul-p k = fits (start k).requires (x2 ⊠ y2) tt
 pub overflow_mul-q : goal.overflow_mul-q
 overflow_mul-q k = fits (start k).requires (x3 ⊠ y3) tt
 
-pub overflow_add-r : goal.overflow_add-r
-overflow_add-r k = fits (start k).requires (x2 ⊞ x3) tt
-
-pub overflow_add-r-2 : goal.overflow_add-r-2
-overflow_add-r-2 k = fits (start k).requires (y2 ⊞ y3) tt
-
 pub overflow_mul-r : goal.overflow_mul-r
 overflow_mul-r k = fits (start k).requires ((x2 ⊞ x3) ⊠ (y2 ⊞ y3)) tt
 
@@ -123,18 +111,6 @@ overflow_sub-r k = fits (start k).requires (((x2 ⊞ x3) ⊠ (y2 ⊞ y3)) ⊞ �
 
 pub overflow_sub-r-2 : goal.overflow_sub-r-2
 overflow_sub-r-2 k = fits (start k).requires ((((x2 ⊞ x3) ⊠ (y2 ⊞ y3)) ⊞ ⊟ p) ⊞ ⊟ q) tt
-
-pub overflow_add-u0 : goal.overflow_add-u0
-overflow_add-u0 k = fits (start k).requires (x0 ⊞ x2) tt
-
-pub overflow_add-u1 : goal.overflow_add-u1
-overflow_add-u1 k = fits (start k).requires (x1 ⊞ x3) tt
-
-pub overflow_sub-v0 : goal.overflow_sub-v0
-overflow_sub-v0 k = fits (start k).requires (y0 ⊞ ⊟ y2) tt
-
-pub overflow_sub-v1 : goal.overflow_sub-v1
-overflow_sub-v1 k = fits (start k).requires (y1 ⊞ ⊟ y3) tt
 
 pub overflow_mul-s : goal.overflow_mul-s
 overflow_mul-s k = fits (start k).requires (u0 ⊠ v0) tt

@@ -1,21 +1,9 @@
 -- `neg4` meets its contract.
 use mathlib.Core.List.{[], ◌∷◌}
 use native.Mathlib.Omega.{arith}
-use Rattle.algebra.proofs.Signed.{neg_fits, neg_back}
+use Rattle.algebra.proofs.Signed.{neg_back}
 use Rattle.exact.specs.Exact.{number_of}
 use Rattle.exact.proofs.numerators.neg4.Goals as goal
-
-pub overflow_sub-result : goal.overflow_sub-result
-overflow_sub-result c = neg_fits (number_of c.args.x).re.re (omega (arith, c.requires.w0))
-
-pub overflow_sub-result-2 : goal.overflow_sub-result-2
-overflow_sub-result-2 c = neg_fits (number_of c.args.x).re.im (omega (arith, c.requires.w1))
-
-pub overflow_sub-result-3 : goal.overflow_sub-result-3
-overflow_sub-result-3 c = neg_fits (number_of c.args.x).im.re (omega (arith, c.requires.w2))
-
-pub overflow_sub-result-4 : goal.overflow_sub-result-4
-overflow_sub-result-4 c = neg_fits (number_of c.args.x).im.im (omega (arith, c.requires.w3))
 
 pub returns : goal.returns
 returns c =

@@ -1,5 +1,5 @@
 -- `can_scale` meets its contract: the bound is shifted, not the numerators.
-use mathlib.Core.Path.{◌≡◌, refl, ap, ◌∙◌}
+use mathlib.Core.Path.{◌≡◌, ap, ◌∙◌}
 use Prim.Native.Nat.{ℕ, ◌/◌, ◌^◌}
 use native.Mathlib.Nat.{div-le_self, lt_of_le_of_lt}
 use lib.Dec.{lit<}
@@ -15,9 +15,6 @@ use Rattle.exact.proofs.ranges.can_scale.Goals as goal
 -- `ROOM_NUMERATOR >> d`
 shifted : (d : ℕ) → to_z w64 (room_numerator / 2 ^ d) ≡ pos (room_numerator / 2 ^ d)
 shifted d = to_z_pos w64 (lt_of_le_of_lt (div-le_self room_numerator (2 ^ d)) (lit< tt))
-
-pub are_within-requires : goal.are_within-requires
-are_within-requires c = rw (shifted c.args.d) refl
 
 pub returns : goal.returns
 returns c =

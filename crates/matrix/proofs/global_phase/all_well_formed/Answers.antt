@@ -1,15 +1,11 @@
 -- `matrix::global_phase::all_well_formed` meets its contract.
-use mathlib.Core.Path.{◌≡◌, refl, sym, ap, ◌∙◌}
-use mathlib.Core.Bool.{true}
-use Prim.Native.Nat.{ℕ, ◌*◌, ◌-◌}
+use mathlib.Core.Path.{◌≡◌, sym, ap, ◌∙◌}
+use Prim.Native.Nat.{ℕ, ◌*◌}
 use native.Mathlib.Omega.{arith}
 use Rattle.algebra.specs.Lists.{all_below}
 use Rattle.algebra.proofs.Tests.{all-step, all_no}
 use Rattle.cells.specs.Cells.{well_formed_at, cell_size}
 use Rattle.matrix.proofs.global_phase.all_well_formed.Goals as goal
-
-pub loop-i-init : goal.loop-i-init
-loop-i-init c = (omega arith, refl)
 
 pub returns-then-not-well_formed_at : goal.returns-then-not-well_formed_at
 returns-then-not-well_formed_at c =
@@ -17,21 +13,9 @@ returns-then-not-well_formed_at c =
 
 pub loop-i-preserved : goal.loop-i-preserved
 loop-i-preserved c =
-    (omega arith, all-step c.loop-i.i _ c.loop-i.invariant.1 (sym c.well_formed_at.ensures ∙ c.if-not-well_formed_at.false))
+    all-step c.loop-i.i _ c.loop-i.invariant (sym c.well_formed_at.ensures ∙ c.if-not-well_formed_at.false)
 
 pub returns : goal.returns
 returns c =
     let e : c.loop-i.i ≡ c.args.n = omega arith in
-    sym (ap (λ (n : ℕ). all_below n (λ (k : ℕ). well_formed_at c.args.s.now (k * cell_size))) (sym e) ∙ c.loop-i.invariant.1)
-
-pub overflow_mul-i : goal.overflow_mul-i
-overflow_mul-i c = omega arith
-
-pub well_formed_at-requires : goal.well_formed_at-requires
-well_formed_at-requires c = omega arith
-
-pub overflow_add-i : goal.overflow_add-i
-overflow_add-i c = omega arith
-
-pub loop-i-smaller : goal.loop-i-smaller
-loop-i-smaller c = omega arith
+    sym (ap (λ (n : ℕ). all_below n (λ (k : ℕ). well_formed_at c.args.s.now (k * cell_size))) (sym e) ∙ c.loop-i.invariant)

@@ -5,8 +5,8 @@ use Prim.Native.Nat.{ℕ}
 use native.Mathlib.Omega.{arith}
 use borrow.Author.Tests.{eq-eqb, ne_eqb}
 use Rattle.algebra.proofs.Tests.{and_split}
-use Rattle.matrix.specs.Phase.{well_formed_matrix, narrow_matrix, answered, phase_answer}
-use Rattle.matrix.proofs.Questions.{square_small, Formed, formed, formed_operands, replied}
+use Rattle.matrix.specs.Phase.{well_formed_matrix, narrow_matrix, phase_answer}
+use Rattle.matrix.proofs.Questions.{square_small, Formed, formed, formed_operands, replied, agreeing}
 use Rattle.matrix.proofs.global_phase.equivalent_up_to_global_phase.Lts as lts
 use Rattle.matrix.proofs.global_phase.equivalent_up_to_global_phase.Reads as reads
 use Rattle.matrix.proofs.global_phase.equivalent_up_to_global_phase.Tie as tie
@@ -79,12 +79,12 @@ narrow_both t = let s = start t.before.before.before in and_split (left_narrow s
 pub returns-then-not-formed : goal.returns-then-not-formed
 returns-then-not-formed c =
     let s = c.args in
-    c.refused_phase.ensures ∙ sym (replied s.left_dim s.left.now s.right_dim s.right.now (sym (both_is c.before.before) ∙ c.if-not-formed.true) refl refl)
+    sym (replied s.left_dim s.left.now s.right_dim s.right.now (sym (both_is c.before) ∙ c.if-not-formed.true) refl refl)
 
 pub returns-then-left_dim-right_dim : goal.returns-then-left_dim-right_dim
 returns-then-left_dim-right_dim c =
     let s = c.args in
-    c.answered.ensures ∙ sym (replied s.left_dim s.left.now s.right_dim s.right.now (passed c.before.before) (ne_eqb s.left_dim s.right_dim c.if-left_dim-right_dim.true) refl)
+    sym (replied s.left_dim s.left.now s.right_dim s.right.now (passed c.before) (ne_eqb s.left_dim s.right_dim c.if-left_dim-right_dim.true) refl)
 
 pub overflow_mul-n : goal.overflow_mul-n
 overflow_mul-n c = let s = c.args in omega (arith, square_small s.left_dim (left-formed c).dim)
@@ -98,8 +98,8 @@ all_narrow-requires-2 c = (omega (arith, (right-formed c.before).long), (right-f
 pub returns-then-not-narrow : goal.returns-then-not-narrow
 returns-then-not-narrow c =
     let s = c.args in
-    c.refused_phase-then-not-narrow.ensures ∙ sym (ap (λ (k : ℕ). phase_answer s.left_dim s.left.now k s.right.now) (sym c.if-left_dim-right_dim.false)
-    ∙ replied s.left_dim s.left.now s.left_dim s.right.now (passed_same c.before.before.before.before) (eq-eqb s.left_dim s.left_dim refl) (sym (narrow-is c.before.before) ∙ c.if-not-narrow.true))
+    sym (ap (λ (k : ℕ). phase_answer s.left_dim s.left.now k s.right.now) (sym c.if-left_dim-right_dim.false)
+    ∙ replied s.left_dim s.left.now s.left_dim s.right.now (passed_same c.before.before.before) (eq-eqb s.left_dim s.left_dim refl) (sym (narrow-is c.before) ∙ c.if-not-narrow.true))
 
 pub in_phase-requires : goal.in_phase-requires
 in_phase-requires c = let p = narrow_both c in (formed_operands (left-formed c.before.before.before) p.0, formed_operands (right-formed c.before.before.before) p.1)
@@ -107,5 +107,5 @@ in_phase-requires c = let p = narrow_both c in (formed_operands (left-formed c.b
 pub returns : goal.returns
 returns c =
     let s = c.args in
-    c.answered-2.ensures ∙ ap answered c.in_phase.ensures ∙ sym (ap (λ (k : ℕ). phase_answer s.left_dim s.left.now k s.right.now) (sym c.if-left_dim-right_dim.false)
+    agreeing c.phase_of.ensures c.in_phase.ensures ∙ sym (ap (λ (k : ℕ). phase_answer s.left_dim s.left.now k s.right.now) (sym c.if-left_dim-right_dim.false)
     ∙ replied s.left_dim s.left.now s.left_dim s.right.now (passed_same c.before.before.before.before.before) (eq-eqb s.left_dim s.left_dim refl) (sym (narrow-is c.before.before.before) ∙ c.if-not-narrow.false))

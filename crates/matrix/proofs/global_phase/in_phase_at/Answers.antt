@@ -52,14 +52,8 @@ ratios-are : (c : After-ratios_same) → c.ratios_same.result ≡ ratios c.befor
 ratios-are c =
     c.ratios_same.ensures ∙ (λ i. equal_ratios c.args.n (left c.before.before.before.before.before) (right c.before.before.before.before.before) (value (c.read_cell-a.ensures i)) (value (c.read_cell-b.ensures i)))
 
-pub overflow_mul-i : goal.overflow_mul-i
-overflow_mul-i c = omega (arith, c.requires.1.0.room)
-
 pub read_cell-a-requires : goal.read_cell-a-requires
 read_cell-a-requires c = (omega (arith, c.requires.1.0.room), c.requires.1.0.exponent c.args.i c.requires.0)
-
-pub overflow_mul-i-2 : goal.overflow_mul-i-2
-overflow_mul-i-2 c = omega (arith, c.requires.1.1.room)
 
 pub read_cell-b-requires : goal.read_cell-b-requires
 read_cell-b-requires c = (omega (arith, c.requires.1.1.room), c.requires.1.1.exponent c.args.i c.requires.0)

@@ -1,5 +1,5 @@
 -- `matrix::identity::identity_into` meets its contract.
-use Prim.Native.Nat.{ℕ, ◌*◌, ◌-◌, ◌/◌, ◌%◌}
+use Prim.Native.Nat.{ℕ, ◌*◌, ◌/◌, ◌%◌}
 use Rattle.algebra.specs.Sum.{δ}
 use Rattle.algebra.proofs.Blocks.{Writing}
 use Rattle.exact.specs.Exact.{exact}
@@ -8,6 +8,3 @@ use Rattle.matrix.proofs.identity.identity_into.Given as goal
 
 abbrev pub invariant-loop-i : goal.invariant-loop-i
 invariant-loop-i l = Writing cell_size l.initial.buf l.at (l.d * l.d) (λ (i : ℕ). cell_words (δ exact (i / l.d) (i % l.d))) l.buf l.i
-
-abbrev pub decreases-loop-i : goal.decreases-loop-i
-decreases-loop-i l = l.d * l.d - l.i

@@ -14,8 +14,8 @@ returns-then-zero_at c =
 
 pub times-requires : goal.times-requires
 times-requires c =
-    (c.requires.0, subst (λ (v : Scalar). Coords 1 narrow_exponent (value v)) (sym c.read_cell-b.ensures) c.requires.1.coords)
+    (c.requires.0, subst (λ (v : Scalar). Coords 1 narrow_exponent (value v)) (sym c.read_cell.ensures) c.requires.1.coords)
 
 pub returns : goal.returns
 returns c =
-    ap value c.times.ensures ∙ (λ i. exact.◌⊗◌ (value c.args.x) (value (c.read_cell-b.ensures i)))
+    ap value c.times.ensures ∙ (λ i. exact.◌⊗◌ (value c.args.x) (value (c.read_cell.ensures i)))

@@ -1,41 +1,17 @@
 -- `matrix::words::copy` meets its contract.
 use mathlib.Core.Path.{◌∙◌}
-use Prim.Native.Nat.{◌+◌, ◌*◌, ◌-◌}
+use Prim.Native.Nat.{◌+◌, ◌*◌}
 use native.Mathlib.Nat.{le_refl}
 use native.Mathlib.Omega.{arith}
 use lib.ListN.{get_or}
 use lib.IntN.{pos}
 use Rattle.algebra.specs.Inner.Apart.{Apart}
-use Rattle.algebra.proofs.Blocks.{begin, again_word, done, long, kept, narrow}
+use Rattle.algebra.proofs.Blocks.{begin, again_word, done, kept, narrow}
 use Rattle.algebra.proofs.Signed.{reads}
 use Rattle.matrix.proofs.words.copy.Goals as goal
 
 pub loop-i-init : goal.loop-i-init
 loop-i-init c = begin (λ k. le_refl 1)
-
-pub overflow_add-x : goal.overflow_add-x
-overflow_add-x c = omega arith
-
-pub offset_bounds-s-from : goal.offset_bounds-s-from
-offset_bounds-s-from c = omega arith
-
-pub slice_copy_out-x : goal.slice_copy_out-x
-slice_copy_out-x c = omega (arith, long c.loop-i.invariant)
-
-pub overflow_add-x-in-loop-i : goal.overflow_add-x-in-loop-i
-overflow_add-x-in-loop-i c = omega arith
-
-pub offset_bounds-s-to : goal.offset_bounds-s-to
-offset_bounds-s-to c = omega arith
-
-pub bounds-s-to : goal.bounds-s-to
-bounds-s-to c = omega (arith, long c.loop-i.invariant)
-
-pub overflow_add-i : goal.overflow_add-i
-overflow_add-i c = omega arith
-
-pub loop-i-smaller : goal.loop-i-smaller
-loop-i-smaller c = omega arith
 
 pub loop-i-preserved : goal.loop-i-preserved
 loop-i-preserved c =
@@ -43,10 +19,7 @@ loop-i-preserved c =
     let i = c.loop-i.i in
     let apart : Apart b.from b.n b.to (b.n * 1) = narrow _ _ _ _ b.from b.n b.to (b.n * 1) c.requires.1.1 (omega arith) (omega arith) (omega arith) (omega arith) in
     let same = (kept c.loop-i.invariant b.from b.n apart).word (b.from + i) (omega arith) (omega arith) in
-    again_word (λ k. get_or b.s.now (b.from + k) (pos 0)) c.loop-i.invariant c.loop-i-test.true (reads _ c.x-1.given ∙ same)
-
-pub shape_of-s : goal.shape_of-s
-shape_of-s c = long c.loop-i.invariant
+    again_word (λ k. get_or b.s.now (b.from + k) (pos 0)) c.loop-i.invariant c.loop-i-test.true (reads _ c.s-1.given ∙ same)
 
 pub returns : goal.returns
 returns c = done c.loop-i.invariant c.loop-i-test.false

@@ -1,13 +1,14 @@
 -- `matrix::words::is_zero` meets its contract.
-use mathlib.Core.Path.{ap, ◌∙◌}
+use Rattle.std.specs.Prelude.{Option, is_some}
+use mathlib.Core.Path.{◌≡◌, ap, sym, ◌∙◌}
+use mathlib.Core.Bool.{Bool, true, false, not}
 use Prim.Native.Nat.{ℕ}
-use native.Mathlib.Omega.{arith}
-use lib.Dec.{eqb}
-use Rattle.matrix.proofs.First.{first-all}
+use Rattle.matrix.proofs.First.{none-all}
 use Rattle.matrix.proofs.words.is_zero.Goals as goal
 
-pub first_nonzero-i-requires : goal.first_nonzero-i-requires
-first_nonzero-i-requires c = (omega arith, c.requires)
+turned : (a b : Bool) → a ≡ not b → b ≡ not a
+turned a true e = sym (ap not e)
+turned a false e = sym (ap not e)
 
 pub returns : goal.returns
-returns c = let s = c.args in ap (λ (i : ℕ). eqb i s.n) c.first_nonzero-i.ensures ∙ first-all s.n _
+returns c = turned _ _ c.is_none.ensures ∙ ap (λ (o : Option ℕ). not (is_some o)) c.first_nonzero.ensures ∙ none-all c.args.n _

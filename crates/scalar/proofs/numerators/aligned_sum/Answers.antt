@@ -8,14 +8,11 @@ use Rattle.exact.proofs.Align.{aligned}
 use Rattle.scalar.specs.Calls.{scalar_of}
 use Rattle.scalar.proofs.numerators.aligned_sum.Goals as goal
 
-pub sum4-s-requires : goal.sum4-s-requires
-sum4-s-requires c = (rw c.scaled4-p.ensures c.requires.1.1.0, c.requires.1.1.1)
-
 pub returns : goal.returns
 returns c =
     let f = c.args.f in
     let y = number_of c.args.y in
     c.reduce.ensures
-    ∙ ap (λ (l : List ℤ). scalar_of (lowest (number_of l) f)) c.sum4-s.ensures
-    ∙ ap (λ (l : List ℤ). scalar_of (lowest (numbers.◌⊕◌ (number_of l) y) f)) c.scaled4-p.ensures
+    ∙ ap (λ (l : List ℤ). scalar_of (lowest (number_of l) f)) c.sum4.ensures
+    ∙ ap (λ (l : List ℤ). scalar_of (lowest (numbers.◌⊕◌ (number_of l) y) f)) c.scaled4.ensures
     ∙ ap scalar_of (aligned (frac (number_of c.args.x) c.args.e) (frac y f) c.requires.0)
