@@ -1,4 +1,5 @@
 -- A call accepts exactly where every answer is yes; and what the answers to the questions of the gates say.
+use Rattle.std.specs.Prelude.{is_ok}
 use mathlib.Core.Path.{◌≡◌, refl, sym, ◌∙◌}
 use mathlib.Core.Bool.{Bool, true, false, ◌&&◌}
 use mathlib.Core.List.{[], List, ◌∷◌}
@@ -9,19 +10,16 @@ use borrow.Author.Tests.{leb-true}
 use Rattle.algebra.specs.Lists.{All, every}
 use Rattle.algebra.proofs.Tests.{and_split}
 use Rattle.algebra.proofs.Lists.{all_append}
-use Rattle.verdict.specs.Verdict.{accepted}
 use Rattle.verdict.specs.Questions.{Question, first_no}
-use Rattle.verdict.proofs.Questions.{yes, Refuses, all_yes}
+use Rattle.verdict.proofs.Questions.{yes, all_yes}
 use Rattle.gate.specs.declared.judge.Asking.{Asking}
 use Rattle.gate.specs.declared.judge.Asking.TheVariants.{Channel, Unitary, Placing}
-use Rattle.gate.specs.Gate.{Gate, gate_size, gates_of, formed, placed, supported}
+use Rattle.gate.specs.Gate.{Gate, gate_size, formed, placed, supported}
 use Rattle.gate.specs.Questions.{gate_questions}
 use Rattle.gate.specs.Inner.Entries.{valid}
 use Rattle.circuit.specs.declared.limits.Limits.{Limits}
 use Rattle.circuit.specs.Limits.{matrix_ceilings, branch_ceilings}
-use Rattle.circuit.specs.Footprint.{footprint_of}
-use Rattle.circuit.specs.Questions.{gates_questions, word_questions, number_questions, channel_questions, channel_verdict, unitary_questions, unitary_verdict}
-use Rattle.circuit.proofs.AlongGates.{gates_refuse}
+use Rattle.circuit.specs.Questions.{gates_questions, word_questions, channel_questions, channel_verdict, unitary_questions, unitary_verdict}
 
 -- ---- gates
 pub gates-valid : (n m i : ℕ) (gs : List Gate) → every yes (gates_questions (Channel m) n i gs) ≡ every (valid n m) gs
@@ -51,26 +49,19 @@ module _ (p : ℕ → Bool) (four : p 4 ≡ true) (five : p 5 ≡ true) (six : p
 
 -- ---- circuit_channel
 module _ (n m : ℕ) (l : Limits) (ws : List ℕ) where
-  pub words_refuse : All Refuses (word_questions n m l ws)
-  words_refuse = (refl, (refl, (refl, gates_refuse (Channel m) n 0 (gates_of ws))))
-
   -- what acceptance of the words says of the limits
-  pub words-low : accepted (first_no (word_questions n m l ws)) ≡ true → ((matrix_ceilings l && branch_ceilings l) ≡ true) × (length ws / gate_size ≤ l.max_operations)
+  pub words-low : is_ok (first_no (word_questions n m l ws)) ≡ true → ((matrix_ceilings l && branch_ceilings l) ≡ true) × (length ws / gate_size ≤ l.max_operations)
   words-low e =
-      let all : every yes (word_questions n m l ws) ≡ true = sym (all_yes (word_questions n m l ws) words_refuse) ∙ e in
+      let all : every yes (word_questions n m l ws) ≡ true = sym (all_yes tt (word_questions n m l ws)) ∙ e in
       let q1 = and_split (matrix_ceilings l && branch_ceilings l) _ all in
       let q2 = and_split (eqb (length ws % gate_size) 0) _ q1.1 in
       let q3 = and_split (leb (length ws / gate_size) l.max_operations) _ q2.1 in
       (q1.0, leb-true _ _ q3.0)
 
 pub channel_accepts : (n m : ℕ) (σ : List ℕ) (l : Limits) (ws : List ℕ) (result work : ℕ)
-    → accepted (channel_verdict n m σ l ws result work) ≡ every yes (channel_questions n m σ l ws result work)
-channel_accepts n m σ l ws result work =
-    all_yes (channel_questions n m σ l ws result work)
-    (all_append Refuses (word_questions n m l ws) (number_questions (footprint_of m (gates_of ws)) n m σ l result work) (words_refuse n m l ws) (refl, (refl, (refl, (refl, tt)))))
+    → is_ok (channel_verdict n m σ l ws result work) ≡ every yes (channel_questions n m σ l ws result work)
+channel_accepts n m σ l ws result work = all_yes tt (channel_questions n m σ l ws result work)
 
 -- ---- circuit_unitary
-pub unitary-accepts : (n : ℕ) (l : Limits) (ws : List ℕ) (result work : ℕ) → accepted (unitary_verdict n l ws result work) ≡ every yes (unitary_questions n l ws result work)
-unitary-accepts n l ws result work =
-    all_yes (unitary_questions n l ws result work)
-    (refl, (refl, (refl, all_append Refuses (gates_questions Unitary n 0 (gates_of ws)) _ (gates_refuse Unitary n 0 (gates_of ws)) (refl, (refl, tt)))))
+pub unitary-accepts : (n : ℕ) (l : Limits) (ws : List ℕ) (result work : ℕ) → is_ok (unitary_verdict n l ws result work) ≡ every yes (unitary_questions n l ws result work)
+unitary-accepts n l ws result work = all_yes tt (unitary_questions n l ws result work)

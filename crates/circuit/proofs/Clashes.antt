@@ -1,4 +1,5 @@
--- The questions of the layers: each refuses, and those of the gates are answered by yes exactly where nothing clashes.
+-- The questions of the layers: those of the gates are answered by yes exactly where nothing clashes.
+use Rattle.std.specs.Prelude.{is_ok}
 use mathlib.Core.Path.{◌≡◌, refl, sym, ap, ◌∙◌}
 use mathlib.Core.Bool.{Bool, true, not, ◌&&◌}
 use mathlib.Core.List.{List, [], ◌∷◌, ◌++◌}
@@ -7,23 +8,15 @@ use lib.ListN.{length}
 use Rattle.algebra.specs.Lists.{All, every, some}
 use Rattle.algebra.proofs.Tests.{and_split}
 use Rattle.algebra.proofs.Lists.{all_append}
-use Rattle.verdict.specs.Verdict.{accepted}
 use Rattle.verdict.specs.Questions.{Question}
-use Rattle.verdict.proofs.Questions.{yes, Refuses, all_yes, every_append}
+use Rattle.verdict.proofs.Questions.{yes, all_yes, every_append}
 use Rattle.gate.specs.Gate.{Gate, gates_of}
 use Rattle.circuit.specs.declared.limits.Limits.{Limits}
 use Rattle.circuit.specs.Footprint.{footprint_of}
 use Rattle.circuit.specs.Questions.{word_questions, number_questions, channel_verdict}
 use Rattle.circuit.specs.Layers.{closing, Fired, fired, clash, clash_questions, layer_questions, layered_questions, layered_verdict}
-use Rattle.circuit.proofs.Answers.{words_refuse, channel_accepts}
+use Rattle.circuit.proofs.Answers.{channel_accepts}
 use Rattle.circuit.proofs.Pairs.{free}
-
-clashes_refuse : (before : List Fired) (i : ℕ) (gs : List Fired) → All Refuses (clash_questions before i gs)
-clashes_refuse before i [] = tt
-clashes_refuse before i (g ∷ gs) = (refl, clashes_refuse (g ∷ before) (suc i) gs)
-
-pub layers_refuse : (ends : List ℕ) (gs : List Gate) → All Refuses (layer_questions ends gs)
-layers_refuse ends gs = (refl, clashes_refuse [] 0 (fired ends 0 gs))
 
 -- all of question 12 is answered by yes exactly where nothing clashes
 pub clashes_free : (before : List Fired) (i : ℕ) (gs : List Fired) → every yes (clash_questions before i gs) ≡ free clash before gs
@@ -41,24 +34,22 @@ module _ (n m : ℕ) (σ : List ℕ) (l : Limits) (ws ends : List ℕ) (result w
   abbrev numbers : List Question
   numbers = number_questions (footprint_of m (gates_of ws)) n m σ l result work
 
-  pub layered-yes : accepted (layered_verdict n m σ l ws ends result work) ≡ every yes (layered_questions n m σ l ws ends result work)
-  layered-yes =
-      all_yes (layered_questions n m σ l ws ends result work)
-      (all_append Refuses words (layers ++ numbers) (words_refuse n m l ws) (all_append Refuses layers numbers (layers_refuse ends (gates_of ws)) (refl, (refl, (refl, (refl, tt))))))
+  pub layered-yes : is_ok (layered_verdict n m σ l ws ends result work) ≡ every yes (layered_questions n m σ l ws ends result work)
+  layered-yes = all_yes tt (layered_questions n m σ l ws ends result work)
 
   -- what acceptance says of the words, the layers and the numbers
-  accepted_parts : accepted (layered_verdict n m σ l ws ends result work) ≡ true → (every yes words ≡ true) × ((every yes layers ≡ true) × (every yes numbers ≡ true))
+  accepted_parts : is_ok (layered_verdict n m σ l ws ends result work) ≡ true → (every yes words ≡ true) × ((every yes layers ≡ true) × (every yes numbers ≡ true))
   accepted_parts e =
       let (p, q) = and_split (every yes words) (every yes layers && every yes numbers)
       (sym (layered-yes ∙ every_append words (layers ++ numbers) ∙ ap (λ (b : Bool). every yes words && b) (every_append layers numbers)) ∙ e) in
       (p, and_split (every yes layers) (every yes numbers) q)
 
   -- the gate list of an accepted layered circuit is accepted too
-  pub layered-accepts : accepted (layered_verdict n m σ l ws ends result work) ≡ true → accepted (channel_verdict n m σ l ws result work) ≡ true
+  pub layered-accepts : is_ok (layered_verdict n m σ l ws ends result work) ≡ true → is_ok (channel_verdict n m σ l ws result work) ≡ true
   layered-accepts e = let a = accepted_parts e in channel_accepts n m σ l ws result work ∙ every_append words numbers ∙ (λ i. a.0 i && a.1.1 i)
 
   -- no two gates of a layer of an accepted layered circuit clash
-  pub layered-free : accepted (layered_verdict n m σ l ws ends result work) ≡ true → free clash [] (fired ends 0 (gates_of ws)) ≡ true
+  pub layered-free : is_ok (layered_verdict n m σ l ws ends result work) ≡ true → free clash [] (fired ends 0 (gates_of ws)) ≡ true
   layered-free e =
       sym (clashes_free [] 0 (fired ends 0 (gates_of ws)))
       ∙ (and_split (closing (length (gates_of ws)) 0 ends) (every yes (clash_questions [] 0 (fired ends 0 (gates_of ws)))) (accepted_parts e).1.0).1

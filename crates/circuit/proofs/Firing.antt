@@ -1,5 +1,6 @@
 -- The loops over layers: ends that close, the gates before a gate, and the first gate that clashes.
-use mathlib.Core.Path.{◌≡◌, refl, sym, ap, ◌∙◌, subst}
+use Rattle.std.specs.Prelude.{Ok, Err}
+use mathlib.Core.Path.{◌≡◌, refl, sym, ap, ◌∙◌}
 use mathlib.Core.Bool.{Bool, true, false, cond, not, ◌&&◌, ◌||◌}
 use mathlib.Core.List.{List, [], ◌∷◌}
 use Prim.Native.Nat.{ℕ, zero, suc, ◌+◌, ◌-◌, ◌*◌, ◌/◌, ◌≤◌, ◌<◌}
@@ -12,8 +13,8 @@ use lib.Seq.{drop-cons}
 use borrow.Author.Tests.{le-leb, lt-leb, eq-eqb, ne_eqb, eqb-true, ltb-true, lt-ltb, le-ltb}
 use Rattle.algebra.specs.Lists.{some}
 use Rattle.algebra.proofs.Tests.{and_split}
-use Rattle.verdict.specs.declared.Verdict.{Verdict}
-use Rattle.verdict.specs.declared.Verdict.TheVariants.{Accepted, BadLayers, ClashAt}
+use Rattle.verdict.specs.Questions.{Verdict}
+use Rattle.verdict.specs.declared.Refusal.TheVariants.{BadLayers, ClashAt}
 use Rattle.verdict.specs.Questions.{first_no}
 use Rattle.gate.specs.Gate.{Gate, gate_size, gate_at, gates_from, gates_of}
 use Rattle.gate.proofs.Listed.{gates-length}
@@ -43,14 +44,31 @@ module _ (count : ℕ) where
 
 -- ---- the gates before a gate
 module _ (p : ℕ → Bool) where
-  pub any_more : (from j : ℕ) → from < j → any_from from (j - from) p ≡ p (j - 1) || any_from from (j - 1 - from) p
-  any_more from j l =
-      let e : j - from ≡ suc (j - 1 - from) = omega arith in
-      let f : from + (j - 1 - from) ≡ j - 1 = omega arith in
-      ap (λ (n : ℕ). any_from from n p) e ∙ ap (λ (k : ℕ). p k || any_from from (j - 1 - from) p) f
+  pub any_none : (from : ℕ) → any_from from (from - from) p ≡ false
+  any_none from = let e : from - from ≡ 0 = omega arith in ap (λ (n : ℕ). any_from from n p) e
 
-  pub any_none : (from j : ℕ) → j ≤ from → any_from from (j - from) p ≡ false
-  any_none from j l = let e : j - from ≡ 0 = omega arith in ap (λ (n : ℕ). any_from from n p) e
+  -- one more at which it does not hold
+  pub any_more : (from j : ℕ) → from ≤ j → any_from from (j - from) p ≡ false → p j ≡ false → any_from from (j + 1 - from) p ≡ false
+  any_more from j l h k =
+      let e : j + 1 - from ≡ suc (j - from) = omega arith in
+      let f : from + (j - from) ≡ j = omega arith in
+      ap (λ (n : ℕ). any_from from n p) e ∙ (λ i. (ap p f ∙ k) i || h i)
+
+  any_at : (from n k : ℕ) → k < n → p (from + k) ≡ true → any_from from n p ≡ true
+  any_at from zero k l h = absurd (omega arith)
+  any_at from (suc n) k l h = go (dec_lt k n) (λ m. any_at from n k m h)
+    where
+      or-true : (b : Bool) → b || true ≡ true
+      or-true true = refl
+      or-true false = refl
+
+      go : Dec (k < n) → (k < n → any_from from n p ≡ true) → any_from from (suc n) p ≡ true
+      go (yes m) r = ap (λ (b : Bool). p (from + n) || b) (r m) ∙ or-true (p (from + n))
+      go (no m) r = let e : k ≡ n = omega arith in ap (λ (b : Bool). b || any_from from n p) (ap (λ (k : ℕ). p (from + k)) (sym e) ∙ h)
+
+  -- one at which it holds
+  pub any_found : (from j end : ℕ) → from ≤ j → j < end → p j ≡ true → any_from from (end - from) p ≡ true
+  any_found from j end l m h = let e : from + (j - from) ≡ j = omega arith in any_at from (end - from) (j - from) (omega arith) (ap p e ∙ h)
 
   any_false : (n : ℕ) → ((j : ℕ) → j < n → p j ≡ false) → any_from 0 n p ≡ false
   any_false zero h = refl
@@ -181,10 +199,10 @@ module _ (ws ends : List ℕ) where
   -- from gate i on, n gates
   clash-from : (n i : ℕ) (before : List Fired) → ((q : Fired → Bool) → some q before ≡ any_from 0 i (λ (j : ℕ). q (at j)))
       → first_no (clash_questions before i (fired ends i (gates_from ws i n)))
-      ≡ cond (ltb (first_from i n (clashes_at ws ends)) (i + n)) (ClashAt (first_from i n (clashes_at ws ends))) Accepted
-  clash-from zero i before h = ap (λ (b : Bool). cond b (ClashAt i) Accepted) (sym (le-ltb i (i + 0) (omega arith)))
+      ≡ cond (ltb (first_from i n (clashes_at ws ends)) (i + n)) (Err (ClashAt (first_from i n (clashes_at ws ends)))) (Ok tt)
+  clash-from zero i before h = ap (λ (b : Bool). cond b (Err (ClashAt i)) (Ok tt)) (sym (le-ltb i (i + 0) (omega arith)))
   clash-from (suc n) i before h =
-      ap (λ (b : Bool). cond (not b) rest (ClashAt i)) (h (clash (at i)))
+      ap (λ (b : Bool). cond (not b) rest (Err (ClashAt i))) (h (clash (at i)))
       ∙ go (clashes_at ws ends i) (clash-from n (suc i) (at i ∷ before) more)
     where
       rest : Verdict
@@ -193,29 +211,29 @@ module _ (ws ends : List ℕ) where
       more : (q : Fired → Bool) → some q (at i ∷ before) ≡ any_from 0 (suc i) (λ (j : ℕ). q (at j))
       more q = let e : i ≡ 0 + i = omega arith in λ k. q (at (e k)) || h q k
 
-      go : (b : Bool) → rest ≡ cond (ltb (first_from (suc i) n (clashes_at ws ends)) (suc i + n)) (ClashAt (first_from (suc i) n (clashes_at ws ends))) Accepted
-          → cond (not b) rest (ClashAt i) ≡ cond (ltb (cond b i (first_from (suc i) n (clashes_at ws ends))) (i + suc n)) (ClashAt (cond b i (first_from (suc i) n (clashes_at ws ends)))) Accepted
-      go true r = ap (λ (t : Bool). cond t (ClashAt i) Accepted) (sym (lt-ltb i (i + suc n) (omega arith)))
+      go : (b : Bool) → rest ≡ cond (ltb (first_from (suc i) n (clashes_at ws ends)) (suc i + n)) (Err (ClashAt (first_from (suc i) n (clashes_at ws ends)))) (Ok tt)
+          → cond (not b) rest (Err (ClashAt i)) ≡ cond (ltb (cond b i (first_from (suc i) n (clashes_at ws ends))) (i + suc n)) (Err (ClashAt (cond b i (first_from (suc i) n (clashes_at ws ends))))) (Ok tt)
+      go true r = ap (λ (t : Bool). cond t (Err (ClashAt i)) (Ok tt)) (sym (lt-ltb i (i + suc n) (omega arith)))
       go false r =
           let e : suc i + n ≡ i + suc n = omega arith in
-          r ∙ ap (λ (k : ℕ). cond (ltb (first_from (suc i) n (clashes_at ws ends)) k) (ClashAt (first_from (suc i) n (clashes_at ws ends))) Accepted) e
+          r ∙ ap (λ (k : ℕ). cond (ltb (first_from (suc i) n (clashes_at ws ends)) k) (Err (ClashAt (first_from (suc i) n (clashes_at ws ends)))) (Ok tt)) e
 
   abbrev gates : List Gate
   gates = gates_of ws
 
-  pub ends_bad : closing (length ws / gate_size) 0 ends ≡ false → BadLayers ≡ first_no (layer_questions ends gates)
-  ends_bad e = sym (ap (λ (b : Bool). cond b (first_no (clash_questions [] 0 (fired ends 0 gates))) BadLayers) (ap (λ (k : ℕ). closing k 0 ends) (gates-length ws 0 (length ws / gate_size)) ∙ e))
+  pub ends_bad : closing (length ws / gate_size) 0 ends ≡ false → Err BadLayers ≡ first_no (layer_questions ends gates)
+  ends_bad e = sym (ap (λ (b : Bool). cond b (first_no (clash_questions [] 0 (fired ends 0 gates))) (Err BadLayers)) (ap (λ (k : ℕ). closing k 0 ends) (gates-length ws 0 (length ws / gate_size)) ∙ e))
 
   module _ (e : closing (length ws / gate_size) 0 ends ≡ true) {r : ℕ} (found : r ≡ first_from 0 (length ws / gate_size) (clashes_at ws ends)) where
-    by-clash : first_no (layer_questions ends gates) ≡ cond (ltb r (length ws / gate_size)) (ClashAt r) Accepted
+    by-clash : first_no (layer_questions ends gates) ≡ cond (ltb r (length ws / gate_size)) (Err (ClashAt r)) (Ok tt)
     by-clash =
         let z : 0 + length ws / gate_size ≡ length ws / gate_size = omega arith in
-        ap (λ (b : Bool). cond b (first_no (clash_questions [] 0 (fired ends 0 gates))) BadLayers) (ap (λ (k : ℕ). closing k 0 ends) (gates-length ws 0 (length ws / gate_size)) ∙ e)
+        ap (λ (b : Bool). cond b (first_no (clash_questions [] 0 (fired ends 0 gates))) (Err BadLayers)) (ap (λ (k : ℕ). closing k 0 ends) (gates-length ws 0 (length ws / gate_size)) ∙ e)
         ∙ clash-from (length ws / gate_size) 0 [] (λ q. refl)
-        ∙ (λ i. cond (ltb (sym found i) (z i)) (ClashAt (sym found i)) Accepted)
+        ∙ (λ i. cond (ltb (sym found i) (z i)) (Err (ClashAt (sym found i))) (Ok tt))
 
-    pub clash-at : r < length ws / gate_size → ClashAt r ≡ first_no (layer_questions ends gates)
-    clash-at l = sym (by-clash ∙ ap (λ (b : Bool). cond b (ClashAt r) Accepted) (lt-ltb r (length ws / gate_size) l))
+    pub clash-at : r < length ws / gate_size → Err (ClashAt r) ≡ first_no (layer_questions ends gates)
+    clash-at l = sym (by-clash ∙ ap (λ (b : Bool). cond b (Err (ClashAt r)) (Ok tt)) (lt-ltb r (length ws / gate_size) l))
 
-    pub no_clash : length ws / gate_size ≤ r → Accepted ≡ first_no (layer_questions ends gates)
-    no_clash l = sym (by-clash ∙ ap (λ (b : Bool). cond b (ClashAt r) Accepted) (le-ltb r (length ws / gate_size) l))
+    pub no_clash : length ws / gate_size ≤ r → Ok tt ≡ first_no (layer_questions ends gates)
+    no_clash l = sym (by-clash ∙ ap (λ (b : Bool). cond b (Err (ClashAt r)) (Ok tt)) (le-ltb r (length ws / gate_size) l))

@@ -1,4 +1,5 @@
 -- The questions of numbers, by their answers: those that the code asks first tell whether the sizes are small enough to be worked out.
+use Rattle.std.specs.Prelude.{Ok, Err}
 use mathlib.Core.Path.{◌≡◌, refl, sym, ap, ◌∙◌}
 use mathlib.Core.Bool.{Bool, true, false, cond, ◌&&◌, and-false, true≢false}
 use mathlib.Core.List.{List, [], ◌∷◌}
@@ -10,8 +11,7 @@ use lib.Pow.{pow_mono}
 use borrow.Author.Tests.{leb-true, leb-false, lt-leb}
 use Rattle.algebra.specs.Lists.{total}
 use Rattle.algebra.proofs.Tests.{and_split}
-use Rattle.verdict.specs.declared.Verdict.{Verdict}
-use Rattle.verdict.specs.declared.Verdict.TheVariants.{Accepted, OverLimit, BadStore, MalformedAt, OverCeiling, TooHeavy, ShortBuffer}
+use Rattle.verdict.specs.declared.Refusal.TheVariants.{OverLimit, BadStore, MalformedAt, OverCeiling, TooHeavy, ShortBuffer}
 use Rattle.verdict.specs.Questions.{Question, question, first_no}
 use Rattle.gate.specs.declared.judge.Asking.TheVariants.{Channel}
 use Rattle.gate.specs.Gate.{gate_size, gates_of, weight, max_weight}
@@ -95,20 +95,20 @@ module _ (l : Limits) where
 -- ---- questions 7 to 10, by their answers
 pub four_answers : (f : Footprint) (n m : ℕ) (σ : List ℕ) (l : Limits) (result work : ℕ) {a b c d : Bool}
     → store_fits m σ ≡ a → within_limits f n m l ≡ b → leb f.weight max_weight ≡ c → room_for (sizes_of f n) result work ≡ d
-    → cond a (cond b (cond c (cond d Accepted ShortBuffer) TooHeavy) OverLimit) BadStore ≡ first_no (number_questions f n m σ l result work)
-four_answers f n m σ l result work p q r s = sym (λ i. cond (p i) (cond (q i) (cond (r i) (cond (s i) Accepted ShortBuffer) TooHeavy) OverLimit) BadStore)
+    → cond a (cond b (cond c (cond d (Ok tt) (Err ShortBuffer)) (Err TooHeavy)) (Err OverLimit)) (Err BadStore) ≡ first_no (number_questions f n m σ l result work)
+four_answers f n m σ l result work p q r s = sym (λ i. cond (p i) (cond (q i) (cond (r i) (cond (s i) (Ok tt) (Err ShortBuffer)) (Err TooHeavy)) (Err OverLimit)) (Err BadStore))
 
 -- ---- questions 1 to 3, by their answers
 pub three_answers : (n m : ℕ) (l : Limits) (ws : List ℕ) {a b c : Bool}
     → (matrix_ceilings l && branch_ceilings l) ≡ a → eqb (length ws % gate_size) 0 ≡ b → leb (length ws / gate_size) l.max_operations ≡ c
-    → cond a (cond b (cond c (first_no (gates_questions (Channel m) n 0 (gates_of ws))) OverLimit) (MalformedAt 0)) OverCeiling ≡ first_no (word_questions n m l ws)
-three_answers n m l ws p q r = sym (λ i. cond (p i) (cond (q i) (cond (r i) (first_no (gates_questions (Channel m) n 0 (gates_of ws))) OverLimit) (MalformedAt 0)) OverCeiling)
+    → cond a (cond b (cond c (first_no (gates_questions (Channel m) n 0 (gates_of ws))) (Err OverLimit)) (Err (MalformedAt 0))) (Err OverCeiling) ≡ first_no (word_questions n m l ws)
+three_answers n m l ws p q r = sym (λ i. cond (p i) (cond (q i) (cond (r i) (first_no (gates_questions (Channel m) n 0 (gates_of ws))) (Err OverLimit)) (Err (MalformedAt 0))) (Err OverCeiling))
 
 -- ---- circuit_unitary
 pub unitary_answers : (n : ℕ) (l : Limits) (ws : List ℕ) (result work : ℕ) {a b c : Bool}
     → matrix_ceilings l ≡ a → eqb (length ws % gate_size) 0 ≡ b → unitary_within n (length ws / gate_size) l ≡ c
-    → cond a (cond b (cond c (first_no (matrix_questions n ws result work)) OverLimit) (MalformedAt 0)) OverCeiling ≡ unitary_verdict n l ws result work
-unitary_answers n l ws result work p q r = sym (λ i. cond (p i) (cond (q i) (cond (r i) (first_no (matrix_questions n ws result work)) OverLimit) (MalformedAt 0)) OverCeiling)
+    → cond a (cond b (cond c (first_no (matrix_questions n ws result work)) (Err OverLimit)) (Err (MalformedAt 0))) (Err OverCeiling) ≡ unitary_verdict n l ws result work
+unitary_answers n l ws result work p q r = sym (λ i. cond (p i) (cond (q i) (cond (r i) (first_no (matrix_questions n ws result work)) (Err OverLimit)) (Err (MalformedAt 0))) (Err OverCeiling))
 
 module _ (n : ℕ) (l : Limits) (G : ℕ) where
   abbrev pub few_gates : Bool
@@ -146,10 +146,10 @@ module _ (n : ℕ) (ws : List ℕ) (result work : ℕ) where
   last_questions = question 9 (leb (total weight (gates_of ws)) max_weight) TooHeavy ∷ question 10 (unitary_room (2 ^ n) result work) ShortBuffer ∷ []
 
   pub last_answers : {f : Footprint} {a b : Bool} → f ≡ footprint_of 0 (gates_of ws) → leb f.weight max_weight ≡ a → unitary_room (2 ^ n) result work ≡ b
-      → cond a (cond b Accepted ShortBuffer) TooHeavy ≡ first_no last_questions
+      → cond a (cond b (Ok tt) (Err ShortBuffer)) (Err TooHeavy) ≡ first_no last_questions
   last_answers e p q =
       let w = ap (λ (f : Footprint). leb f.weight max_weight) (sym e) ∙ p in
-      sym (λ i. cond (w i) (cond (q i) Accepted ShortBuffer) TooHeavy)
+      sym (λ i. cond (w i) (cond (q i) (Ok tt) (Err ShortBuffer)) (Err TooHeavy))
 
   pub room-found : {d : ℕ} {t u : Bool} → d ≡ 2 ^ n → t ≡ unitary_room d result work → t ≡ u → unitary_room (2 ^ n) result work ≡ u
   room-found h f e = ap (λ (d : ℕ). unitary_room d result work) (sym h) ∙ sym f ∙ e

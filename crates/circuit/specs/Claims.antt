@@ -1,6 +1,6 @@
 -- Examples of circuits, with document 01's verdicts on them.
 use Rattle.std.specs.Prelude.{Bool, ◌&&◌, List, [], ◌∷◌, ◌++◌, ℕ, zero, suc, ◌^◌, eqb, replicate}
-use Rattle.verdict.specs.declared.Verdict.{Verdict}
+use Rattle.verdict.specs.Questions.{Verdict}
 use Rattle.circuit.specs.Limits.{ceilings}
 use Rattle.verdict.specs.Verdict.{verdict_number, verdict_index}
 use Rattle.circuit.specs.Questions.{channel_verdict}

@@ -1,8 +1,8 @@
 -- A layered circuit: a gate list and the ends of its layers, each the count of gates so far.
 use Rattle.std.specs.Prelude.{Bool, cond, not, ◌&&◌, List, [], ◌∷◌, ◌++◌, ℕ, suc, eqb, leb, ltb, length}
 use Rattle.algebra.specs.Lists.{some, total}
-use Rattle.verdict.specs.declared.Verdict.{Verdict}
-use Rattle.verdict.specs.declared.Verdict.TheVariants.{BadLayers, ClashAt}
+use Rattle.verdict.specs.Questions.{Verdict}
+use Rattle.verdict.specs.declared.Refusal.TheVariants.{BadLayers, ClashAt}
 use Rattle.verdict.specs.Questions.{Question, question, first_no}
 use Rattle.gate.specs.Gate.{Gate, gates_of, share}
 use Rattle.circuit.specs.declared.limits.Limits.{Limits}

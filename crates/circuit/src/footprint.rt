@@ -24,14 +24,11 @@ pub struct Footprint {
 fn is_written(words: &[u32], from: usize, bit: u32) -> bool
     ensures { result ≡ some (λ (g : Gate). writes g bit) (gates_from words.now from (length words.now / gate_size - from)) }
 {
-    let count = words.len() / GATE;
-    let mut i = from;
-    while i < count {
+    for i in from..words.len() / GATE {
         let g = read_gate(words, i * GATE);
         if g.writes(bit) {
             return true;
         }
-        i += 1;
     }
     false
 }
@@ -40,16 +37,11 @@ fn is_written(words: &[u32], from: usize, bit: u32) -> bool
 fn newly_written(words: &[u32], from: usize, g: GateWords, bits: u32) -> u64
     ensures { result ≡ newly bits (gate_of g) (gates_from words.now from (length words.now / gate_size - from)) }
 {
-    let bit = g.b;
-    if g.kind == MEASURE {
-        if bit < bits {
-            if is_written(words, from, bit) {
-                return 0;
-            }
-            return 1;
-        }
+    if g.kind == MEASURE && g.b < bits && !is_written(words, from, g.b) {
+        1
+    } else {
+        0
     }
-    0
 }
 
 impl Footprint {
@@ -60,19 +52,17 @@ impl Footprint {
         let mut splits: u64 = 0;
         let mut written: u64 = 0;
         let mut weight: u64 = 0;
-        let mut i = 0;
-        while i < count {
+        for i in 0..count {
             let g = read_gate(words, i * GATE);
-            i += 1;
             splits += g.splits();
-            written += newly_written(words, i, g, bits);
+            written += newly_written(words, i + 1, g, bits);
             weight += g.weight();
         }
         Footprint {
             gates: count as u64,
-            splits: splits,
-            written: written,
-            weight: weight,
+            splits,
+            written,
+            weight,
         }
     }
 }

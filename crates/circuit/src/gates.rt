@@ -12,16 +12,9 @@ use verdict::Verdict;
 pub fn judge_gates(words: &[u32], n: u32, asking: Asking) -> Verdict
     ensures { result ≡ first_no (gates_questions asking n 0 (gates_of words.now)) }
 {
-    let count = words.len() / GATE;
-    let mut i = 0;
-    while i < count {
+    for i in 0..words.len() / GATE {
         let g = read_gate(words, i * GATE);
-        let v = g.judge(i, n, asking);
-        if v.is_accepted() {
-            i += 1;
-        } else {
-            return v;
-        }
+        g.judge(i, n, asking)?;
     }
-    Verdict::Accepted
+    Ok(())
 }

@@ -7,21 +7,18 @@ ghost use Rattle.circuit.specs.Inner.Firing.{first_from, shares_from, clashes_at
 
 use gate::GATE;
 use gate::judge::read_gate;
-use verdict::Verdict;
+use verdict::{Refusal, Verdict};
 
 // Whether the ends rise strictly from at least 1 and close at the gate count.
 fn are_closing(ends: &[u32], count: usize) -> bool
     ensures { result ≡ closing count 0 ends.now }
 {
     let mut last = 0;
-    let mut i = 0;
-    while i < ends.len() {
-        let e = ends[i];
+    for &e in ends {
         if e <= last {
             return false;
         }
         last = e;
-        i += 1;
     }
     last as usize == count
 }
@@ -32,9 +29,7 @@ fn shares_from(words: &[u32], start: usize, i: usize) -> bool
     ensures { result ≡ shares_from words.now start i }
 {
     let g = read_gate(words, i * GATE);
-    let mut j = i;
-    while start < j {
-        j -= 1;
+    for j in start..i {
         let h = read_gate(words, j * GATE);
         if g.shares(h) {
             return true;
@@ -48,14 +43,12 @@ fn clash_in(words: &[u32], start: usize, end: usize) -> usize
     requires { (start ≤ end) × (end ≤ length words.now / gate_size) }
     ensures { result ≡ first_from start (end - start) (shares_from words.now start) }
 {
-    let mut i = start;
-    while i < end {
+    for i in start..end {
         if shares_from(words, start, i) {
             return i;
         }
-        i += 1;
     }
-    i
+    end
 }
 
 // The first gate that shares with an earlier one of its layer; the gate count where none does.
@@ -64,15 +57,13 @@ fn first_clash(words: &[u32], ends: &[u32]) -> usize
     ensures { result ≡ first_from 0 (length words.now / gate_size) (clashes_at words.now ends.now) }
 {
     let mut start = 0;
-    let mut t = 0;
-    while t < ends.len() {
-        let end = ends[t] as usize;
+    for &e in ends {
+        let end = e as usize;
         let i = clash_in(words, start, end);
         if i < end {
             return i;
         }
         start = end;
-        t += 1;
     }
     start
 }
@@ -83,11 +74,11 @@ pub fn judge_layers(words: &[u32], ends: &[u32]) -> Verdict
 {
     let count = words.len() / GATE;
     if !are_closing(ends, count) {
-        return Verdict::BadLayers;
+        return Err(Refusal::BadLayers);
     }
     let i = first_clash(words, ends);
     if i < count {
-        return Verdict::ClashAt(i);
+        return Err(Refusal::ClashAt(i));
     }
-    Verdict::Accepted
+    Ok(())
 }

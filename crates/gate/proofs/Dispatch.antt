@@ -15,7 +15,7 @@ use Rattle.gate.specs.Inner.Kinds.{one_qubit, splitting, controlled_once, contro
 use Rattle.gate.specs.Operators.{Small, operator, operators, no_unitary, controlled, swapped, identity, operator_at}
 use Rattle.gate.specs.Embed.{embed, gate_entry}
 use Rattle.gate.specs.Questions.{on_qubits}
-use Rattle.gate.specs.Inner.Entries.{valid, Table, table_of, core_of, small_of, unitary_of, target_of, Ready, Apart2, Apart3}
+use Rattle.gate.specs.Inner.Entries.{valid, table_of, core_of, small_of, unitary_of, target_of, Ready, Apart2, Apart3}
 use Rattle.gate.proofs.Gate.{elem_in}
 use Rattle.gate.proofs.Placed.{one_table, two-table, three-table}
 use Rattle.gate.proofs.Questions.{on_one, on-two, on-three}

@@ -1,14 +1,14 @@
 -- The rows of a gate's matrix as masks choose them: the controls' bits first, then the bits that the gate may change.
-use mathlib.Core.Path.{◌≡◌, refl, sym, ap, ap₂, ◌∙◌, subst}
+use mathlib.Core.Path.{◌≡◌, refl, sym, ap, ◌∙◌, subst}
 use mathlib.Core.Logic.{◌≢◌}
-use mathlib.Core.Bool.{Bool, true, false, cond, ◌&&◌, ◌||◌, or-false}
+use mathlib.Core.Bool.{Bool, true, false, cond, ◌||◌, or-false}
 use mathlib.Core.List.{List, [], ◌∷◌}
 use Prim.Native.Nat.{ℕ, zero, suc, ◌+◌, ◌-◌, ◌*◌, ◌/◌, ◌%◌, ◌^◌, ◌≤◌, ◌<◌}
 use native.Mathlib.Nat.{mod-lt}
 use native.Mathlib.Decide.{ℕ_discrete}
 use native.Mathlib.Omega.{arith}
 use lib.Bits.{bit_and, bit_xor, and_zero_r}
-use lib.Dec.{T, eqb, eqb→eq}
+use lib.Dec.{T, eqb}
 use lib.ListN.{length, get_or}
 use lib.Pow.{pow_mono}
 use borrow.Author.Tests.{eqb-false, eq-eqb, ne_eqb}
@@ -26,7 +26,7 @@ use Rattle.gate.proofs.Gate.{elem_in}
 use Rattle.gate.proofs.Embedding.{respects_identity}
 use Rattle.gate.proofs.Placed.{embed-controlled, embed-swap}
 use Rattle.gate.proofs.Dispatch.{one-kinds, two-kinds, three-kinds, three_else, one_on, two-on, three-on, one_entry, controlled_core, controlled-entry, swap-entry, twice_controlled_core, twice_controlled_entry, controlled-swap-entry}
-use Rattle.gate.proofs.Partner.{Two, small, changed, one-two, swap-two, control_two, single-own, single-other}
+use Rattle.gate.proofs.Partner.{Two, small, changed, one-two, swap-two, single-own, single-other}
 
 -- ---- facts by computation
 pub shift_is : (w : ℕ) → w < 5 → 1 * 2 ^ w % 2 ^ 64 ≡ 2 ^ w

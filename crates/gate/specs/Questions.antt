@@ -1,7 +1,7 @@
 -- The questions of one gate, by the call that asks them.
 use Rattle.std.specs.Prelude.{Bool, ◌&&◌, List, [], ◌∷◌, ℕ, eqb, ltb}
 use Rattle.algebra.specs.Lists.{every}
-use Rattle.verdict.specs.declared.Verdict.TheVariants.{UnsupportedAt, OperandAt, MalformedAt}
+use Rattle.verdict.specs.declared.Refusal.TheVariants.{UnsupportedAt, OperandAt, MalformedAt}
 use Rattle.verdict.specs.Questions.{Question, question}
 use Rattle.gate.specs.declared.judge.Asking.{Asking}
 use Rattle.gate.specs.declared.judge.Asking.TheVariants.{Channel, Unitary, Placing}

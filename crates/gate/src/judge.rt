@@ -7,10 +7,10 @@ ghost use Rattle.gate.specs.Inner.Words.{gate_of};
 ghost use Rattle.gate.specs.Questions.{three_answers, on_qubits, gate_questions};
 
 use crate::{LAST_KIND, MEASURE, RESET, RZ};
-use verdict::Verdict;
+use verdict::{Refusal, Verdict};
 
 // The five words of a gate.
-#[derive(Clone, Copy)]
+#[derive(Clone, Copy, Debug, PartialEq, Eq)]
 pub struct GateWords {
     pub kind: u32,
     pub a: u32,
@@ -20,7 +20,7 @@ pub struct GateWords {
 }
 
 // Which call asks: circuit_channel, with its bit count; circuit_unitary; or judge_schedule, with its bit count, which leaves question 6 to the other two.
-#[derive(Clone, Copy)]
+#[derive(Clone, Copy, Debug, PartialEq, Eq)]
 pub enum Asking {
     Channel(u32),
     Unitary,
@@ -193,14 +193,14 @@ impl GateWords {
 fn first_fault(i: usize, formed: bool, placed: bool, supported: bool) -> Verdict
     ensures { result ≡ first_no (three_answers i formed placed supported) }
 {
-    if formed {
-        if placed {
-            if supported {
-                return Verdict::Accepted;
-            }
-            return Verdict::UnsupportedAt(i);
-        }
-        return Verdict::OperandAt(i);
+    if !formed {
+        return Err(Refusal::MalformedAt(i));
     }
-    Verdict::MalformedAt(i)
+    if !placed {
+        return Err(Refusal::OperandAt(i));
+    }
+    if !supported {
+        return Err(Refusal::UnsupportedAt(i));
+    }
+    Ok(())
 }

@@ -116,13 +116,11 @@ pub fn write_rows(buf: &mut [i64], at: usize, n: u32, d: usize, g: GateWords, j:
     let low = pair_of(u, 0);
     let high = pair_of(u, 1);
     let held = controls(g, n, j);
-    let mut r = 0;
-    while r < d {
+    for r in 0..d {
         let p = row_pair(low, high, held, m, r);
         let to = at + r * 2 * CELL;
         let next = at + (r * 2 + 1) * CELL;
         write_cell(buf, to, p.own);
         write_cell(buf, next, p.other);
-        r += 1;
     }
 }

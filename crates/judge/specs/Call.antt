@@ -1,11 +1,10 @@
 -- A call of circuit_channel: its verdict, and what it leaves in the two buffers.
-use Rattle.std.specs.Prelude.{Bool, cond, List, ℕ, length, replicate, ℤ, pos}
+use Rattle.std.specs.Prelude.{Bool, cond, List, ℕ, length, replicate, ℤ, pos, is_ok}
 use Rattle.gate.specs.Gate.{gates_of}
 use Rattle.circuit.specs.declared.limits.Limits.{Limits}
-use Rattle.verdict.specs.declared.Verdict.{Verdict}
+use Rattle.verdict.specs.Questions.{Verdict}
 use Rattle.circuit.specs.Footprint.{footprint_of}
 use Rattle.circuit.specs.Sizes.{work_words}
-use Rattle.verdict.specs.Verdict.{accepted}
 use Rattle.verdict.specs.Questions.{Question, first_no}
 use Rattle.circuit.specs.Questions.{sizes_of, channel_questions}
 use Rattle.collect.specs.Delivered.{overwritten}
@@ -24,7 +23,7 @@ module _ (n m : ℕ) (σ : List ℕ) (l : Limits) (ws : List ℕ) (r w : List �
   verdict_of = first_no asked
 
   abbrev pub accepts : Bool
-  accepts = accepted verdict_of
+  accepts = is_ok verdict_of
 
   -- accepted: the words of the channel, then what the buffer held; refused: as it was
   abbrev pub result_after : List ℤ

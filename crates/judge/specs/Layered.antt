@@ -1,7 +1,6 @@
 -- A call of layered_channel: the questions of its layers come after those of its gates; accepted, it leaves what circuit_channel leaves for its gate list.
-use Rattle.std.specs.Prelude.{Bool, cond, List, ℕ, length, ℤ}
-use Rattle.verdict.specs.declared.Verdict.{Verdict}
-use Rattle.verdict.specs.Verdict.{accepted}
+use Rattle.std.specs.Prelude.{Bool, cond, List, ℕ, length, ℤ, is_ok}
+use Rattle.verdict.specs.Questions.{Verdict}
 use Rattle.circuit.specs.declared.limits.Limits.{Limits}
 use Rattle.circuit.specs.Layers.{layered_verdict}
 use Rattle.judge.specs.Call.{result_after, work_after}
@@ -12,7 +11,7 @@ module _ (n m : ℕ) (σ : List ℕ) (l : Limits) (ws ends : List ℕ) (r w : Li
   layered_verdict_of = layered_verdict n m σ l ws ends (length r) (length w)
 
   abbrev pub layered_accepts : Bool
-  layered_accepts = accepted layered_verdict_of
+  layered_accepts = is_ok layered_verdict_of
 
   abbrev pub layered_result : List ℤ
   layered_result = cond layered_accepts (result_after n m σ l ws r w) r

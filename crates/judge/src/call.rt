@@ -56,14 +56,12 @@ pub fn circuit_channel(
 {
     let r = res.len();
     let w = work.len();
-    let j = judge_circuit(qubits, bits, store, limits, gates, r as u64, w as u64);
-    let v = j.verdict;
-    if v.is_accepted() {
-        run_and_deliver(j.splits, qubits, bits, store, gates, res, work);
-    }
-    v
+    let split_count = judge_circuit(qubits, bits, store, limits, gates, r as u64, w as u64)?;
+    run_and_deliver(split_count, qubits, bits, store, gates, res, work);
+    Ok(())
 }
 
+// Kept: a twin of `circuit_channel` but for its judge; they share `run_and_deliver`, and a function of what is left would be no plainer.
 // The channel of a layered circuit: `ends` are the ends of its layers, each the count of gates so far. A refusal leaves both buffers as they were.
 pub fn layered_channel(
     qubits: u32,
@@ -81,10 +79,7 @@ pub fn layered_channel(
 {
     let r = res.len();
     let w = work.len();
-    let judged = judge_layered(qubits, bits, store, limits, gates, ends, r as u64, w as u64);
-    let verdict = judged.verdict;
-    if verdict.is_accepted() {
-        run_and_deliver(judged.splits, qubits, bits, store, gates, res, work);
-    }
-    verdict
+    let split_count = judge_layered(qubits, bits, store, limits, gates, ends, r as u64, w as u64)?;
+    run_and_deliver(split_count, qubits, bits, store, gates, res, work);
+    Ok(())
 }

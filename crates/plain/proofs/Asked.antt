@@ -1,4 +1,5 @@
 -- The questions of the profile: where a gate outside it is named, and what they say besides the questions of circuit_channel.
+use Rattle.std.specs.Prelude.{is_ok, Ok, Err}
 use mathlib.Core.Path.{◌≡◌, refl, sym, ap, ap₂, ◌∙◌, subst}
 use mathlib.Core.Bool.{Bool, true, false, cond, not, ◌&&◌, ◌||◌, true≢false}
 use mathlib.Core.List.{List, [], ◌∷◌, ◌++◌}
@@ -7,14 +8,13 @@ use native.Mathlib.Omega.{arith}
 use lib.Dec.{eqb, leb, ltb}
 use lib.ListN.{length}
 use borrow.Author.Tests.{lt-ltb, le-ltb}
-use Rattle.algebra.specs.Lists.{All, every}
+use Rattle.algebra.specs.Lists.{every}
 use Rattle.algebra.proofs.Tests.{and_split, and_no, or_right}
-use Rattle.algebra.proofs.Lists.{all_append}
-use Rattle.verdict.specs.declared.Verdict.{Verdict}
-use Rattle.verdict.specs.declared.Verdict.TheVariants.{Accepted, OverLimit, MalformedAt, OverCeiling, NotPlainAt}
-use Rattle.verdict.specs.Verdict.{verdict_index, accepted}
+use Rattle.verdict.specs.Questions.{Verdict}
+use Rattle.verdict.specs.declared.Refusal.TheVariants.{OverLimit, MalformedAt, OverCeiling, NotPlainAt}
+use Rattle.verdict.specs.Verdict.{verdict_index}
 use Rattle.verdict.specs.Questions.{Question, question, first_by, first_no}
-use Rattle.verdict.proofs.Questions.{yes, Refuses, first_append, append_yes, append_no, every_append, all_yes}
+use Rattle.verdict.proofs.Questions.{yes, first_append, append_yes, append_no, every_append, all_yes}
 use Rattle.gate.specs.declared.judge.Asking.TheVariants.{Channel}
 use Rattle.gate.specs.Gate.{Gate, gate_size, gate_at, gates_from, gates_of, formed, placed, supported}
 use Rattle.gate.specs.Questions.{three_answers, gate_questions}
@@ -23,7 +23,6 @@ use Rattle.circuit.specs.Limits.{matrix_ceilings, branch_ceilings}
 use Rattle.circuit.specs.Footprint.{footprint_of}
 use Rattle.circuit.specs.Questions.{gates_questions, length_questions, word_questions, number_questions, channel_questions, channel_verdict}
 use Rattle.circuit.specs.Inner.Firing.{first_from}
-use Rattle.circuit.proofs.AlongGates.{gate-refuses}
 use Rattle.circuit.proofs.Answers.{channel_accepts}
 use Rattle.plain.specs.Profile.{in_profile}
 use Rattle.plain.specs.Questions.{profile_questions, plain_word_questions, plain_questions, plain_verdict}
@@ -32,10 +31,10 @@ use Rattle.plain.specs.Inner.Outside.{outside, first_outside}
 -- ---- a gate outside the profile is named where it stands before the gate that is refused
 -- p is the first of c gates that is outside, c where none is; v is the verdict on them
 abbrev pub before : ℕ → ℕ → Verdict → Bool
-before p c v = ltb p c && (accepted v || ltb p (verdict_index v))
+before p c v = ltb p c && (is_ok v || ltb p (verdict_index v))
 
 abbrev pub settled : ℕ → ℕ → Verdict → Verdict
-settled p c v = cond (before p c v) (NotPlainAt p) v
+settled p c v = cond (before p c v) (Err (NotPlainAt p)) v
 
 -- ---- the verdict on a list of gates: a refusal names one of them
 gate-index : (i : ℕ) (a b c : Bool) → every yes (three_answers i a b c) ≡ false → verdict_index (first_no (three_answers i a b c)) ≡ i
@@ -61,14 +60,14 @@ module _ (n m : ℕ) where
   named : (i : ℕ) (g : Gate) → every yes (asked i g) ≡ false → verdict_index (first_no (asked i g)) ≡ i
   named i g = gate-index i (formed g) (placed n m g) (supported g)
 
-  gates-index : (i : ℕ) (gs : List Gate) → accepted (on_gates i gs) ≡ false → i ≤ verdict_index (on_gates i gs)
+  gates-index : (i : ℕ) (gs : List Gate) → is_ok (on_gates i gs) ≡ false → i ≤ verdict_index (on_gates i gs)
   gates-index i [] e = absurd (true≢false e)
   gates-index i (g ∷ gs) e = go (every yes (asked i g)) refl (gates-index (suc i) gs)
     where
-      go : (b : Bool) → every yes (asked i g) ≡ b → (accepted (on_gates (suc i) gs) ≡ false → suc i ≤ verdict_index (on_gates (suc i) gs)) → i ≤ verdict_index (on_gates i (g ∷ gs))
+      go : (b : Bool) → every yes (asked i g) ≡ b → (is_ok (on_gates (suc i) gs) ≡ false → suc i ≤ verdict_index (on_gates (suc i) gs)) → i ≤ verdict_index (on_gates i (g ∷ gs))
       go true f r =
           let p = first_passes i g gs f in
-          let l : suc i ≤ verdict_index (on_gates (suc i) gs) = r (ap accepted (sym p) ∙ e) in
+          let l : suc i ≤ verdict_index (on_gates (suc i) gs) = r (ap is_ok (sym p) ∙ e) in
           subst (λ (v : Verdict). i ≤ verdict_index v) (sym p) (omega arith)
       go false f r = let q : verdict_index (on_gates i (g ∷ gs)) ≡ i = ap verdict_index (first-refuses i g gs f) ∙ named i g f in omega arith
 
@@ -82,7 +81,7 @@ module _ (n m : ℕ) where
         go false h = omega arith
 
     profile_verdict : (k i : ℕ) → first_no (profile_questions n m i (gates_from ws i k)) ≡ settled (first_from i k (outside ws)) (i + k) (on_gates i (gates_from ws i k))
-    profile_verdict zero i = sym (ap (λ (b : Bool). cond (b && (true || ltb i 0)) (NotPlainAt i) Accepted) (le-ltb i (i + 0) (omega arith)))
+    profile_verdict zero i = sym (ap (λ (b : Bool). cond (b && (true || ltb i 0)) (Err (NotPlainAt i)) (Ok tt)) (le-ltb i (i + 0) (omega arith)))
     profile_verdict (suc k) i = go (every yes (asked i g)) refl (profile_verdict k (suc i))
       where
         g : Gate
@@ -109,35 +108,35 @@ module _ (n m : ℕ) where
         -- the gate itself is refused
         refused : every yes (asked i g) ≡ false → before f (i + suc k) v ≡ false
         refused e =
-            let a : accepted v ≡ false = ap accepted (first-refuses i g gs e) ∙ all_yes (asked i g) (gate-refuses (Channel m) n i g) ∙ e in
+            let a : is_ok v ≡ false = ap is_ok (first-refuses i g gs e) ∙ all_yes tt (asked i g) ∙ e in
             let j : verdict_index v ≡ i = ap verdict_index (first-refuses i g gs e) ∙ named i g e in
-            and_no (ltb f (i + suc k)) (accepted v || ltb f (verdict_index v)) (λ t. a t || le-ltb f (verdict_index v) (omega (arith, first-from i (suc k))) t)
+            and_no (ltb f (i + suc k)) (is_ok v || ltb f (verdict_index v)) (λ t. a t || le-ltb f (verdict_index v) (omega (arith, first-from i (suc k))) t)
 
         -- it is outside the profile, and stands before whatever gate is refused
         stands : every yes (asked i g) ≡ true → before i (i + suc k) v ≡ true
-        stands e = λ t. lt-ltb i (i + suc k) (omega arith) t && later (accepted (on_gates (suc i) gs)) refl t
+        stands e = λ t. lt-ltb i (i + suc k) (omega arith) t && later (is_ok (on_gates (suc i) gs)) refl t
           where
             same : v ≡ on_gates (suc i) gs
             same = first_passes i g gs e
 
-            later : (b : Bool) → accepted (on_gates (suc i) gs) ≡ b → (accepted v || ltb i (verdict_index v)) ≡ true
-            later true f = ap (λ (b : Bool). b || ltb i (verdict_index v)) (ap accepted same ∙ f)
+            later : (b : Bool) → is_ok (on_gates (suc i) gs) ≡ b → (is_ok v || ltb i (verdict_index v)) ≡ true
+            later true f = ap (λ (b : Bool). b || ltb i (verdict_index v)) (ap is_ok same ∙ f)
             later false f =
                 let l : suc i ≤ verdict_index (on_gates (suc i) gs) = gates-index (suc i) gs f in
-                or_right (accepted v) (ltb i (verdict_index v)) (ap (λ (u : Verdict). ltb i (verdict_index u)) same ∙ lt-ltb i (verdict_index (on_gates (suc i) gs)) (omega arith))
+                or_right (is_ok v) (ltb i (verdict_index v)) (ap (λ (u : Verdict). ltb i (verdict_index u)) same ∙ lt-ltb i (verdict_index (on_gates (suc i) gs)) (omega arith))
 
         passed : every yes (asked i g) ≡ true → first_no rest ≡ settled p (suc i + k) (on_gates (suc i) gs) → (b : Bool)
-            → cond b (first_no rest) (NotPlainAt i) ≡ settled (cond (not b) i p) (i + suc k) v
+            → cond b (first_no rest) (Err (NotPlainAt i)) ≡ settled (cond (not b) i p) (i + suc k) v
         passed e r true =
             let c : suc i + k ≡ i + suc k = omega arith in
             r ∙ ap₂ (settled p) c (sym (first_passes i g gs e))
-        passed e r false = sym (ap (λ (b : Bool). cond b (NotPlainAt i) v) (stands e))
+        passed e r false = sym (ap (λ (b : Bool). cond b (Err (NotPlainAt i)) v) (stands e))
 
         go : (b : Bool) → every yes (asked i g) ≡ b → first_no rest ≡ settled p (suc i + k) (on_gates (suc i) gs)
             → first_no (asked i g ++ (q ∷ rest)) ≡ settled f (i + suc k) v
         go false e r =
             append_no _ _ (asked i g) (q ∷ rest) e ∙ sym (first-refuses i g gs e)
-            ∙ sym (ap (λ (b : Bool). cond b (NotPlainAt f) v) (refused e))
+            ∙ sym (ap (λ (b : Bool). cond b (Err (NotPlainAt f)) v) (refused e))
         go true e r = append_yes _ _ (asked i g) (q ∷ rest) e ∙ passed e r (in_profile g)
 
 -- ---- the words
@@ -170,19 +169,15 @@ words-settled n m l ws = go (every yes asks_length) refl
         ∙ ap₂ (settled p) c (sym (append_yes _ _ asks_length asks_gates e))
     go false e =
         let same : first_no (asks_length ++ asks_gates) ≡ first_no asks_length = append_no _ _ asks_length asks_gates e in
-        let a : accepted (first_no (asks_length ++ asks_gates)) ≡ false = ap accepted same ∙ all_yes asks_length (refl, (refl, (refl, tt))) ∙ e in
+        let a : is_ok (first_no (asks_length ++ asks_gates)) ≡ false = ap is_ok same ∙ all_yes tt asks_length ∙ e in
         let j : verdict_index (first_no (asks_length ++ asks_gates)) ≡ 0 = ap verdict_index same
         ∙ length-index (matrix_ceilings l && branch_ceilings l) (eqb (length ws % gate_size) 0) (leb (length ws / gate_size) l.max_operations) e in
         append_no _ _ asks_length (profile_questions n m 0 (gates_of ws)) e ∙ sym same
-        ∙ sym (ap (λ (b : Bool). cond b (NotPlainAt p) (first_no (asks_length ++ asks_gates)))
-        (and_no (ltb p (length ws / gate_size)) (accepted (first_no (asks_length ++ asks_gates)) || ltb p (verdict_index (first_no (asks_length ++ asks_gates))))
+        ∙ sym (ap (λ (b : Bool). cond b (Err (NotPlainAt p)) (first_no (asks_length ++ asks_gates)))
+        (and_no (ltb p (length ws / gate_size)) (is_ok (first_no (asks_length ++ asks_gates)) || ltb p (verdict_index (first_no (asks_length ++ asks_gates))))
         (λ t. a t || le-ltb p (verdict_index (first_no (asks_length ++ asks_gates))) (omega arith) t)))
 
 -- ---- besides the questions of circuit_channel they ask whether each gate is in the profile
-profile_refuses : (n m i : ℕ) (gs : List Gate) → All Refuses (profile_questions n m i gs)
-profile_refuses n m i [] = tt
-profile_refuses n m i (g ∷ gs) = all_append Refuses (gate_questions (Channel m) n i g) (question 23 (in_profile g) (NotPlainAt i) ∷ profile_questions n m (suc i) gs) (gate-refuses (Channel m) n i g) (refl, profile_refuses n m (suc i) gs)
-
 profile_yes : (n m i : ℕ) (gs : List Gate) → every yes (profile_questions n m i gs) ≡ every in_profile gs && every yes (gates_questions (Channel m) n i gs)
 profile_yes n m i [] = refl
 profile_yes n m i (g ∷ gs) =
@@ -198,22 +193,22 @@ profile_yes n m i (g ∷ gs) =
     shuffle false true false d = refl
     shuffle false false c d = refl
 
+abbrev refused_by : Question → Verdict
+refused_by q = Err q.refusal
+
 -- gates that are all in the profile: 23 decides nothing
 profile_same : (n m i : ℕ) (gs : List Gate) → every in_profile gs ≡ true → (z : Verdict)
-    → first_by (λ (q : Question). q.refusal) z (profile_questions n m i gs) ≡ first_by (λ (q : Question). q.refusal) z (gates_questions (Channel m) n i gs)
+    → first_by refused_by z (profile_questions n m i gs) ≡ first_by refused_by z (gates_questions (Channel m) n i gs)
 profile_same n m i [] e z = refl
 profile_same n m i (g ∷ gs) e z =
     let (p, r) = and_split (in_profile g) (every in_profile gs) e in
-    first_append _ z (gate_questions (Channel m) n i g) (question 23 (in_profile g) (NotPlainAt i) ∷ profile_questions n m (suc i) gs)
-    ∙ ap (λ (u : Verdict). first_by (λ (q : Question). q.refusal) u (gate_questions (Channel m) n i g))
-    (ap (λ (b : Bool). cond b (first_by (λ (q : Question). q.refusal) z (profile_questions n m (suc i) gs)) (NotPlainAt i)) p ∙ profile_same n m (suc i) gs r z)
-    ∙ sym (first_append _ z (gate_questions (Channel m) n i g) (gates_questions (Channel m) n (suc i) gs))
+    first_append refused_by z (gate_questions (Channel m) n i g) (question 23 (in_profile g) (NotPlainAt i) ∷ profile_questions n m (suc i) gs)
+    ∙ ap (λ (u : Verdict). first_by refused_by u (gate_questions (Channel m) n i g))
+    (ap (λ (b : Bool). cond b (first_by refused_by z (profile_questions n m (suc i) gs)) (Err (NotPlainAt i))) p ∙ profile_same n m (suc i) gs r z)
+    ∙ sym (first_append refused_by z (gate_questions (Channel m) n i g) (gates_questions (Channel m) n (suc i) gs))
 
 -- ---- the whole call
 module _ (n m : ℕ) (l : Limits) (ws : List ℕ) where
-  pub plain-words_refuse : All Refuses (plain_word_questions n m l ws)
-  plain-words_refuse = (refl, (refl, (refl, profile_refuses n m 0 (gates_of ws))))
-
   words-yes : every yes (plain_word_questions n m l ws) ≡ every in_profile (gates_of ws) && every yes (word_questions n m l ws)
   words-yes =
       every_append (length_questions l ws) (profile_questions n m 0 (gates_of ws)) ∙ ap (λ (b : Bool). every yes (length_questions l ws) && b) (profile_yes n m 0 (gates_of ws))
@@ -231,15 +226,15 @@ module _ (n m : ℕ) (l : Limits) (ws : List ℕ) where
     numbers = number_questions (footprint_of m (gates_of ws)) n m σ l result work
 
     -- where the words pass, all is asked that circuit_channel asks
-    pub as_channel : accepted (first_no (plain_word_questions n m l ws)) ≡ true → plain_verdict n m σ l ws result work ≡ channel_verdict n m σ l ws result work
+    pub as_channel : is_ok (first_no (plain_word_questions n m l ws)) ≡ true → plain_verdict n m σ l ws result work ≡ channel_verdict n m σ l ws result work
     as_channel e =
-        let all : every yes (plain_word_questions n m l ws) ≡ true = sym (all_yes (plain_word_questions n m l ws) plain-words_refuse) ∙ e in
+        let all : every yes (plain_word_questions n m l ws) ≡ true = sym (all_yes tt (plain_word_questions n m l ws)) ∙ e in
         let (p, q) = and_split (every in_profile (gates_of ws)) (every yes (word_questions n m l ws)) (sym words-yes ∙ all) in
         append_yes _ _ (plain_word_questions n m l ws) numbers all ∙ sym (append_yes _ _ (word_questions n m l ws) numbers q)
 
-    pub plain-accepts : accepted (plain_verdict n m σ l ws result work) ≡ every in_profile (gates_of ws) && accepted (channel_verdict n m σ l ws result work)
+    pub plain-accepts : is_ok (plain_verdict n m σ l ws result work) ≡ every in_profile (gates_of ws) && is_ok (channel_verdict n m σ l ws result work)
     plain-accepts =
-        all_yes (plain_questions n m σ l ws result work) (all_append Refuses (plain_word_questions n m l ws) numbers plain-words_refuse (refl, (refl, (refl, (refl, tt)))))
+        all_yes tt (plain_questions n m σ l ws result work)
         ∙ every_append (plain_word_questions n m l ws) numbers ∙ ap (λ (b : Bool). b && every yes numbers) words-yes
         ∙ assoc (every in_profile (gates_of ws)) (every yes (word_questions n m l ws)) (every yes numbers)
         ∙ ap (λ (b : Bool). every in_profile (gates_of ws) && b) (sym (channel_accepts n m σ l ws result work ∙ every_append (word_questions n m l ws) numbers))
@@ -250,9 +245,6 @@ module _ (n m : ℕ) (l : Limits) (ws : List ℕ) where
 
     pub plain-same : every in_profile (gates_of ws) ≡ true → plain_verdict n m σ l ws result work ≡ channel_verdict n m σ l ws result work
     plain-same e =
-        first_append f Accepted (plain_word_questions n m l ws) numbers ∙ first_append f (first_no numbers) (length_questions l ws) (profile_questions n m 0 (gates_of ws))
-        ∙ ap (λ (u : Verdict). first_by f u (length_questions l ws)) (profile_same n m 0 (gates_of ws) e (first_no numbers))
-        ∙ sym (first_append f Accepted (word_questions n m l ws) numbers ∙ first_append f (first_no numbers) (length_questions l ws) (gates_questions (Channel m) n 0 (gates_of ws)))
-      where
-        f : Question → Verdict
-        f q = q.refusal
+        first_append refused_by (Ok tt) (plain_word_questions n m l ws) numbers ∙ first_append refused_by (first_no numbers) (length_questions l ws) (profile_questions n m 0 (gates_of ws))
+        ∙ ap (λ (u : Verdict). first_by refused_by u (length_questions l ws)) (profile_same n m 0 (gates_of ws) e (first_no numbers))
+        ∙ sym (first_append refused_by (Ok tt) (word_questions n m l ws) numbers ∙ first_append refused_by (first_no numbers) (length_questions l ws) (gates_questions (Channel m) n 0 (gates_of ws)))

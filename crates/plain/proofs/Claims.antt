@@ -1,4 +1,5 @@
 -- What the profile means, from its questions and the entries of its circuits.
+use Rattle.std.specs.Prelude.{is_ok}
 use mathlib.Core.Path.{◌≡◌, refl, sym, ap, ◌∙◌}
 use mathlib.Core.Bool.{Bool, true, false, cond, ◌&&◌}
 use mathlib.Core.List.{List}
@@ -7,8 +8,7 @@ use lib.ListN.{length}
 use lib.IntN.{ℤ}
 use Rattle.algebra.specs.Lists.{every}
 use Rattle.algebra.proofs.Tests.{and_split}
-use Rattle.verdict.specs.declared.Verdict.{Verdict}
-use Rattle.verdict.specs.Verdict.{accepted}
+use Rattle.verdict.specs.Questions.{Verdict}
 use Rattle.gate.specs.Gate.{gates_of}
 use Rattle.circuit.specs.declared.limits.Limits.{Limits}
 use Rattle.judge.specs.Call.{verdict_of, accepts, result_after, work_after}
@@ -25,10 +25,10 @@ twice false x r = refl
 -- where the verdict is that of circuit_channel, so are the words
 module _ (n m : ℕ) (σ : List ℕ) (l : Limits) (ws : List ℕ) (r w : List ℤ) (e : plain_verdict_of n m σ l ws r w ≡ verdict_of n m σ l ws r w) where
   pub same_result : plain_result n m σ l ws r w ≡ result_after n m σ l ws r w
-  same_result = ap (λ (v : Verdict). cond (accepted v) (result_after n m σ l ws r w) r) e ∙ twice (accepts n m σ l ws r w) _ r
+  same_result = ap (λ (v : Verdict). cond (is_ok v) (result_after n m σ l ws r w) r) e ∙ twice (accepts n m σ l ws r w) _ r
 
   pub same_work : plain_work n m σ l ws r w ≡ work_after n m σ l ws r w
-  same_work = ap (λ (v : Verdict). cond (accepted v) (work_after n m σ l ws r w) w) e ∙ twice (accepts n m σ l ws r w) _ w
+  same_work = ap (λ (v : Verdict). cond (is_ok v) (work_after n m σ l ws r w) w) e ∙ twice (accepts n m σ l ws r w) _ w
 
 pub plain_calls : PlainCalls
 plain_calls n m σ l ws r w = record {

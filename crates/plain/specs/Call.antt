@@ -1,7 +1,6 @@
 -- A call of plain_channel: its questions have 23 among them; accepted, it leaves what circuit_channel leaves.
-use Rattle.std.specs.Prelude.{Bool, cond, List, ℕ, length, ℤ}
-use Rattle.verdict.specs.declared.Verdict.{Verdict}
-use Rattle.verdict.specs.Verdict.{accepted}
+use Rattle.std.specs.Prelude.{Bool, cond, List, ℕ, length, ℤ, is_ok}
+use Rattle.verdict.specs.Questions.{Verdict}
 use Rattle.circuit.specs.declared.limits.Limits.{Limits}
 use Rattle.judge.specs.Call.{result_after, work_after}
 use Rattle.plain.specs.Questions.{plain_verdict}
@@ -12,7 +11,7 @@ module _ (n m : ℕ) (σ : List ℕ) (l : Limits) (ws : List ℕ) (r w : List �
   plain_verdict_of = plain_verdict n m σ l ws (length r) (length w)
 
   abbrev pub plain_accepts : Bool
-  plain_accepts = accepted plain_verdict_of
+  plain_accepts = is_ok plain_verdict_of
 
   abbrev pub plain_result : List ℤ
   plain_result = cond plain_accepts (result_after n m σ l ws r w) r

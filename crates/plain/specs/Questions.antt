@@ -1,7 +1,7 @@
 -- The questions of plain_channel: those of circuit_channel, with 23 right after question 6 of each gate.
 use Rattle.std.specs.Prelude.{List, [], ◌∷◌, ◌++◌, ℕ, suc}
-use Rattle.verdict.specs.declared.Verdict.{Verdict}
-use Rattle.verdict.specs.declared.Verdict.TheVariants.{NotPlainAt}
+use Rattle.verdict.specs.Questions.{Verdict}
+use Rattle.verdict.specs.declared.Refusal.TheVariants.{NotPlainAt}
 use Rattle.verdict.specs.Questions.{Question, question, first_no}
 use Rattle.gate.specs.declared.judge.Asking.TheVariants.{Channel}
 use Rattle.gate.specs.Gate.{Gate, gates_of}

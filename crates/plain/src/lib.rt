@@ -14,7 +14,7 @@ use circuit::questions::{judge_channel, judge_words};
 use gate::judge::{GateWords, read_gate};
 use gate::{GATE, MEASURE, RESET, RZ};
 use judge::call::circuit_channel;
-use verdict::Verdict;
+use verdict::{Refusal, Verdict, index};
 
 // Whether a gate is in the profile.
 fn is_plain(g: GateWords) -> bool
@@ -43,16 +43,12 @@ fn first_outside(words: &[u32]) -> usize
     ensures { result ≡ first_outside words.now }
 {
     let count = words.len() / GATE;
-    let mut i = 0;
-    while i < count {
-        let g = read_gate(words, i * GATE);
-        if is_plain(g) {
-            i += 1;
-        } else {
+    for i in 0..count {
+        if !is_plain(read_gate(words, i * GATE)) {
             return i;
         }
     }
-    i
+    count
 }
 
 // Questions 1 to 6, with 23 after each gate's: the first gate outside the profile is named unless a question before it is answered by no.
@@ -61,15 +57,15 @@ fn judge_profile(n: u32, bits: u32, l: Limits, words: &[u32]) -> Verdict
 {
     let v = judge_words(n, bits, l, words);
     let i = first_outside(words);
-    let passed = v.is_accepted();
-    let fault = v.index();
+    let passed = v.is_ok();
+    let fault = index(&v);
     if (i < words.len() / GATE) & (passed | (i < fault)) {
-        return Verdict::NotPlainAt(i);
+        return Err(Refusal::NotPlainAt(i));
     }
     v
 }
 
-// The verdict alone; `result` and `work` are the lengths of the buffers.
+// The verdict alone; `res` and `work` are the lengths of the buffers.
 pub fn judge_plain_channel(
     n: u32,
     bits: u32,
@@ -81,11 +77,8 @@ pub fn judge_plain_channel(
 ) -> Verdict
     ensures { result ≡ plain_verdict n bits store.now l words.now res work }
 {
-    let v = judge_profile(n, bits, l, words);
-    if v.is_accepted() {
-        return judge_channel(n, bits, store, l, words, res, work);
-    }
-    v
+    judge_profile(n, bits, l, words)?;
+    judge_channel(n, bits, store, l, words, res, work)
 }
 
 // The channel of a circuit of the profile. A refusal leaves both buffers as they were.
@@ -102,9 +95,6 @@ pub fn plain_channel(
     ensures res_after { res.new ≡ plain_result qubits bits store.now limits gates.now res.old work.old }
     ensures work_after { work.new ≡ plain_work qubits bits store.now limits gates.now res.old work.old }
 {
-    let v = judge_profile(qubits, bits, limits, gates);
-    if v.is_accepted() {
-        return circuit_channel(qubits, bits, store, gates, limits, res, work);
-    }
-    v
+    judge_profile(qubits, bits, limits, gates)?;
+    circuit_channel(qubits, bits, store, gates, limits, res, work)
 }

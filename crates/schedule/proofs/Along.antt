@@ -1,29 +1,23 @@
 -- A question of each position: the first that is answered by no is named.
+use Rattle.std.specs.Prelude.{Ok, Err}
 use mathlib.Core.Path.{◌≡◌, refl, sym, ap, ◌∙◌}
-use mathlib.Core.Bool.{Bool, true, false, cond, ◌&&◌}
+use mathlib.Core.Bool.{Bool, true, false, cond}
 use Prim.Native.Nat.{ℕ, zero, suc, ◌+◌, ◌≤◌, ◌<◌}
 use native.Mathlib.Decide.{dec_lt}
 use native.Mathlib.Omega.{arith}
-use Rattle.algebra.specs.Lists.{All, every}
+use Rattle.algebra.specs.Lists.{every}
 use Rattle.algebra.proofs.Tests.{and_split}
-use Rattle.verdict.specs.declared.Verdict.{Verdict}
-use Rattle.verdict.specs.declared.Verdict.TheVariants.{Accepted, NotScheduleAt}
-use Rattle.verdict.specs.Verdict.{verdict_number, verdict_index}
+use Rattle.verdict.specs.declared.Refusal.TheVariants.{NotScheduleAt}
 use Rattle.verdict.specs.Questions.{first_no}
 use Rattle.verdict.proofs.Questions as questions
-use Rattle.verdict.proofs.Questions.{Refuses}
 use Rattle.schedule.specs.Questions.{along}
 
 module _ (p : ℕ → Bool) where
-  pub along-refuses : (i n : ℕ) → All Refuses (along p i n)
-  along-refuses i zero = tt
-  along-refuses i (suc n) = (refl, along-refuses (suc i) n)
-
   -- every answer is yes
-  pub along-yes : (i n : ℕ) → ((k : ℕ) → i ≤ k → k < i + n → p k ≡ true) → first_no (along p i n) ≡ Accepted
+  pub along-yes : (i n : ℕ) → ((k : ℕ) → i ≤ k → k < i + n → p k ≡ true) → first_no (along p i n) ≡ Ok tt
   along-yes i zero h = refl
   along-yes i (suc n) h =
-      ap (λ (b : Bool). cond b (first_no (along p (suc i) n)) (NotScheduleAt i)) (h i (omega arith) (omega arith))
+      ap (λ (b : Bool). cond b (first_no (along p (suc i) n)) (Err (NotScheduleAt i))) (h i (omega arith) (omega arith))
       ∙ along-yes (suc i) n (λ k l m. h k (omega arith) (omega arith))
 
   pub along-all : (i n : ℕ) → every questions.yes (along p i n) ≡ true → (k : ℕ) → i ≤ k → k < i + n → p k ≡ true
@@ -41,20 +35,20 @@ module _ (p : ℕ → Bool) where
     pub fails : p k ≡ false
     pub before : (j : ℕ) → i ≤ j → j < k → p j ≡ true
 
-  pub along-first : (i n k : ℕ) → First i n k → first_no (along p i n) ≡ NotScheduleAt k
+  pub along-first : (i n k : ℕ) → First i n k → first_no (along p i n) ≡ Err (NotScheduleAt k)
   along-first i zero k f = absurd (omega (arith, f.above, f.inside))
   along-first i (suc n) k f = go (along-first (suc i) n k) (dec_lt i k)
     where
-      go : (First (suc i) n k → first_no (along p (suc i) n) ≡ NotScheduleAt k) → Dec (i < k) → first_no (along p i (suc n)) ≡ NotScheduleAt k
+      go : (First (suc i) n k → first_no (along p (suc i) n) ≡ Err (NotScheduleAt k)) → Dec (i < k) → first_no (along p i (suc n)) ≡ Err (NotScheduleAt k)
       go r (yes q) =
-          ap (λ (b : Bool). cond b (first_no (along p (suc i) n)) (NotScheduleAt i)) (f.before i (omega arith) q)
+          ap (λ (b : Bool). cond b (first_no (along p (suc i) n)) (Err (NotScheduleAt i))) (f.before i (omega arith) q)
           ∙ r (record { above = q; inside = omega (arith, f.inside); fails = f.fails; before = λ j l m. f.before j (omega arith) m })
       go r (no q) =
           let s : i ≡ k = omega (arith, f.above) in
-          ap (λ (b : Bool). cond b (first_no (along p (suc i) n)) (NotScheduleAt i)) (ap p s ∙ f.fails) ∙ ap NotScheduleAt s
+          ap (λ (b : Bool). cond b (first_no (along p (suc i) n)) (Err (NotScheduleAt i))) (ap p s ∙ f.fails) ∙ ap (λ (j : ℕ). Err (NotScheduleAt j)) s
 
-  pub along-named : (i n k : ℕ) → first_no (along p i n) ≡ NotScheduleAt k → First i n k
-  along-named i zero k e = let z : ◌≡◌ {A = ℕ} 0 15 = ap verdict_number e in absurd (omega arith)
+  pub along-named : (i n k : ℕ) → first_no (along p i n) ≡ Err (NotScheduleAt k) → First i n k
+  along-named i zero k e = absurd (cc)
   along-named i (suc n) k e = go (p i) refl e (along-named (suc i) n k)
     where
       later : p i ≡ true → First (suc i) n k → First i (suc n) k
@@ -64,6 +58,6 @@ module _ (p : ℕ → Bool) where
           here j l m (yes q) = f.before j q m
           here j l m (no q) = let s : j ≡ i = omega arith in ap p s ∙ h
 
-      go : (b : Bool) → p i ≡ b → cond b (first_no (along p (suc i) n)) (NotScheduleAt i) ≡ NotScheduleAt k → (first_no (along p (suc i) n) ≡ NotScheduleAt k → First (suc i) n k) → First i (suc n) k
+      go : (b : Bool) → p i ≡ b → cond b (first_no (along p (suc i) n)) (Err (NotScheduleAt i)) ≡ Err (NotScheduleAt k) → (first_no (along p (suc i) n) ≡ Err (NotScheduleAt k) → First (suc i) n k) → First i (suc n) k
       go true h e r = later h (r e)
-      go false h e r = let s : i ≡ k = ap verdict_index e in record { above = omega arith; inside = omega arith; fails = ap p (sym s) ∙ h; before = λ j l m. absurd (omega arith) }
+      go false h e r = let s : i ≡ k = cc in record { above = omega arith; inside = omega arith; fails = ap p (sym s) ∙ h; before = λ j l m. absurd (omega arith) }

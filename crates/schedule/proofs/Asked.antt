@@ -1,29 +1,27 @@
--- The questions of the two lists and of the table: each refuses, and what the answers so far leave to those behind them.
+-- The questions of the two lists and of the table: what the answers so far leave to those behind them.
+use Rattle.std.specs.Prelude.{is_ok, Ok, Err}
 use mathlib.Core.Path.{◌≡◌, refl, sym, ap, ◌∙◌}
 use mathlib.Core.Bool.{Bool, true, false, cond, not, ◌&&◌, ◌||◌, true≢false}
 use mathlib.Core.List.{List, ◌++◌}
-use Prim.Native.Nat.{ℕ, ◌+◌, ◌*◌, ◌/◌, ◌%◌, ◌≤◌, ◌<◌}
+use Prim.Native.Nat.{ℕ, ◌*◌, ◌/◌, ◌%◌, ◌≤◌, ◌<◌}
 use native.Mathlib.Nat.{zero-add}
 use native.Mathlib.Decide.{dec_lt}
 use native.Mathlib.Omega.{arith}
 use lib.Dec.{eqb, ltb}
 use lib.ListN.{length, get_or}
 use borrow.Author.Tests.{eq-eqb, ne_eqb, eqb-true, lt-ltb, le-ltb}
-use Rattle.algebra.specs.Lists.{All, all_below}
+use Rattle.algebra.specs.Lists.{all_below}
 use Rattle.algebra.proofs.Tests.{all-at}
-use Rattle.algebra.proofs.Lists.{all_append}
-use Rattle.verdict.specs.declared.Verdict.{Verdict}
-use Rattle.verdict.specs.declared.Verdict.TheVariants.{Accepted, MalformedAt, NotScheduleAt}
-use Rattle.verdict.specs.Verdict.{accepted}
+use Rattle.verdict.specs.Questions.{Verdict}
+use Rattle.verdict.specs.declared.Refusal.TheVariants.{MalformedAt, NotScheduleAt}
 use Rattle.verdict.specs.Questions.{Question, first_no}
-use Rattle.verdict.proofs.Questions.{Refuses, after-yes, after_no}
+use Rattle.verdict.proofs.Questions.{after-yes, after_no}
 use Rattle.gate.specs.declared.judge.Asking.TheVariants.{Placing}
 use Rattle.gate.specs.Gate.{Gate, gate_size, gate_at, gates_of}
 use Rattle.gate.proofs.Listed.{gates-length, gates-at}
 use Rattle.circuit.specs.Questions.{gates_questions}
-use Rattle.circuit.proofs.AlongGates.{gates_refuse}
-use Rattle.schedule.specs.Questions.{list_questions, idle, alike, bars, along, same_lengths, sound, table_questions, schedule_questions, schedule_verdict}
-use Rattle.schedule.proofs.Along.{along-refuses, along-yes, along-first}
+use Rattle.schedule.specs.Questions.{list_questions, idle, alike, bars, along, same_lengths, sound, table_questions, schedule_verdict}
+use Rattle.schedule.proofs.Along.{along-yes, along-first}
 
 -- ---- gates by their numbers
 pub count-of : (ws : List ℕ) → length (gates_of ws) ≡ length ws / gate_size
@@ -69,35 +67,29 @@ module _ (ws vs table : List ℕ) (i : ℕ) where
 
 -- ---- one list
 module _ (n m : ℕ) (ws : List ℕ) where
-  pub list_refuses : All Refuses (list_questions n m ws)
-  list_refuses = (refl, gates_refuse (Placing m) n 0 (gates_of ws))
-
-  by_length : {b : Bool} → eqb (length ws % gate_size) 0 ≡ b → first_no (list_questions n m ws) ≡ cond b (first_no (gates_questions (Placing m) n 0 (gates_of ws))) (MalformedAt 0)
-  by_length e = ap (λ (b : Bool). cond b (first_no (gates_questions (Placing m) n 0 (gates_of ws))) (MalformedAt 0)) e
+  by_length : {b : Bool} → eqb (length ws % gate_size) 0 ≡ b → first_no (list_questions n m ws) ≡ cond b (first_no (gates_questions (Placing m) n 0 (gates_of ws))) (Err (MalformedAt 0))
+  by_length e = ap (λ (b : Bool). cond b (first_no (gates_questions (Placing m) n 0 (gates_of ws))) (Err (MalformedAt 0))) e
 
   pub list_whole : length ws % gate_size ≡ 0 → {v : Verdict} → v ≡ first_no (gates_questions (Placing m) n 0 (gates_of ws)) → v ≡ first_no (list_questions n m ws)
   list_whole e h = h ∙ sym (by_length (eq-eqb (length ws % gate_size) 0 e))
 
   -- a list that passes is a list of whole gates
-  pub list_length : accepted (first_no (list_questions n m ws)) ≡ true → length ws % gate_size ≡ 0
+  pub list_length : is_ok (first_no (list_questions n m ws)) ≡ true → length ws % gate_size ≡ 0
   list_length e = go (eqb (length ws % gate_size) 0) refl e
     where
-      go : (b : Bool) → eqb (length ws % gate_size) 0 ≡ b → accepted (cond b (first_no (gates_questions (Placing m) n 0 (gates_of ws))) (MalformedAt 0)) ≡ true → length ws % gate_size ≡ 0
+      go : (b : Bool) → eqb (length ws % gate_size) 0 ≡ b → is_ok (cond b (first_no (gates_questions (Placing m) n 0 (gates_of ws))) (Err (MalformedAt 0))) ≡ true → length ws % gate_size ≡ 0
       go true h e = eqb-true (length ws % gate_size) 0 h
       go false h e = absurd (true≢false (sym e))
 
-  pub list_broken : (length ws % gate_size ≡ 0 → ⊥) → MalformedAt 0 ≡ first_no (list_questions n m ws)
+  pub list_broken : (length ws % gate_size ≡ 0 → ⊥) → Err (MalformedAt 0) ≡ first_no (list_questions n m ws)
   list_broken e = sym (by_length (ne_eqb (length ws % gate_size) 0 e))
 
 -- ---- the table
 module _ (old new : List Gate) (table : List ℕ) where
-  pub table-refuses : All Refuses (table_questions old new table)
-  table-refuses = (refl, along-refuses (sound old new table) 0 (length table))
+  by_lengths : {b : Bool} → same_lengths old new table ≡ b → first_no (table_questions old new table) ≡ cond b (first_no (along (sound old new table) 0 (length table))) (Err (NotScheduleAt 0))
+  by_lengths e = ap (λ (b : Bool). cond b (first_no (along (sound old new table) 0 (length table))) (Err (NotScheduleAt 0))) e
 
-  by_lengths : {b : Bool} → same_lengths old new table ≡ b → first_no (table_questions old new table) ≡ cond b (first_no (along (sound old new table) 0 (length table))) (NotScheduleAt 0)
-  by_lengths e = ap (λ (b : Bool). cond b (first_no (along (sound old new table) 0 (length table))) (NotScheduleAt 0)) e
-
-  pub lengths_differ : same_lengths old new table ≡ false → first_no (table_questions old new table) ≡ NotScheduleAt 0
+  pub lengths_differ : same_lengths old new table ≡ false → first_no (table_questions old new table) ≡ Err (NotScheduleAt 0)
   lengths_differ = by_lengths
 
   pub lengths_same : same_lengths old new table ≡ true → first_no (table_questions old new table) ≡ first_no (along (sound old new table) 0 (length table))
@@ -105,11 +97,11 @@ module _ (old new : List Gate) (table : List ℕ) where
 
   -- position by position, those below i being sound
   module _ (e : same_lengths old new table ≡ true) (i : ℕ) (h : all_below i (sound old new table) ≡ true) where
-    pub position_no : i < length table → sound old new table i ≡ false → NotScheduleAt i ≡ first_no (table_questions old new table)
+    pub position_no : i < length table → sound old new table i ≡ false → Err (NotScheduleAt i) ≡ first_no (table_questions old new table)
     position_no l f =
         sym (lengths_same e ∙ along-first (sound old new table) 0 (length table) i (record { above = omega arith; inside = omega arith; fails = f; before = λ j k m. all-at i (sound old new table) h j m }))
 
-    pub positions_yes : length table ≤ i → Accepted ≡ first_no (table_questions old new table)
+    pub positions_yes : length table ≤ i → Ok tt ≡ first_no (table_questions old new table)
     positions_yes l = sym (lengths_same e ∙ along-yes (sound old new table) 0 (length table) (λ k j m. all-at i (sound old new table) h k (omega arith)))
 
 -- the lengths in words
@@ -128,15 +120,12 @@ module _ (n m : ℕ) (old new table : List ℕ) where
   last = table_questions (gates_of old) (gates_of new) table
 
   module _ {v : Verdict} (e : v ≡ first_no (list_questions n m old)) where
-    pub first_decides : accepted v ≡ false → v ≡ schedule_verdict n m old new table
-    first_decides a = after_no first (second ++ last) (list_refuses n m old) e a
+    pub first_decides : is_ok v ≡ false → v ≡ schedule_verdict n m old new table
+    first_decides a = after_no first (second ++ last) e a
 
-    module _ (a : accepted v ≡ true) {w : Verdict} (f : w ≡ first_no (list_questions n m new)) where
-      pub second_decides : accepted w ≡ false → w ≡ schedule_verdict n m old new table
-      second_decides b = after-yes first (second ++ last) (list_refuses n m old) e a (after_no second last (list_refuses n m new) f b)
+    module _ (a : is_ok v ≡ true) {w : Verdict} (f : w ≡ first_no (list_questions n m new)) where
+      pub second_decides : is_ok w ≡ false → w ≡ schedule_verdict n m old new table
+      second_decides b = after-yes first (second ++ last) e a (after_no second last f b)
 
-      pub table_decides : accepted w ≡ true → {u : Verdict} → u ≡ first_no (table_questions (gates_of old) (gates_of new) table) → u ≡ schedule_verdict n m old new table
-      table_decides b g = after-yes first (second ++ last) (list_refuses n m old) e a (after-yes second last (list_refuses n m new) f b g)
-
-  pub schedule_refuses : All Refuses (schedule_questions n m old new table)
-  schedule_refuses = all_append Refuses first (second ++ last) (list_refuses n m old) (all_append Refuses second last (list_refuses n m new) (table-refuses (gates_of old) (gates_of new) table))
+      pub table_decides : is_ok w ≡ true → {u : Verdict} → u ≡ first_no (table_questions (gates_of old) (gates_of new) table) → u ≡ schedule_verdict n m old new table
+      table_decides b g = after-yes first (second ++ last) e a (after-yes second last f b g)

@@ -1,4 +1,5 @@
 -- The verdict of judge_schedule says what is claimed of it.
+use Rattle.std.specs.Prelude.{is_ok, Ok, Err}
 use mathlib.Core.Path.{◌≡◌, refl, sym, ap, ◌∙◌}
 use mathlib.Core.Bool.{Bool, true, false, ◌&&◌}
 use mathlib.Core.List.{List, ◌++◌}
@@ -11,8 +12,7 @@ use borrow.Author.Tests.{eqb-true, eq-eqb}
 use Rattle.algebra.specs.Lists.{every}
 use Rattle.algebra.specs.Schedule.{Schedule}
 use Rattle.algebra.proofs.Tests.{and_split}
-use Rattle.verdict.specs.declared.Verdict.TheVariants.{Accepted, NotScheduleAt}
-use Rattle.verdict.specs.Verdict.{accepted}
+use Rattle.verdict.specs.declared.Refusal.TheVariants.{NotScheduleAt}
 use Rattle.verdict.specs.Questions.{Question, first_no}
 use Rattle.verdict.proofs.Questions.{yes, all_yes, every_append}
 use Rattle.gate.specs.Gate.{Gate, gates_of, share}
@@ -20,7 +20,7 @@ use Rattle.schedule.specs.Questions.{list_questions, idle, along, same_lengths, 
 use Rattle.schedule.specs.Claims.{Fault, FirstFault, BothPass, Judges, Schedules}
 use Rattle.schedule.proofs.Along.{First, along-yes, along-all, along-first, along-named}
 use Rattle.schedule.proofs.Faults.{sound-free, unsound_fault, free-sound, schedule_free, free_schedule}
-use Rattle.schedule.proofs.Asked.{list_refuses, lengths_differ, lengths_same, first_decides, second_decides, table_decides, schedule_refuses}
+use Rattle.schedule.proofs.Asked.{lengths_differ, lengths_same, first_decides, second_decides, table_decides}
 
 -- ---- the table
 module _ (old new : List Gate) (table : List ℕ) where
@@ -31,18 +31,18 @@ module _ (old new : List Gate) (table : List ℕ) where
       free_schedule old new table (eqb-true (length new) (length old) long) (eqb-true (length table) (length old) wide)
       (λ i l. sound-free old new table i (along-all (sound old new table) 0 (length table) q i (omega arith) (omega arith)))
 
-  schedule_passes : Schedule share idle old new table → first_no (table_questions old new table) ≡ Accepted
+  schedule_passes : Schedule share idle old new table → first_no (table_questions old new table) ≡ Ok tt
   schedule_passes s =
       lengths_same old new table (λ i. eq-eqb (length new) (length old) s.long i && eq-eqb (length table) (length old) s.wide i)
       ∙ along-yes (sound old new table) 0 (length table) (λ k l m. free-sound old new table k (schedule_free old new table s k (omega arith)))
 
   module _ (e : same_lengths old new table ≡ true) (i : ℕ) where
-    fault-named : first_no (table_questions old new table) ≡ NotScheduleAt i → FirstFault old new table i
+    fault-named : first_no (table_questions old new table) ≡ Err (NotScheduleAt i) → FirstFault old new table i
     fault-named v =
         let f : First (sound old new table) 0 (length table) i = along-named (sound old new table) 0 (length table) i (sym (lengths_same old new table e) ∙ v) in
         record { inside = omega (arith, f.inside); fault = unsound_fault old new table i f.fails; before = λ j l. sound-free old new table j (f.before j (omega arith) l) }
 
-    fault-found : FirstFault old new table i → first_no (table_questions old new table) ≡ NotScheduleAt i
+    fault-found : FirstFault old new table i → first_no (table_questions old new table) ≡ Err (NotScheduleAt i)
     fault-found f =
         lengths_same old new table e
         ∙ along-first (sound old new table) 0 (length table) i (record { above = omega arith; inside = omega (arith, f.inside); fails = fails (sound old new table i) refl; before = λ j k l. free-sound old new table j (f.before j l) })
@@ -70,16 +70,16 @@ module _ (n m : ℕ) (old new table : List ℕ) where
     pub second_yes : every yes second ≡ true
     pub last_yes : every yes last ≡ true
 
-  answers : accepted (schedule_verdict n m old new table) ≡ true → Answers
+  answers : is_ok (schedule_verdict n m old new table) ≡ true → Answers
   answers e =
       let (p, q) = and_split (every yes first) (every yes (second ++ last))
-      (sym (every_append first (second ++ last)) ∙ sym (all_yes (schedule_questions n m old new table) (schedule_refuses n m old new table)) ∙ e) in
+      (sym (every_append first (second ++ last)) ∙ sym (all_yes tt (schedule_questions n m old new table)) ∙ e) in
       let (r, s) = and_split (every yes second) (every yes last) (sym (every_append second last) ∙ q) in
       record { first_yes = p; second_yes = r; last_yes = s }
 
   judges : Judges n m old new table
   judges = record {
-    passes = λ e. let a = answers e in record { first = all_yes first (list_refuses n m old) ∙ a.first_yes; second = all_yes second (list_refuses n m new) ∙ a.second_yes };
+    passes = λ e. let a = answers e in record { first = all_yes tt first ∙ a.first_yes; second = all_yes tt second ∙ a.second_yes };
     schedule = λ e. is_schedule (gates_of old) (gates_of new) table (answers e).last_yes;
     acceptance = λ b s. sym (by-table b) ∙ schedule_passes (gates_of old) (gates_of new) table s;
     first_list = λ e. sym (first_decides n m old new table refl e);

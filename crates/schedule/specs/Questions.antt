@@ -1,8 +1,8 @@
 -- The questions of judge_schedule: a gate list, a reordered one, and a table that gives each new gate its old position.
 use Rattle.std.specs.Prelude.{Bool, not, ◌&&◌, ◌||◌, List, [], ◌∷◌, ◌++◌, ℕ, zero, suc, ◌%◌, eqb, ltb, length, get_or}
 use Rattle.algebra.specs.Lists.{all_below}
-use Rattle.verdict.specs.declared.Verdict.{Verdict}
-use Rattle.verdict.specs.declared.Verdict.TheVariants.{MalformedAt, NotScheduleAt}
+use Rattle.verdict.specs.Questions.{Verdict}
+use Rattle.verdict.specs.declared.Refusal.TheVariants.{MalformedAt, NotScheduleAt}
 use Rattle.verdict.specs.Questions.{Question, question, first_no}
 use Rattle.gate.specs.declared.judge.Asking.TheVariants.{Placing}
 use Rattle.gate.specs.Gate.{Gate, gate, gate_size, gates_of, share}

@@ -1,4 +1,5 @@
 -- What the acceptance of circuit_unitary says of a circuit, and what the run of an accepted one leaves.
+use Rattle.std.specs.Prelude.{is_ok}
 use mathlib.Core.Path.{◌≡◌, refl, sym, ap, ◌∙◌, subst}
 use mathlib.Core.Logic.{◌≢◌}
 use mathlib.Core.Bool.{Bool, true, false, cond, ◌&&◌, and-true, true≢false}
@@ -25,7 +26,6 @@ use Rattle.kraus.specs.Branch.{branches}
 use Rattle.circuit.specs.declared.limits.Limits.{Limits}
 use Rattle.circuit.specs.Limits.{matrix_ceilings}
 use Rattle.circuit.specs.Sizes.{unitary_result, unitary_work}
-use Rattle.verdict.specs.Verdict.{accepted}
 use Rattle.verdict.proofs.Questions.{yes, every_append}
 use Rattle.circuit.specs.Questions.{gates_questions, unitary_within, unitary_room, unitary_questions, unitary_verdict}
 use Rattle.circuit.proofs.Numbers.{matrix_low, last_questions}
@@ -59,7 +59,7 @@ gates-unitary n i (g ∷ gs) e =
     let b : (formed g && (on_qubits n g && (supported g && eqb (splits g) 0))) ≡ true = ap (λ (t : Bool). formed g && (on_qubits n g && t)) (sym (and-true _)) ∙ a.0 in
     λ j. gate-unitary n g b j && gates-unitary n (suc i) gs a.1 j
 
-pub unitary-accepted : (n : ℕ) (l : Limits) (ws : List ℕ) (result work : ℕ) → accepted (unitary_verdict n l ws result work) ≡ true → Accepted n (gates_of ws) result work
+pub unitary-accepted : (n : ℕ) (l : Limits) (ws : List ℕ) (result work : ℕ) → is_ok (unitary_verdict n l ws result work) ≡ true → Accepted n (gates_of ws) result work
 unitary-accepted n l ws result work e =
     let all : every yes (unitary_questions n l ws result work) ≡ true = sym (unitary-accepts n l ws result work) ∙ e in
     let a = and_split (matrix_ceilings l) _ all in
@@ -125,8 +125,8 @@ module _ (n d : ℕ) (ws : List ℕ) (r w : List ℤ) (acc : Accepted n (gates_o
 
 -- ---- the buffers after the call
 module _ (n : ℕ) (l : Limits) (ws : List ℕ) (r w : List ℤ) where
-  pub after-yes : accepted (verdict_of n l ws r w) ≡ true → {q v : List ℤ} → q ≡ with_unitary n ws r → v ≡ with_zeros n w → (q ≡ result_after n l ws r w) × (v ≡ work_after n l ws r w)
+  pub after-yes : is_ok (verdict_of n l ws r w) ≡ true → {q v : List ℤ} → q ≡ with_unitary n ws r → v ≡ with_zeros n w → (q ≡ result_after n l ws r w) × (v ≡ work_after n l ws r w)
   after-yes e p q = (p ∙ sym (ap (λ (t : Bool). cond t (with_unitary n ws r) r) e), q ∙ sym (ap (λ (t : Bool). cond t (with_zeros n w) w) e))
 
-  pub after_no : accepted (verdict_of n l ws r w) ≡ false → (r ≡ result_after n l ws r w) × (w ≡ work_after n l ws r w)
+  pub after_no : is_ok (verdict_of n l ws r w) ≡ false → (r ≡ result_after n l ws r w) × (w ≡ work_after n l ws r w)
   after_no e = (sym (ap (λ (t : Bool). cond t (with_unitary n ws r) r) e), sym (ap (λ (t : Bool). cond t (with_zeros n w) w) e))

@@ -1,23 +1,42 @@
 -- Words copied to the start of a buffer: the cells of a matrix.
 use mathlib.Core.Path.{◌≡◌, refl, sym, ap, ◌∙◌, subst}
 use mathlib.Core.List.{List, [], ◌∷◌, ◌++◌}
-use Prim.Native.Nat.{ℕ, ◌+◌, ◌*◌, ◌<◌}
+use Prim.Native.Nat.{ℕ, ◌+◌, ◌*◌, ◌≤◌, ◌<◌}
 use native.Mathlib.Omega.{arith}
-use lib.ListN.{length, get_or, set, length-append, get_or-append}
+use lib.ListN.{length, get_or, take, drop, length-append, get_or-append}
 use lib.Seq.{ext_get_or}
+use Rattle.std.proofs.lemmas.List.{get_or-take, get_or-drop, length-drop, length-take}
 use lib.IntN.{ℤ, pos}
 use Rattle.algebra.specs.Words.{fill_words, joined}
-use Rattle.algebra.proofs.Blocks.{Writing, again_word, blocks-joined, length-joined, joined_at}
+use Rattle.algebra.proofs.Blocks.{blocks-joined, blocks_parts, length-joined, joined_at}
 use Rattle.exact.specs.Exact.{Exact}
 use Rattle.cells.specs.Cells.{cell_words, fill, cells, cell_size}
 use Rattle.branches.specs.Inner.Bank.{Holds}
 
--- one word more from the start
-pub next_word : {l : List ℤ} {n : ℕ} (f : ℕ → ℤ) {b : List ℤ} {i : ℕ} → Writing 1 l 0 n (λ (k : ℕ). f k ∷ []) b i → {x : ℤ} → i < n → x ≡ f i
-    → Writing 1 l 0 n (λ (k : ℕ). f k ∷ []) (set b i x) (i + 1)
-next_word {l} {n} f {b} {i} w {x} h q =
-    let z : 0 + i ≡ i = omega arith in
-    subst (λ (k : ℕ). Writing 1 l 0 n (λ (k : ℕ). f k ∷ []) (set b k x) (i + 1)) z (again_word f w h q)
+-- n words of m, from `from` on, at the start of r
+pub words_copied : (r m : List ℤ) (from n k : ℕ) → k ≡ n → from + n ≤ length m → n ≤ length r
+    → take k (drop from m) ++ drop n r ≡ fill_words r 0 n (λ (i : ℕ). get_or m (from + i) (pos 0))
+words_copied r m from n k e l h =
+    let z : 0 + n * 1 ≡ n = omega arith in
+    ap (λ (k : ℕ). take k (drop from m) ++ drop n r) e ∙ (λ i. same i ++ drop (sym z i) r) ∙ sym (blocks_parts 1 single (λ i. refl) r 0 n (omega arith))
+  where
+    single : ℕ → List ℤ
+    single i = get_or m (from + i) (pos 0) ∷ []
+
+    all : length (take n (drop from m)) ≡ n
+    all = omega (arith, length-take n (drop from m), length-drop from m)
+
+    one : length (joined n single) ≡ n
+    one = length-joined 1 single (λ i. refl) n ∙ omega arith
+
+    same : take n (drop from m) ≡ joined n single
+    same = ext_get_or (pos 0) (take n (drop from m)) (joined n single) (all ∙ sym one) (λ i l. word i (omega (arith, all)))
+      where
+        word : (i : ℕ) → i < n → get_or (take n (drop from m)) i (pos 0) ≡ get_or (joined n single) i (pos 0)
+        word i l =
+            let z : i * 1 + 0 ≡ i = omega arith in
+            get_or-take n (drop from m) i (pos 0) l ∙ get_or-drop from m i (pos 0) ∙ sym (joined_at 1 single (λ i. refl) n i 0 l (omega arith))
+            ∙ ap (λ (k : ℕ). get_or (joined n single) k (pos 0)) z
 
 -- words that a buffer holds, copied
 pub copied : (r m ws rest : List ℤ) (at n : ℕ) (f : ℕ → Exact) → ws ≡ cells n f ++ rest → Holds m at ws

@@ -1,5 +1,5 @@
 -- What circuit_unitary delivers is unitary, U†U = I, in exact numbers.
-use Rattle.std.specs.Prelude.{◌≡◌, true, List, ℕ, ◌^◌, ℤ}
+use Rattle.std.specs.Prelude.{◌≡◌, true, List, ℕ, ◌^◌, ℤ, is_ok}
 use Rattle.algebra.specs.Sum.{times, δ}
 use Rattle.exact.specs.Exact.{exact, conj}
 use Rattle.matrix.specs.Matrix as words
@@ -7,7 +7,6 @@ use Rattle.gate.specs.Gate.{gates_of}
 use Rattle.gate.specs.Embedding.{Matrix, Equal, adjoint}
 use Rattle.kraus.specs.Dense.{cell}
 use Rattle.circuit.specs.declared.limits.Limits.{Limits}
-use Rattle.verdict.specs.Verdict.{accepted}
 use Rattle.unitary.specs.Unitary.{circuit_unitary, verdict_of, result_after}
 
 -- U†U = I, of a matrix of d rows and columns
@@ -23,4 +22,4 @@ pub record Delivers (n : ℕ) (ws : List ℕ) (result : List ℤ) : Type 0 where
 
 -- every accepted call
 abbrev pub DeliversUnitary : Type 0
-DeliversUnitary = (n : ℕ) (l : Limits) (ws : List ℕ) (r w : List ℤ) → accepted (verdict_of n l ws r w) ≡ true → Delivers n ws (result_after n l ws r w)
+DeliversUnitary = (n : ℕ) (l : Limits) (ws : List ℕ) (r w : List ℤ) → is_ok (verdict_of n l ws r w) ≡ true → Delivers n ws (result_after n l ws r w)

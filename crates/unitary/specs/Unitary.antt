@@ -1,5 +1,5 @@
 -- The unitary of a circuit: the product of its gates' matrices, the first gate rightmost. And a call of circuit_unitary.
-use Rattle.std.specs.Prelude.{cond, ℕ, ◌*◌, ◌^◌, length, get_or, ℤ, pos}
+use Rattle.std.specs.Prelude.{cond, ℕ, ◌*◌, ◌^◌, length, get_or, ℤ, pos, is_ok}
 use mathlib.Core.List.{List, foldl}
 use Rattle.algebra.specs.Sum.{δ}
 use Rattle.algebra.specs.Words.{fill_words}
@@ -9,9 +9,8 @@ use Rattle.gate.specs.Gate.{Gate, gates_of}
 use Rattle.gate.specs.Embed.{gate_entry}
 use Rattle.kraus.specs.Dense.{table, left}
 use Rattle.circuit.specs.declared.limits.Limits.{Limits}
-use Rattle.verdict.specs.declared.Verdict.{Verdict}
+use Rattle.verdict.specs.Questions.{Verdict}
 use Rattle.circuit.specs.Sizes.{unitary_work}
-use Rattle.verdict.specs.Verdict.{accepted}
 use Rattle.circuit.specs.Questions.{unitary_verdict}
 
 abbrev pub unitary_step : ℕ → List Exact → Gate → List Exact
@@ -35,7 +34,7 @@ module _ (n : ℕ) (l : Limits) (ws : List ℕ) (r w : List ℤ) where
   verdict_of = unitary_verdict n l ws (length r) (length w)
 
   abbrev pub result_after : List ℤ
-  result_after = cond (accepted verdict_of) (with_unitary n ws r) r
+  result_after = cond (is_ok verdict_of) (with_unitary n ws r) r
 
   abbrev pub work_after : List ℤ
-  work_after = cond (accepted verdict_of) (with_zeros n w) w
+  work_after = cond (is_ok verdict_of) (with_zeros n w) w

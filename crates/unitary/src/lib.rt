@@ -16,17 +16,12 @@ use circuit::sizes::power;
 use matrix::words::clear;
 use verdict::Verdict;
 
-// Copy n words of `work`, from `from` on, to the start of `result`.
+// Copy n words of `work`, from `from` on, to the start of `res`.
 fn copy_out(res: &mut [i64], work: &[i64], from: usize, n: usize)
     requires { (from + n ≤ length work.now) × (n ≤ length res.old) }
     ensures { res.new ≡ fill_words res.old 0 n (λ (i : ℕ). get_or work.now (from + i) (pos 0)) }
 {
-    let mut i = 0;
-    while i < n {
-        let x = work[from + i];
-        res[i] = x;
-        i += 1;
-    }
+    res[..n].copy_from_slice(&work[from..from + n]);
 }
 
 // Run an accepted circuit and write its unitary; the words of `work` that it takes end as zero.
@@ -53,11 +48,7 @@ pub fn circuit_unitary(
     ensures res_after { res.new ≡ result_after qubits limits gates.now res.old work.old }
     ensures work_after { work.new ≡ work_after qubits limits gates.now res.old work.old }
 {
-    let r = res.len();
-    let w = work.len();
-    let v = judge_unitary(qubits, limits, gates, r as u64, w as u64);
-    if v.is_accepted() {
-        run_unitary(qubits, gates, res, work);
-    }
-    v
+    judge_unitary(qubits, limits, gates, res.len() as u64, work.len() as u64)?;
+    run_unitary(qubits, gates, res, work);
+    Ok(())
 }

@@ -17,33 +17,22 @@ loop-i-init c =
     let e : length ws / gate_size ≡ length ws / gate_size - 0 = omega arith in
     ap (λ (k : ℕ). first_from 0 k (outside ws)) e
 
-pub overflow_mul-i : goal.overflow_mul-i
-overflow_mul-i c = omega arith
-
-pub read_gate-g-requires : goal.read_gate-g-requires
-read_gate-g-requires c = omega arith
-
-pub overflow_add-i : goal.overflow_add-i
-overflow_add-i c = omega arith
-
-pub loop-i-smaller : goal.loop-i-smaller
-loop-i-smaller c = omega arith
-
 pub loop-i-preserved : goal.loop-i-preserved
 loop-i-preserved c =
     let ws = c.args.words.now in
     c.loop-i.invariant ∙ first_more (outside ws) c.loop-i.i (length ws / gate_size) c.loop-i-test.true
     ∙ ap (λ (b : Bool). cond b c.loop-i.i (first_from (c.loop-i.i + 1) (length ws / gate_size - (c.loop-i.i + 1)) (outside ws)))
-    (sym (ap (λ (h : Gate). not (in_profile h)) c.read_gate-g.ensures) ∙ sym (ap not c.is_plain.ensures) ∙ ap not c.if-is_plain.true)
+    (sym (ap (λ (h : Gate). not (in_profile h)) c.read_gate.ensures) ∙ sym (ap not c.is_plain.ensures) ∙ ap not c.if-not-is_plain.false)
 
-pub returns-else-is_plain : goal.returns-else-is_plain
-returns-else-is_plain c =
+pub returns-then-not-is_plain : goal.returns-then-not-is_plain
+returns-then-not-is_plain c =
     let ws = c.args.words.now in
     sym (c.loop-i.invariant ∙ first_more (outside ws) c.loop-i.i (length ws / gate_size) c.loop-i-test.true
     ∙ ap (λ (b : Bool). cond b c.loop-i.i (first_from (c.loop-i.i + 1) (length ws / gate_size - (c.loop-i.i + 1)) (outside ws)))
-    (sym (ap (λ (h : Gate). not (in_profile h)) c.read_gate-g.ensures) ∙ sym (ap not c.is_plain.ensures) ∙ ap not c.if-is_plain.false))
+    (sym (ap (λ (h : Gate). not (in_profile h)) c.read_gate.ensures) ∙ sym (ap not c.is_plain.ensures) ∙ ap not c.if-not-is_plain.true))
 
 pub returns : goal.returns
 returns c =
     let ws = c.args.words.now in
-    sym (c.loop-i.invariant ∙ first-none (outside ws) c.loop-i.i (length ws / gate_size) c.loop-i-test.false)
+    let e : c.loop-i.i ≡ length ws / gate_size = omega arith in
+    sym (c.loop-i.invariant ∙ first-none (outside ws) c.loop-i.i (length ws / gate_size) c.loop-i-test.false ∙ e)

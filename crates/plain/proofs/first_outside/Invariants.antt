@@ -9,6 +9,3 @@ use Rattle.plain.proofs.first_outside.Given as goal
 
 abbrev pub invariant-loop-i : goal.invariant-loop-i
 invariant-loop-i l = first_outside l.words ≡ first_from l.i (length l.words / gate_size - l.i) (outside l.words)
-
-abbrev pub decreases-loop-i : goal.decreases-loop-i
-decreases-loop-i l = length l.words / gate_size - l.i

@@ -1,7 +1,7 @@
 -- The invariant: no gate before j stands in the way.
-use mathlib.Core.Path.{◌≡◌, refl, sym, ap, ◌∙◌}
-use mathlib.Core.Bool.{true, not}
-use Prim.Native.Nat.{ℕ, ◌-◌}
+use mathlib.Core.Path.{◌≡◌, sym, ap, ◌∙◌}
+use mathlib.Core.Bool.{not}
+use Prim.Native.Nat.{ℕ}
 use native.Mathlib.Omega.{arith}
 use Rattle.algebra.specs.Lists.{all_below}
 use Rattle.algebra.proofs.Tests.{all-step, all_no}
@@ -10,31 +10,19 @@ use Rattle.gate.specs.Inner.Words.{gate_of}
 use Rattle.schedule.specs.Questions.{bars}
 use Rattle.schedule.proofs.is_free.Goals as goal
 
-pub loop-j-init : goal.loop-j-init
-loop-j-init c = (omega arith, refl)
-
-pub is_barred-requires : goal.is_barred-requires
-is_barred-requires c = (omega arith, omega arith)
-
 pub returns-then-is_barred : goal.returns-then-is_barred
 returns-then-is_barred c =
     let a = c.args in
     sym (all_no a.i c.loop-j.j (λ (x : ℕ). not (bars (gates_of a.new.now) a.table.now (gate_of a.g) a.k x)) c.loop-j-test.true
     (ap not (sym c.is_barred.ensures ∙ c.if-is_barred.true)))
 
-pub overflow_add-j : goal.overflow_add-j
-overflow_add-j c = omega arith
-
-pub loop-j-smaller : goal.loop-j-smaller
-loop-j-smaller c = omega arith
-
 pub loop-j-preserved : goal.loop-j-preserved
 loop-j-preserved c =
     let a = c.args in
-    (omega arith, all-step c.loop-j.j (λ (x : ℕ). not (bars (gates_of a.new.now) a.table.now (gate_of a.g) a.k x)) c.loop-j.invariant.1 (ap not (sym c.is_barred.ensures ∙ c.if-is_barred.false)))
+    all-step c.loop-j.j (λ (x : ℕ). not (bars (gates_of a.new.now) a.table.now (gate_of a.g) a.k x)) c.loop-j.invariant (ap not (sym c.is_barred.ensures ∙ c.if-is_barred.false))
 
 pub returns : goal.returns
 returns c =
     let a = c.args in
-    let e : c.loop-j.j ≡ a.i = omega (arith, c.loop-j.invariant.0, c.loop-j-test.false) in
-    sym (ap (λ (n : ℕ). all_below n (λ (x : ℕ). not (bars (gates_of a.new.now) a.table.now (gate_of a.g) a.k x))) (sym e) ∙ c.loop-j.invariant.1)
+    let e : c.loop-j.j ≡ a.i = omega arith in
+    sym (ap (λ (n : ℕ). all_below n (λ (x : ℕ). not (bars (gates_of a.new.now) a.table.now (gate_of a.g) a.k x))) (sym e) ∙ c.loop-j.invariant)

@@ -1,7 +1,7 @@
 -- The invariant: no gate before j stands in the way.
 use mathlib.Core.Path.{◌≡◌}
 use mathlib.Core.Bool.{true, not}
-use Prim.Native.Nat.{ℕ, ◌-◌, ◌≤◌}
+use Prim.Native.Nat.{ℕ}
 use Rattle.algebra.specs.Lists.{all_below}
 use Rattle.gate.specs.Gate.{gates_of}
 use Rattle.gate.specs.Inner.Words.{gate_of}
@@ -9,7 +9,4 @@ use Rattle.schedule.specs.Questions.{bars}
 use Rattle.schedule.proofs.is_free.Given as goal
 
 abbrev pub invariant-loop-j : goal.invariant-loop-j
-invariant-loop-j l = (l.j ≤ l.i) × (all_below l.j (λ (x : ℕ). not (bars (gates_of l.new) l.table (gate_of l.g) l.k x)) ≡ true)
-
-abbrev pub decreases-loop-j : goal.decreases-loop-j
-decreases-loop-j l = l.i - l.j
+invariant-loop-j l = all_below l.j (λ (x : ℕ). not (bars (gates_of l.new) l.table (gate_of l.g) l.k x)) ≡ true

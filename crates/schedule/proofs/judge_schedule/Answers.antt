@@ -1,21 +1,33 @@
--- The new list is asked where the old one is accepted, and the table where both are.
-use mathlib.Core.Path.{sym, ◌∙◌}
-use Rattle.schedule.proofs.Asked.{first_decides, second_decides, table_decides}
+-- The old list decides, then the new one, then the table.
+use mathlib.Core.Path.{◌∙◌}
+use mathlib.Core.List.{◌++◌}
+use Rattle.verdict.proofs.Questions.{returned, refused, passed}
+use Rattle.gate.specs.Gate.{gates_of}
+use Rattle.schedule.specs.Questions.{list_questions, table_questions}
 use Rattle.schedule.proofs.judge_schedule.Goals as goal
 
-pub returns-then-is_accepted-2 : goal.returns-then-is_accepted-2
-returns-then-is_accepted-2 c =
+pub returns-in_err-judge_list : goal.returns-in_err-judge_list
+returns-in_err-judge_list c =
     let a = c.args in
-    table_decides a.qubits a.bits a.old.now a.new.now a.table.now c.judge_list-v.ensures (sym c.is_accepted.ensures ∙ c.if-is_accepted.true)
-    c.judge_list-w.ensures (sym c.is_accepted-then-is_accepted.ensures ∙ c.if-is_accepted-2.true) c.judge_table.ensures
+    let first = list_questions a.qubits a.bits a.old.now in
+    let second = list_questions a.qubits a.bits a.new.now in
+    let last = table_questions (gates_of a.old.now) (gates_of a.new.now) a.table.now in
+    returned _ c.from_residual.ensures.1 ∙ refused tt tt first (second ++ last) c.in_err-judge_list.ensures
 
-pub returns-then-is_accepted : goal.returns-then-is_accepted
-returns-then-is_accepted c =
+pub returns-in_err-judge_list-2 : goal.returns-in_err-judge_list-2
+returns-in_err-judge_list-2 c =
     let a = c.args in
-    second_decides a.qubits a.bits a.old.now a.new.now a.table.now c.judge_list-v.ensures (sym c.is_accepted.ensures ∙ c.if-is_accepted.true)
-    c.judge_list-w.ensures (sym c.is_accepted-then-is_accepted.ensures ∙ c.if-is_accepted-2.false)
+    let first = list_questions a.qubits a.bits a.old.now in
+    let second = list_questions a.qubits a.bits a.new.now in
+    let last = table_questions (gates_of a.old.now) (gates_of a.new.now) a.table.now in
+    returned _ c.from_residual-in_err-judge_list-2.ensures.1 ∙ refused tt tt second last c.in_err-judge_list-2.ensures
+    ∙ passed tt tt first (second ++ last) c.in_ok-judge_list.ensures
 
 pub returns : goal.returns
 returns c =
     let a = c.args in
-    first_decides a.qubits a.bits a.old.now a.new.now a.table.now c.judge_list-v.ensures (sym c.is_accepted.ensures ∙ c.if-is_accepted.false)
+    let first = list_questions a.qubits a.bits a.old.now in
+    let second = list_questions a.qubits a.bits a.new.now in
+    let last = table_questions (gates_of a.old.now) (gates_of a.new.now) a.table.now in
+    c.judge_table.ensures ∙ passed tt tt second last c.in_ok-judge_list-2.ensures
+    ∙ passed tt tt first (second ++ last) c.in_ok-judge_list.ensures

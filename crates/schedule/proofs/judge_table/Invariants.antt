@@ -1,15 +1,10 @@
 -- The invariant: the positions before i are sound.
 use mathlib.Core.Path.{◌≡◌}
 use mathlib.Core.Bool.{true}
-use Prim.Native.Nat.{◌-◌, ◌/◌}
-use lib.ListN.{length}
 use Rattle.algebra.specs.Lists.{all_below}
-use Rattle.gate.specs.Gate.{gate_size, gates_of}
+use Rattle.gate.specs.Gate.{gates_of}
 use Rattle.schedule.specs.Questions.{sound}
 use Rattle.schedule.proofs.judge_table.Given as goal
 
 abbrev pub invariant-loop-i : goal.invariant-loop-i
 invariant-loop-i l = all_below l.i (sound (gates_of l.old) (gates_of l.new) l.table) ≡ true
-
-abbrev pub decreases-loop-i : goal.decreases-loop-i
-decreases-loop-i l = length l.old / gate_size - l.i

@@ -1,14 +1,8 @@
 -- The invariant: no gate passed so far writes the bit, so the answer is that of the rest.
-use mathlib.Core.Path.{◌≡◌, refl, sym, ap, ◌∙◌}
+use mathlib.Core.Path.{◌≡◌, ap, ◌∙◌}
 use mathlib.Core.Bool.{Bool, ◌||◌}
-use Prim.Native.Nat.{◌+◌, ◌-◌, ◌/◌}
-use native.Mathlib.Omega.{arith}
-use lib.ListN.{length}
-use Rattle.algebra.specs.Lists.{some}
-use Rattle.gate.specs.Gate.{Gate, gate_size}
+use Prim.Native.Nat.{◌+◌}
 use Rattle.gate.specs.Inner.Words.{gate_of}
-use Rattle.gate.proofs.Listed.{gates-none}
-use Rattle.circuit.specs.Footprint.{writes}
 use Rattle.circuit.proofs.Counts.{written-more}
 use Rattle.circuit.proofs.footprint.is_written.Invariants.{had}
 use Rattle.circuit.proofs.footprint.is_written.Lts as lts
@@ -19,18 +13,6 @@ use Rattle.circuit.proofs.footprint.is_written.Goals as goal
 abbrev After-writes : Type 0
 After-writes = lts.After-writes tie.the-claims reads.Pre reads.Post goal.the-invariant-loop-i goal.the-decreases-loop-i
 
-pub loop-i-init : goal.loop-i-init
-loop-i-init c = refl
-
-pub overflow_mul-i : goal.overflow_mul-i
-overflow_mul-i c = omega arith
-
-pub read_gate-g-requires : goal.read_gate-g-requires
-read_gate-g-requires c = omega arith
-
-pub writes-requires : goal.writes-requires
-writes-requires c = tt
-
 -- gate i writes the bit, or the answer is that of the gates after it
 here : (c : After-writes) → let a = c.args in
     had a.words.now a.bit a.from ≡ c.writes.result || had a.words.now a.bit (c.loop-i.i + 1)
@@ -38,23 +20,7 @@ here c =
     let a = c.args in
     c.loop-i.invariant ∙ written-more a.words.now a.bit c.loop-i.i (gate_of c.read_gate-g.result) c.writes.result c.loop-i-test.true c.read_gate-g.ensures c.writes.ensures
 
-pub returns-then-writes : goal.returns-then-writes
-returns-then-writes c =
-    let a = c.args in
-    sym (here c.before.before ∙ ap (λ (t : Bool). t || had a.words.now a.bit (c.loop-i.i + 1)) c.if-writes.true)
-
-pub overflow_add-i : goal.overflow_add-i
-overflow_add-i c = omega arith
-
-pub loop-i-smaller : goal.loop-i-smaller
-loop-i-smaller c = omega arith
-
 pub loop-i-preserved : goal.loop-i-preserved
 loop-i-preserved c =
     let a = c.args in
     here c.before.before ∙ ap (λ (t : Bool). t || had a.words.now a.bit (c.loop-i.i + 1)) c.if-writes.false
-
-pub returns : goal.returns
-returns c =
-    let a = c.args in
-    sym (c.loop-i.invariant ∙ ap (some (λ (g : Gate). writes g a.bit)) (gates-none a.words.now (length a.words.now / gate_size) c.loop-i.i c.loop-i-test.false))

@@ -14,6 +14,3 @@ had ws bit i = some (λ (g : Gate). writes g bit) (gates_from ws i (length ws / 
 
 abbrev pub invariant-loop-i : goal.invariant-loop-i
 invariant-loop-i l = had l.words l.bit l.from ≡ had l.words l.bit l.i
-
-abbrev pub decreases-loop-i : goal.decreases-loop-i
-decreases-loop-i l = length l.words / gate_size - l.i

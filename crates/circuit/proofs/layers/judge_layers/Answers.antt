@@ -8,9 +8,6 @@ returns-then-not-are_closing c =
     let a = c.args in
     ends_bad a.words.now a.ends.now (sym c.are_closing.ensures ∙ c.if-not-are_closing.true)
 
-pub first_clash-i-requires : goal.first_clash-i-requires
-first_clash-i-requires c = sym c.are_closing.ensures ∙ c.if-not-are_closing.false
-
 pub returns-then-i-count : goal.returns-then-i-count
 returns-then-i-count c =
     let a = c.args in

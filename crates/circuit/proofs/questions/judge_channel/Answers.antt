@@ -1,5 +1,17 @@
--- The verdict that the inner judge hands on.
+-- The verdict of the inner judge.
+use mathlib.Core.Path.{◌∙◌}
+use Rattle.algebra.specs.Lists.{total}
+use Rattle.verdict.proofs.Questions.{returned, refused_alike, handed}
+use Rattle.gate.specs.Gate.{gates_of, splits}
+use Rattle.circuit.specs.Questions.{channel_questions}
 use Rattle.circuit.proofs.questions.judge_channel.Goals as goal
 
+pub returns-in_err-judge_circuit : goal.returns-in_err-judge_circuit
+returns-in_err-judge_circuit c =
+    let a = c.args in
+    returned _ c.from_residual.ensures.1 ∙ refused_alike (total splits (gates_of a.words.now)) tt (channel_questions a.n a.bits a.store.now a.l a.words.now a.res a.work) c.in_err-judge_circuit.ensures
+
 pub returns : goal.returns
-returns c = c.judge_circuit-j.ensures.verdict_value
+returns c =
+    let a = c.args in
+    handed (total splits (gates_of a.words.now)) tt (channel_questions a.n a.bits a.store.now a.l a.words.now a.res a.work) c.in_ok-judge_circuit.ensures

@@ -1,10 +1,9 @@
 -- The invariant: the entries of the first r rows are written.
-use mathlib.Core.Path.{◌≡◌, sym, ap, subst, ◌∙◌}
-use Prim.Native.Nat.{ℕ, ◌+◌, ◌*◌, ◌-◌, ◌/◌, ◌<◌, ◌≤◌}
+use mathlib.Core.Path.{◌≡◌, ap, subst, ◌∙◌}
+use Prim.Native.Nat.{ℕ, ◌+◌, ◌*◌, ◌/◌, ◌<◌, ◌≤◌}
 use native.Mathlib.Nat.{le_refl}
 use native.Mathlib.Omega.{arith}
-use lib.ListN.{length}
-use Rattle.algebra.proofs.Blocks.{Writing, begin, again, done, long, blocks-same}
+use Rattle.algebra.proofs.Blocks.{Writing, begin, again, done, blocks-same}
 use Rattle.scalar.specs.declared.Scalar.{Scalar}
 use Rattle.scalar.specs.Calls.{value}
 use Rattle.gate.specs.declared.rows.Pair.{Pair}
@@ -41,60 +40,10 @@ module _ (v : After-row_pair-p) where
   other-words = ap (λ (x : Scalar). cell_words (value x)) (ap (λ (p : Pair). p.other) v.row_pair-p.ensures ∙ side-other (pairs h) r)
 
   in_row : r * 2 + 1 < h.args.d * 2
-  in_row = omega (arith, v.loop-r-test.true)
-
-pub core_table-u-requires : goal.core_table-u-requires
-core_table-u-requires c = c.requires.1.1.1.1
-
-pub pair_of-low-requires : goal.pair_of-low-requires
-pair_of-low-requires c = omega arith
-
-pub pair_of-high-requires : goal.pair_of-high-requires
-pair_of-high-requires c = omega arith
-
-pub controls-held-requires : goal.controls-held-requires
-controls-held-requires c = let p = c.requires in (p.1.1.0, p.1.1.1.1)
+  in_row = omega arith
 
 pub loop-r-init : goal.loop-r-init
 loop-r-init c = begin (λ k. le_refl cell_size)
-
-pub overflow_mul-to : goal.overflow_mul-to
-overflow_mul-to c = omega arith
-
-pub overflow_mul-to-in-loop-r : goal.overflow_mul-to-in-loop-r
-overflow_mul-to-in-loop-r c = omega arith
-
-pub overflow_add-to : goal.overflow_add-to
-overflow_add-to c = omega arith
-
-pub overflow_mul-next : goal.overflow_mul-next
-overflow_mul-next c = omega arith
-
-pub overflow_add-next : goal.overflow_add-next
-overflow_add-next c = omega arith
-
-pub overflow_mul-next-in-loop-r : goal.overflow_mul-next-in-loop-r
-overflow_mul-next-in-loop-r c = omega arith
-
-pub overflow_add-next-in-loop-r : goal.overflow_add-next-in-loop-r
-overflow_add-next-in-loop-r c = omega arith
-
-pub write_cell-requires : goal.write_cell-requires
-write_cell-requires c = omega (arith, long c.loop-r.invariant)
-
-pub write_cell-requires-in-loop-r : goal.write_cell-requires-in-loop-r
-write_cell-requires-in-loop-r c =
-    let s = (h c.before.before.before.before.before.before).before.before.before.before in
-    let a = s.args in
-    let i : r c.before.before.before.before.before.before * 2 < a.d * 2 = omega (arith, in_row c.before.before.before.before.before.before) in
-    let room : a.at + (r c.before.before.before.before.before.before * 2 + 1) * cell_size + cell_size ≤ length a.buf.now = omega (arith, in_row c.before.before.before.before.before.before, s.requires.1.0) in
-    subst (λ (k : ℕ). a.at + (r c.before.before.before.before.before.before * 2 + 1) * cell_size + cell_size ≤ k) (sym (long (again c.loop-r.invariant i c.write_cell.ensures (own-words c.before.before.before.before.before.before)))) room
-
-pub overflow_add-r : goal.overflow_add-r
-overflow_add-r c = omega arith
-
-pub loop-r-smaller : goal.loop-r-smaller
-loop-r-smaller c = omega arith
 
 pub loop-r-preserved : goal.loop-r-preserved
 loop-r-preserved c =
@@ -105,16 +54,13 @@ loop-r-preserved c =
     subst (Writing cell_size a.buf.now a.at (a.d * 2) (λ (i : ℕ). cell_words (value (side (pairs (h c.before.before.before.before.before.before.before.before) (i / 2)) i))) _) next
     (again own (in_row c.before.before.before.before.before.before.before.before) c.write_cell-in-loop-r.ensures (other-words c.before.before.before.before.before.before.before.before))
 
-pub shape_of-buf : goal.shape_of-buf
-shape_of-buf c = long c.loop-r.invariant
-
 pub returns : goal.returns
 returns c =
     let p = c.requires in
     let a = c.args in
     let low = c.pair_of-low.ensures ∙ ap (λ (t : Table). pair_of t 0) c.core_table-u.ensures in
     let high = c.pair_of-high.ensures ∙ ap (λ (t : Table). pair_of t 1) c.core_table-u.ensures in
-    let all : a.d * 2 ≤ c.loop-r.r * 2 = omega (arith, c.loop-r-test.false) in
+    let all : a.d * 2 ≤ c.loop-r.r * 2 = omega arith in
     done c.loop-r.invariant all
     ∙ blocks-same cell_size a.buf.now a.at (a.d * 2) _ _ (λ i k.
     ap cell_words (row-entry i p.1.1.1.1 p.1.1.0 p.0 c.controls-held.ensures low high (subst (λ (d : ℕ). i < d * 2) p.1.1.1.0 k)))

@@ -1,5 +1,5 @@
 -- The invariant: the entries of the first r rows are written.
-use Prim.Native.Nat.{ℕ, ◌*◌, ◌-◌, ◌/◌}
+use Prim.Native.Nat.{ℕ, ◌*◌, ◌/◌}
 use Rattle.algebra.proofs.Blocks.{Writing}
 use Rattle.exact.specs.Exact.{Exact}
 use Rattle.scalar.specs.Calls.{value}
@@ -14,6 +14,3 @@ chosen low high held m i = value (side (row_pair low high held m (i / 2)) i)
 
 abbrev pub invariant-loop-r : goal.invariant-loop-r
 invariant-loop-r l = Writing cell_size l.initial.buf l.at (l.d * 2) (λ (i : ℕ). cell_words (chosen l.low l.high l.held l.m i)) l.buf (l.r * 2)
-
-abbrev pub decreases-loop-r : goal.decreases-loop-r
-decreases-loop-r l = l.d - l.r
