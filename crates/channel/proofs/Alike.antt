@@ -1,11 +1,11 @@
 -- Blocks of one exponent: an entry is the same exactly where its four words are.
 use mathlib.Core.Path.{◌≡◌, refl, sym, ap, ◌∙◌}
-use mathlib.Core.Bool.{Bool, true, ◌&&◌}
+use mathlib.Core.Bool.{true, ◌&&◌}
 use mathlib.Core.List.{List}
 use Prim.Native.Nat.{ℕ, ◌+◌, ◌*◌, ◌<◌, ◌≤◌}
 use native.Mathlib.Nat.{add_assoc}
 use native.Mathlib.Omega.{arith}
-use lib.IntN.{ℤ, pos, nat_abs}
+use lib.IntN.{ℤ, nat_abs}
 use Rattle.algebra.specs.Words.{eqℤ}
 use Rattle.algebra.proofs.Tests.{and_split, test_same, all-at, all-by}
 use Rattle.algebra.proofs.Signed.{eqℤ-true, eqℤ-refl}

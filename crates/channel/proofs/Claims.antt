@@ -1,4 +1,7 @@
 -- The claims on the comparison of two channels.
+use Rattle.std.specs.Prelude.{is_ok, Option, Some, None, Result, Ok, Err}
+use Rattle.std.specs.Option.{option_or, option_map}
+use Rattle.std.specs.Result.{result_and, result_map_both}
 use mathlib.Core.Path.{◌≡◌, refl, sym, ap, ◌∙◌, subst}
 use mathlib.Core.Bool.{Bool, true, false, cond, ◌&&◌, ◌||◌, true≢false}
 use mathlib.Core.List.{List, [], ◌∷◌, map}
@@ -11,34 +14,34 @@ use borrow.Author.Tests.{eq-eqb, eqb-true}
 use Rattle.algebra.proofs.Tests.{and_split, eqb_same}
 use Rattle.exact.specs.Exact.{equal}
 use Rattle.exact.proofs.Equal.{equal-swap}
-use Rattle.verdict.specs.Verdict.{accepted}
 use Rattle.scalar.specs.Calls.{scalar_of}
-use Rattle.channel.specs.declared.compare.Place.{Place}
-use Rattle.channel.specs.declared.compare.Found.{Found}
-use Rattle.channel.specs.declared.compare.Found.TheVariants.{Refused, Same, Dimensions, Entry}
+use Rattle.verdict.specs.Questions.{Verdict}
+use Rattle.verdict.specs.declared.Refusal.{Refusal}
+use Rattle.channel.specs.declared.compare.Comparison.{Comparison}
+use Rattle.channel.specs.declared.compare.Comparison.TheVariants.{Same, Dimensions, Differs}
 use Rattle.channel.specs.declared.compare.Difference.{Difference}
 use Rattle.channel.specs.Layout.{side, dim_at, bits_at, read_back}
-use Rattle.channel.specs.WellFormed.{well_formed, some_zero, has_zero_block, form_verdict}
-use Rattle.channel.specs.Compare.{Both, plain, entry, is_same, or_else, scan, first, merge, compare_of}
-use Rattle.channel.specs.Claims.{entry_of, earlier, Sound, Comparable, Agree, SameExactly, Alike, AlikeExactly, swapped, Symmetric, FirstAt, FirstEntry}
-use Rattle.channel.proofs.Judging.{formed, form-right, verdict_accepts}
+use Rattle.channel.specs.WellFormed.{some_zero, verdict_by, form_verdict}
+use Rattle.channel.specs.Compare.{Both, entry, scan, first, found, merge, compare_of}
+use Rattle.channel.specs.Claims.{entry_of, earlier, Sound, Comparable, Agree, SameExactly, Alike, AlikeExactly, swapped, turned, Symmetric, FirstAt, FirstEntry}
+use Rattle.channel.proofs.Judging.{formed, form-right}
 use Rattle.channel.proofs.Sorted.{sorted, swap, merge-swap, merge-left, merge-right, merge_sorted, look_left, look_right}
 use Rattle.channel.proofs.Stores.{same-stores}
 use Rattle.channel.proofs.First.{Compared, alike, differs, compared}
 
-pub sound : (l : List ℤ) → Sound l → accepted (form_verdict l) ≡ true
-sound l s = verdict_accepts (well_formed l) (has_zero_block l) s.right s.full
+pub sound : (l : List ℤ) → Sound l → form_verdict l ≡ Ok tt
+sound l s = λ i. verdict_by (s.right i) (s.full i)
 
 module _ (l r : List ℤ) where
   abbrev both : List Both
   both = merge (read_back l) (read_back r)
 
-  -- the answer by its four tests
-  abbrev by : Bool → Bool → Bool → Bool → Difference
-  by p q s t = cond p (cond q (cond (s && t) (first (side (dim_at l)) both) (plain Dimensions)) (plain (Refused (form_verdict r)))) (plain (Refused (form_verdict l)))
+  -- the answer by the two verdicts and the two tests
+  abbrev by : Verdict → Verdict → Bool → Bool → Result Comparison Refusal
+  by p q s t = result_and p (result_and q (Ok (cond (s && t) (found (first (side (dim_at l)) both)) Dimensions)))
 
   module _ (c : Comparable l r) where
-    is_first : compare_of l r ≡ first (side (dim_at l)) both
+    is_first : compare_of l r ≡ Ok (found (first (side (dim_at l)) both))
     is_first = λ i. by (sound l c.left i) (sound r c.right i) (eq-eqb (dim_at l) (dim_at r) c.dims i) (eq-eqb (bits_at l) (bits_at r) c.bits i)
 
     left_is : (s k : ℕ) → look_left both s k ≡ entry_of l s k
@@ -59,12 +62,12 @@ module _ (l r : List ℤ) where
 pub same_exactly : SameExactly
 same_exactly l r c = (to (outcome l r c), from (outcome l r c))
   where
-    to : Compared (side (dim_at l)) (both l r) (first (side (dim_at l)) (both l r)) → (compare_of l r).found ≡ Same → Agree l r
+    to : Compared (side (dim_at l)) (both l r) (first (side (dim_at l)) (both l r)) → compare_of l r ≡ Ok Same → Agree l r
     to (alike d f) e = λ s k q. across l r c s k (f s k q)
-    to (differs s q p f u d) e = absurd (true≢false (sym (ap is_same (sym (ap (λ (x : Difference). x.found) (is_first l r c ∙ d)) ∙ e))))
+    to (differs s q p f u d) e = let i = is_first l r c in absurd (cc)
 
-    from : Compared (side (dim_at l)) (both l r) (first (side (dim_at l)) (both l r)) → Agree l r → compare_of l r ≡ plain Same
-    from (alike d f) a = is_first l r c ∙ d
+    from : Compared (side (dim_at l)) (both l r) (first (side (dim_at l)) (both l r)) → Agree l r → compare_of l r ≡ Ok Same
+    from (alike d f) a = is_first l r c ∙ ap (λ (o : Option Difference). Ok (found o)) d
     from (differs s q p f u d) a = absurd (u (back l r c s q (a s q p)))
 
 pub alike_exactly : AlikeExactly
@@ -73,7 +76,7 @@ alike_exactly l r p q = (λ e. go (eqb (dim_at l) (dim_at r) && eqb (bits_at l) 
     comparable : dim_at l ≡ dim_at r → bits_at l ≡ bits_at r → Comparable l r
     comparable d b = record { left = p; right = q; dims = d; bits = b }
 
-    go : (t : Bool) → (eqb (dim_at l) (dim_at r) && eqb (bits_at l) (bits_at r)) ≡ t → (compare_of l r).found ≡ Same → Alike l r
+    go : (t : Bool) → (eqb (dim_at l) (dim_at r) && eqb (bits_at l) (bits_at r)) ≡ t → compare_of l r ≡ Ok Same → Alike l r
     go true t e =
         let u = and_split (eqb (dim_at l) (dim_at r)) (eqb (bits_at l) (bits_at r)) t in
         let d = eqb-true (dim_at l) (dim_at r) u.0 in
@@ -85,21 +88,16 @@ alike_exactly l r p q = (λ e. go (eqb (dim_at l) (dim_at r) && eqb (bits_at l) 
           stores = same-stores (side (dim_at l)) (read_back l) (read_back r) (sorted l p.right) (sorted r q.right) p.full (ap (λ (k : ℕ). some_zero (side k) (read_back r)) d ∙ q.full) a;
           entries = a;
         }
-    go false t e = absurd (true≢false (sym (ap is_same (sym (ap (λ (x : Difference). x.found) is) ∙ e))))
+    go false t e = absurd (cc)
       where
-        is : compare_of l r ≡ plain Dimensions
-        is = λ i. cond (sound l p i) (cond (sound r q i) (cond (t i) (first (side (dim_at l)) (both l r)) (plain Dimensions)) (plain (Refused (form_verdict r)))) (plain (Refused (form_verdict l)))
+        is : compare_of l r ≡ Ok Dimensions
+        is = λ i. result_and (sound l p i) (result_and (sound r q i) (Ok (cond (t i) (found (first (side (dim_at l)) (both l r))) Dimensions)))
 
--- the place of an answer
-place_of : Found → Place
-place_of (Refused v) = record { store = 0; row = 0; col = 0 }
-place_of Same = record { store = 0; row = 0; col = 0 }
-place_of Dimensions = record { store = 0; row = 0; col = 0 }
-place_of (Entry p) = p
+same : {a b : Difference} → ◌≡◌ {A = Result Comparison Refusal} (Ok (Differs a)) (Ok (Differs b)) → a ≡ b
+same e = cc
 
 pub first_entry : FirstEntry
-unfolding place_of
-first_entry l r c p e = go (outcome l r c)
+first_entry l r c d e = go (outcome l r c)
   where
     w : ℕ
     w = side (dim_at l)
@@ -111,74 +109,80 @@ first_entry l r c p e = go (outcome l r c)
         by zero h = absurd (omega arith)
         by (suc d) h = omega arith
 
-    go : Compared w (both l r) (first w (both l r)) → FirstAt l r p (compare_of l r)
-    go (alike d f) = absurd (true≢false (sym (ap (λ (x : Difference). is_same x.found) (is_first l r c ∙ d)) ∙ ap is_same e))
-    go (differs s q h f u d) = subst (λ (o : Place). FirstAt l r o (compare_of l r)) place at
+    go : Compared w (both l r) (first w (both l r)) → FirstAt l r d
+    go (alike g f) = let i = is_first l r c in absurd (cc)
+    go (differs s q h f u g) = subst (FirstAt l r) there at
       where
-        is : compare_of l r ≡ entry s (q / w) (q % w) (look_left (both l r) s q) (look_right (both l r) s q)
-        is = is_first l r c ∙ d
+        found_there : Difference
+        found_there = entry s (q / w) (q % w) (look_left (both l r) s q) (look_right (both l r) s q)
 
-        place : record { store = s; row = q / w; col = q % w } ≡ p
-        place = sym (ap (λ (x : Difference). place_of x.found) is) ∙ ap place_of e
+        there : found_there ≡ d
+        there = same (ap (λ (o : Option Difference). Ok (found o)) (sym g) ∙ sym (is_first l r c) ∙ e)
 
         k : q / w * w + q % w ≡ q
         k = div-add-mod' q w
 
-        at : FirstAt l r (record { store = s; row = q / w; col = q % w }) (compare_of l r)
+        at : FirstAt l r found_there
         at = record {
           row = (div-lt_iff_lt-mul some).1 h;
           col = mod-lt q some;
-          left = ap (λ (x : Difference). x.left) is ∙ ap scalar_of (left_is l r c s q) ∙ ap (λ (j : ℕ). scalar_of (entry_of l s j)) (sym k);
-          right = ap (λ (x : Difference). x.right) is ∙ ap scalar_of (right_is l r c s q) ∙ ap (λ (j : ℕ). scalar_of (entry_of r s j)) (sym k);
+          left = ap scalar_of (left_is l r c s q) ∙ ap (λ (j : ℕ). scalar_of (entry_of l s j)) (sym k);
+          right = ap scalar_of (right_is l r c s q) ∙ ap (λ (j : ℕ). scalar_of (entry_of r s j)) (sym k);
           unequal = λ v. u (back l r c s q (subst (λ (j : ℕ). entry_of l s j ≡ entry_of r s j) k v));
           agree = λ t j m z. across l r c t j (f t j m (subst (λ (i : ℕ). earlier t j s i ≡ true) k z));
         }
 
 -- ---- the other way round
-scan-swap : (b : Both) (w n k : ℕ) → scan (swap b) w n k ≡ swapped (scan b w n k)
+scan-swap : (b : Both) (w n k : ℕ) → scan (swap b) w n k ≡ option_map swapped (scan b w n k)
 unfolding scan
 scan-swap b w zero k = refl
-scan-swap b w (suc n) k = ap (λ (t : Bool). cond t (scan (swap b) w n (suc k)) (there)) (equal-swap (b.right k) (b.left k)) ∙ go (equal (b.left k) (b.right k)) (scan-swap b w n (suc k))
+scan-swap b w (suc n) k = ap (λ (t : Bool). cond t (scan (swap b) w n (suc k)) (Some there)) (equal-swap (b.right k) (b.left k)) ∙ go (equal (b.left k) (b.right k)) (scan-swap b w n (suc k))
   where
     there : Difference
     there = entry b.store (k / w) (k % w) (b.right k) (b.left k)
 
-    go : (t : Bool) → scan (swap b) w n (suc k) ≡ swapped (scan b w n (suc k))
-        → cond t (scan (swap b) w n (suc k)) there ≡ swapped (cond t (scan b w n (suc k)) (entry b.store (k / w) (k % w) (b.left k) (b.right k)))
+    go : (t : Bool) → scan (swap b) w n (suc k) ≡ option_map swapped (scan b w n (suc k))
+        → cond t (scan (swap b) w n (suc k)) (Some there) ≡ option_map swapped (cond t (scan b w n (suc k)) (Some (entry b.store (k / w) (k % w) (b.left k) (b.right k))))
     go true e = e
     go false e = refl
 
-or_swap : (a b : Difference) → or_else (swapped a) (swapped b) ≡ swapped (or_else a b)
-or_swap a b = go (is_same a.found)
-  where
-    go : (t : Bool) → cond t (swapped b) (swapped a) ≡ swapped (cond t b a)
-    go true = refl
-    go false = refl
+or_swap : (a b : Option Difference) → option_or (option_map swapped a) (option_map swapped b) ≡ option_map swapped (option_or a b)
+or_swap None b = refl
+or_swap (Some d) b = refl
 
-first-swap : (w : ℕ) (bs : List Both) → first w (map swap bs) ≡ swapped (first w bs)
+first-swap : (w : ℕ) (bs : List Both) → first w (map swap bs) ≡ option_map swapped (first w bs)
 first-swap w [] = refl
-first-swap w (b ∷ bs) = (λ i. or_else (scan-swap b w (w * w) 0 i) (first-swap w bs i)) ∙ or_swap (scan b w (w * w) 0) (first w bs)
+first-swap w (b ∷ bs) = (λ i. option_or (scan-swap b w (w * w) 0 i) (first-swap w bs i)) ∙ or_swap (scan b w (w * w) 0) (first w bs)
+
+found-swap : (o : Option Difference) → found (option_map swapped o) ≡ turned (found o)
+found-swap None = refl
+found-swap (Some d) = refl
+
+abbrev turned_answer : Result Comparison Refusal → Result Comparison Refusal
+turned_answer = result_map_both turned (λ (r : Refusal). r)
 
 pub symmetric : Symmetric
-symmetric l r h = go (accepted (form_verdict l)) refl (accepted (form_verdict r)) refl h (eqb (dim_at l) (dim_at r)) refl (eqb (bits_at l) (bits_at r)) refl
+symmetric l r h = go (form_verdict l) refl (form_verdict r) refl h (eqb (dim_at l) (dim_at r)) refl (eqb (bits_at l) (bits_at r)) refl
   where
-    mine : (p q s t : Bool) → accepted (form_verdict l) ≡ p → accepted (form_verdict r) ≡ q → eqb (dim_at l) (dim_at r) ≡ s → eqb (bits_at l) (bits_at r) ≡ t → compare_of l r ≡ by l r p q s t
+    mine : (p q : Verdict) (s t : Bool) → form_verdict l ≡ p → form_verdict r ≡ q → eqb (dim_at l) (dim_at r) ≡ s → eqb (bits_at l) (bits_at r) ≡ t → compare_of l r ≡ by l r p q s t
     mine p q s t a b c d = λ i. by l r (a i) (b i) (c i) (d i)
 
-    theirs : (p q s t : Bool) → accepted (form_verdict l) ≡ p → accepted (form_verdict r) ≡ q → eqb (dim_at l) (dim_at r) ≡ s → eqb (bits_at l) (bits_at r) ≡ t → compare_of r l ≡ by r l q p s t
-    theirs p q s t a b c d = λ i. by r l (b i) (a i) ((turned (dim_at r) (dim_at l) ∙ c) i) ((turned (bits_at r) (bits_at l) ∙ d) i)
+    theirs : (p q : Verdict) (s t : Bool) → form_verdict l ≡ p → form_verdict r ≡ q → eqb (dim_at l) (dim_at r) ≡ s → eqb (bits_at l) (bits_at r) ≡ t → compare_of r l ≡ by r l q p s t
+    theirs p q s t a b c d = λ i. by r l (b i) (a i) ((around (dim_at r) (dim_at l) ∙ c) i) ((around (bits_at r) (bits_at l) ∙ d) i)
       where
-        turned : (m n : ℕ) → eqb m n ≡ eqb n m
-        turned m n = eqb_same m n n m sym sym
+        around : (m n : ℕ) → eqb m n ≡ eqb n m
+        around m n = eqb_same m n n m sym sym
 
-    go : (p : Bool) → accepted (form_verdict l) ≡ p → (q : Bool) → accepted (form_verdict r) ≡ q → (accepted (form_verdict l) || accepted (form_verdict r)) ≡ true
-        → (s : Bool) → eqb (dim_at l) (dim_at r) ≡ s → (t : Bool) → eqb (bits_at l) (bits_at r) ≡ t → compare_of r l ≡ swapped (compare_of l r)
-    go false a true b h s c t d = theirs false true s t a b c d ∙ sym (ap swapped (mine false true s t a b c d))
-    go false a false b h s c t d = absurd (true≢false (sym h ∙ (λ i. a i || b i)))
-    go true a false b h s c t d = theirs true false s t a b c d ∙ sym (ap swapped (mine true false s t a b c d))
-    go true a true b h false c t d = theirs true true false t a b c d ∙ sym (ap swapped (mine true true false t a b c d))
-    go true a true b h true c false d = theirs true true true false a b c d ∙ sym (ap swapped (mine true true true false a b c d))
-    go true a true b h true c true d =
-        theirs true true true true a b c d
-        ∙ (λ i. first (side (sym (eqb-true (dim_at l) (dim_at r) c) i)) (merge-swap (read_back l) (read_back r) (sorted l (form-right l a)) (sorted r (form-right r b)) i))
-        ∙ first-swap (side (dim_at l)) (both l r) ∙ sym (ap swapped (mine true true true true a b c d))
+    go : (p : Verdict) → form_verdict l ≡ p → (q : Verdict) → form_verdict r ≡ q → (is_ok (form_verdict l) || is_ok (form_verdict r)) ≡ true
+        → (s : Bool) → eqb (dim_at l) (dim_at r) ≡ s → (t : Bool) → eqb (bits_at l) (bits_at r) ≡ t → compare_of r l ≡ turned_answer (compare_of l r)
+    go (Err x) a (Ok y) b h s c t d = theirs (Err x) (Ok y) s t a b c d ∙ sym (ap turned_answer (mine (Err x) (Ok y) s t a b c d))
+    go (Err x) a (Err y) b h s c t d = absurd (true≢false (sym h ∙ (λ i. is_ok (a i) || is_ok (b i))))
+    go (Ok x) a (Err y) b h s c t d = theirs (Ok x) (Err y) s t a b c d ∙ sym (ap turned_answer (mine (Ok x) (Err y) s t a b c d))
+    go (Ok x) a (Ok y) b h false c t d = theirs (Ok x) (Ok y) false t a b c d ∙ sym (ap turned_answer (mine (Ok x) (Ok y) false t a b c d))
+    go (Ok x) a (Ok y) b h true c false d = theirs (Ok x) (Ok y) true false a b c d ∙ sym (ap turned_answer (mine (Ok x) (Ok y) true false a b c d))
+    go (Ok x) a (Ok y) b h true c true d =
+        theirs (Ok x) (Ok y) true true a b c d
+        ∙ (λ i. Ok (found (first (side (sym (eqb-true (dim_at l) (dim_at r) c) i)) (merge-swap (read_back l) (read_back r) (sorted l (form-right l (ap is_ok a))) (sorted r (form-right r (ap is_ok b))) i))))
+        ∙ ap (λ (o : Option Difference). Ok (found o)) (first-swap (side (dim_at l)) (both l r))
+        ∙ ap (λ (o : Comparison). Ok o) (found-swap (first (side (dim_at l)) (both l r)))
+        ∙ sym (ap turned_answer (mine (Ok x) (Ok y) true true a b c d))

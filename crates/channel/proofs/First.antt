@@ -1,4 +1,6 @@
 -- The first unequal entry: what the scan of a store's blocks answers, and the scan of all stores.
+use Rattle.std.specs.Prelude.{Option, Some, None}
+use Rattle.std.specs.Option.{option_or}
 use mathlib.Core.Path.{◌≡◌, refl, sym, ap, ◌∙◌, subst}
 use mathlib.Core.Bool.{Bool, true, false, cond, ◌&&◌, ◌||◌, true≢false}
 use mathlib.Core.List.{List, [], ◌∷◌}
@@ -11,24 +13,23 @@ use Rattle.algebra.proofs.Tests.{and_split}
 use Rattle.exact.specs.Exact.{equal}
 use Rattle.exact.proofs.Equal.{equal-true, equal_of}
 use Rattle.channel.specs.declared.compare.Difference.{Difference}
-use Rattle.channel.specs.declared.compare.Found.TheVariants.{Same}
 use Rattle.store.specs.Store.{before}
-use Rattle.channel.specs.Compare.{Both, plain, entry, or_else, scan, first}
+use Rattle.channel.specs.Compare.{Both, entry, scan, first}
 use Rattle.channel.specs.Claims.{earlier}
 use Rattle.channel.proofs.Sorted.{Above, Sorted, above_trans, stores, look_left, look_right, none_left, none_right}
 
 -- ---- the entries of one store, n from k on
-data Scanned (b : Both) (w n k : ℕ) (d : Difference) : Type 0 where
-  alike : d ≡ plain Same → ((j : ℕ) → k ≤ j → j < k + n → b.left j ≡ b.right j) → Scanned b w n k d
-  differs : (q : ℕ) → k ≤ q → q < k + n → ((j : ℕ) → k ≤ j → j < q → b.left j ≡ b.right j) → (b.left q ≡ b.right q → ⊥) → d ≡ entry b.store (q / w) (q % w) (b.left q) (b.right q) → Scanned b w n k d
+data Scanned (b : Both) (w n k : ℕ) (d : Option Difference) : Type 0 where
+  alike : d ≡ None → ((j : ℕ) → k ≤ j → j < k + n → b.left j ≡ b.right j) → Scanned b w n k d
+  differs : (q : ℕ) → k ≤ q → q < k + n → ((j : ℕ) → k ≤ j → j < q → b.left j ≡ b.right j) → (b.left q ≡ b.right q → ⊥) → d ≡ Some (entry b.store (q / w) (q % w) (b.left q) (b.right q)) → Scanned b w n k d
 
 scanned : (b : Both) (w n k : ℕ) → Scanned b w n k (scan b w n k)
 unfolding scan
 scanned b w zero k = alike refl (λ j p q. absurd (omega arith))
 scanned b w (suc n) k = go (equal (b.left k) (b.right k)) refl (scanned b w n (suc k))
   where
-    here : Bool → Difference
-    here t = cond t (scan b w n (suc k)) (entry b.store (k / w) (k % w) (b.left k) (b.right k))
+    here : Bool → Option Difference
+    here t = cond t (scan b w n (suc k)) (Some (entry b.store (k / w) (k % w) (b.left k) (b.right k)))
 
     from : (j : ℕ) → b.left k ≡ b.right k → k ≤ j → (suc k ≤ j → b.left j ≡ b.right j) → b.left j ≡ b.right j
     from j e p r = by (dec_lt k j)
@@ -43,10 +44,10 @@ scanned b w (suc n) k = go (equal (b.left k) (b.right k)) refl (scanned b w n (s
     go false t r = differs k (omega arith) (omega arith) (λ j p q. absurd (omega arith)) (λ e. true≢false (sym (equal_of _ _ e) ∙ t)) (ap here t)
 
 -- ---- all stores
-pub data Compared (w : ℕ) (bs : List Both) (d : Difference) : Type 0 where
-  alike : d ≡ plain Same → ((s k : ℕ) → k < w * w → look_left bs s k ≡ look_right bs s k) → Compared w bs d
+pub data Compared (w : ℕ) (bs : List Both) (d : Option Difference) : Type 0 where
+  alike : d ≡ None → ((s k : ℕ) → k < w * w → look_left bs s k ≡ look_right bs s k) → Compared w bs d
   differs : (s q : ℕ) → q < w * w → ((t j : ℕ) → j < w * w → earlier t j s q ≡ true → look_left bs t j ≡ look_right bs t j)
-      → (look_left bs s q ≡ look_right bs s q → ⊥) → d ≡ entry s (q / w) (q % w) (look_left bs s q) (look_right bs s q) → Compared w bs d
+      → (look_left bs s q ≡ look_right bs s q → ⊥) → d ≡ Some (entry s (q / w) (q % w) (look_left bs s q) (look_right bs s q)) → Compared w bs d
 
 pub compared : (w : ℕ) (bs : List Both) → Sorted (stores bs) → Compared w bs (first w bs)
 compared w [] h = alike refl (λ s k q. refl)
@@ -71,16 +72,16 @@ compared w (b ∷ bs) h = go (scanned b w (w * w) 0) (compared w bs h.1.1)
         by true e = let a = subst (λ (x : ℕ). Above x (stores bs)) (sym (eqb-true s b.store e)) h.1.0 in absurd (u (none_left bs s k a ∙ sym (none_right bs s k a)))
 
     go : Scanned b w (w * w) 0 (scan b w (w * w) 0) → Compared w bs (first w bs) → Compared w (b ∷ bs) (first w (b ∷ bs))
-    go (alike e f) (alike d g) = alike (ap (λ (x : Difference). or_else x (first w bs)) e ∙ d) (λ s k q. at s k (f k (omega arith) (omega arith)) (g s k q))
+    go (alike e f) (alike d g) = alike (ap (λ (x : Option Difference). option_or x (first w bs)) e ∙ d) (λ s k q. at s k (f k (omega arith) (omega arith)) (g s k q))
     go (alike e f) (differs s q p g u d) =
         let z = apart s q u in
         let x : look_left (b ∷ bs) s q ≡ look_left bs s q = ap (λ (t : Bool). cond t (b.left q) (look_left bs s q)) z in
         let y : look_right (b ∷ bs) s q ≡ look_right bs s q = ap (λ (t : Bool). cond t (b.right q) (look_right bs s q)) z in
         differs s q p (λ t j l r. at t j (f j (omega arith) (omega arith)) (g t j l r)) (λ v. u (sym x ∙ v ∙ y))
-        (ap (λ (x : Difference). or_else x (first w bs)) e ∙ d ∙ (λ i. entry s (q / w) (q % w) (sym x i) (sym y i)))
+        (ap (λ (x : Option Difference). option_or x (first w bs)) e ∙ d ∙ (λ i. Some (entry s (q / w) (q % w) (sym x i) (sym y i))))
     go (differs q p r f u e) rest =
         differs b.store q (omega arith) (λ t j l z. before_here t j q l f z) (λ v. u (sym (here q) ∙ v ∙ here-right q))
-        (ap (λ (x : Difference). or_else x (first w bs)) e ∙ (λ i. entry b.store (q / w) (q % w) (sym (here q) i) (sym (here-right q) i)))
+        (ap (λ (x : Option Difference). option_or x (first w bs)) e ∙ (λ i. Some (entry b.store (q / w) (q % w) (sym (here q) i) (sym (here-right q) i))))
       where
         before_here : (t j q : ℕ) → j < w * w → ((j : ℕ) → 0 ≤ j → j < q → b.left j ≡ b.right j) → earlier t j b.store q ≡ true → look_left (b ∷ bs) t j ≡ look_right (b ∷ bs) t j
         before_here t j q l f z = by (before t b.store) refl z

@@ -1,6 +1,6 @@
 -- The words of a full block, entry after entry.
 use mathlib.Core.Path.{◌≡◌, ap, ◌∙◌}
-use Prim.Native.Nat.{ℕ, ◌+◌, ◌*◌, ◌-◌}
+use Prim.Native.Nat.{ℕ, ◌+◌, ◌*◌}
 use native.Mathlib.Nat.{zero-add, sub-zero}
 use Rattle.algebra.specs.Words.{joined}
 use Rattle.algebra.proofs.Blocks.{joined_same, joined-rows}

@@ -1,41 +1,36 @@
 -- Judged records: what a verdict says of the test behind it, and where the records of a well-formed channel lie.
-use mathlib.Core.Path.{◌≡◌, refl, sym, ap, ◌∙◌}
-use mathlib.Core.Bool.{Bool, true, false, not, cond, ◌&&◌, ◌||◌, true≢false}
+use Rattle.std.specs.Prelude.{Option, Some, None, Ok, Err, is_ok}
+use mathlib.Core.Path.{◌≡◌, refl, sym, ap, ◌∙◌, subst}
+use mathlib.Core.Bool.{Bool, true, false, ◌&&◌, ◌||◌, true≢false}
 use mathlib.Core.List.{List}
 use Prim.Native.Nat.{ℕ, suc, ◌+◌, ◌*◌, ◌-◌, ◌/◌, ◌<◌, ◌≤◌}
 use native.Mathlib.Omega.{arith}
 use native.Mathlib.Nat.{le-div_iff_mul-le}
-use lib.Dec.{leb, eqb}
+use lib.Dec.{leb}
 use lib.ListN.{length}
 use borrow.Author.Tests.{leb-true}
 use lib.IntN.{ℤ, pos, nat_abs}
 use Rattle.algebra.specs.Words.{eqℤ, up_to}
 use Rattle.algebra.proofs.Tests.{and_split}
-use Rattle.verdict.specs.declared.Verdict.{Verdict}
-use Rattle.verdict.specs.declared.Verdict.TheVariants.{Malformed}
-use Rattle.verdict.specs.Verdict.{verdict_number, accepted}
-use Rattle.channel.specs.Layout.{Form, full, channels, header_size, record_size, side, word, entry_at, store_at, dim_at, bits_at, count_at, chain}
+use Rattle.verdict.specs.Questions.{Verdict}
+use Rattle.verdict.specs.declared.Refusal.TheVariants.{Malformed}
+use Rattle.channel.specs.declared.forms.Parts.{Parts}
+use Rattle.channel.specs.Layout.{Form, full, channels, form_in, header_size, record_size, side, word, entry_at, store_at, dim_at, bits_at, count_at, chain}
 use Rattle.channel.specs.declared.Shape.{Shape}
-use Rattle.channel.specs.declared.well_formed.Judged.{Judged}
+use Rattle.verdict.specs.declared.Refusal.{Refusal}
 use Rattle.channel.specs.WellFormed.{is_dim, is_start, record_ok, chain_ok, header_ok, chained, well_formed_in, well_formed, all_zero, some_zero, has_zero_block, verdict_by, form_verdict}
-use Rattle.channel.specs.Inner.Shapes.{judged, Room, shape_at, shape_of, no_shape, shape_by}
+use Rattle.channel.specs.Inner.Shapes.{when, Room, shape_at, shape_by, shape_of, header_of}
 use Rattle.store.proofs.Words.{up-abs}
 use Rattle.channel.proofs.Words.{dim_range, square_small}
 
-pub good : (j : Judged) (b z : Bool) (s : ℕ) → j ≡ judged b z s → j.ok ≡ true → (b ≡ true) × ((j.store ≡ s) × (j.zero ≡ z))
-good j b z s e f =
-    let t : b ≡ true = sym (ap (λ (k : Judged). k.ok) e) ∙ f in
-    (t, (ap (λ (k : Judged). k.store) e ∙ ap (λ (c : Bool). cond c s 0) t, ap (λ (k : Judged). k.zero) e ∙ ap (λ (c : Bool). c && z) t))
+-- what a value that is there says of the test behind it, and one that is not
+pub there : {A : Type 0} (b : Bool) (x : A) {y : A} {r : Option A} → r ≡ when b x → r ≡ Some y → (b ≡ true) × (y ≡ x)
+there true x e f = (refl, cc)
+there false x e f = absurd (cc)
 
-pub bad : (j : Judged) (b z : Bool) (s : ℕ) → j ≡ judged b z s → j.ok ≡ false → b ≡ false
-bad j b z s e f = sym (ap (λ (k : Judged). k.ok) e) ∙ f
-
--- a verdict on a test that fails, or holds
-pub is_bad : (j : Judged) (b z : Bool) (s : ℕ) → j ≡ judged false false 0 → b ≡ false → j ≡ judged b z s
-is_bad j b z s e f = e ∙ ap (λ (c : Bool). judged c z s) (sym f)
-
-pub is_good : (y : Bool) (n : ℕ) (b z : Bool) (s : ℕ) → y ≡ z → n ≡ s → b ≡ true → ◌≡◌ {A = Judged} (record { ok = true; zero = y; store = n }) (judged b z s)
-is_good y n b z s d e f = (λ i. judged (sym f i) (d i) (e i))
+pub lacking : {A : Type 0} (b : Bool) (x : A) {r : Option A} → r ≡ when b x → r ≡ None → b ≡ false
+lacking true x e f = absurd (cc)
+lacking false x e f = refl
 
 -- ---- one step along the chain
 module _ (F : Form) (l : List ℤ) (m count n : ℕ) (z : ℤ) (first : Bool) (prev : ℕ) (h : 0 < n) where
@@ -141,48 +136,34 @@ headed l e =
     record { some = h.some; small = h.small; room = record { width = square_small (dim_at l) h.small; few = h.few; inside = h.inside } }
 
 -- what a verdict says of its two tests
-pub verdict_test : (b : Bool) → accepted (verdict_by b false) ≡ b
+pub verdict_test : (b : Bool) → is_ok (verdict_by b false) ≡ b
 verdict_test true = refl
 verdict_test false = refl
 
-pub verdict_right : (b z : Bool) → accepted (verdict_by b z) ≡ true → (b ≡ true) × (z ≡ false)
+pub verdict_right : (b z : Bool) → is_ok (verdict_by b z) ≡ true → (b ≡ true) × (z ≡ false)
 verdict_right true true e = absurd (true≢false (sym e))
 verdict_right true false e = (refl, refl)
 verdict_right false z e = absurd (true≢false (sym e))
 
-pub verdict_accepts : (b z : Bool) → b ≡ true → z ≡ false → accepted (verdict_by b z) ≡ true
-verdict_accepts b z e f = λ i. accepted (verdict_by (e i) (f i))
+pub verdict_accepts : (b z : Bool) → b ≡ true → z ≡ false → is_ok (verdict_by b z) ≡ true
+verdict_accepts b z e f = λ i. is_ok (verdict_by (e i) (f i))
 
 -- a channel that is accepted
-module _ (l : List ℤ) (e : accepted (form_verdict l) ≡ true) where
+module _ (l : List ℤ) (e : is_ok (form_verdict l) ≡ true) where
   pub form-right : well_formed l ≡ true
   form-right = (verdict_right (well_formed l) (has_zero_block l) e).0
 
   pub form-full : has_zero_block l ≡ false
   form-full = (verdict_right (well_formed l) (has_zero_block l) e).1
 
--- a shape by its verdict
-module _ (l : List ℤ) (v : Verdict) where
-  pub shape-yes : accepted v ≡ true → shape_at l ≡ shape_by v l
-  shape-yes e = ap (λ (b : Bool). cond b (shape_at l) (no_shape v)) (sym e)
+-- what a shape, or a refusal in its place, says of the verdict that it goes with
+pub shape-yes : (v : Verdict) (l : List ℤ) {h : Shape} → Ok h ≡ shape_by v l → (v ≡ Ok tt) × (h ≡ shape_at l)
+shape-yes (Ok x) l e = (refl, cc)
+shape-yes (Err r) l e = absurd (cc)
 
-  pub shape-refused : accepted v ≡ false → no_shape v ≡ shape_by v l
-  shape-refused e = ap (λ (b : Bool). cond b (shape_at l) (no_shape v)) (sym e)
-
--- what a shape says of the verdict that it goes with
-module _ (l : List ℤ) (v : Verdict) (h : Shape) (e : h ≡ shape_by v l) where
-  pub shape_test : accepted h.verdict ≡ accepted v
-  shape_test = ap (λ (s : Shape). accepted s.verdict) e ∙ by (accepted v) refl
-    where
-      by : (b : Bool) → accepted v ≡ b → accepted (shape_by v l).verdict ≡ accepted v
-      by true p = ap (λ (b : Bool). accepted (cond b (shape_at l) (no_shape v)).verdict) p ∙ sym p
-      by false p = ap (λ (b : Bool). accepted (cond b (shape_at l) (no_shape v)).verdict) p
-
-  pub shape_is : accepted h.verdict ≡ true → h ≡ shape_at l
-  shape_is f = e ∙ ap (λ (b : Bool). cond b (shape_at l) (no_shape v)) (sym shape_test ∙ f)
-
-  pub shape_no : accepted h.verdict ≡ false → h ≡ no_shape v
-  shape_no f = e ∙ ap (λ (b : Bool). cond b (shape_at l) (no_shape v)) (sym shape_test ∙ f)
+pub shape_no : (v : Verdict) (l : List ℤ) {r : Refusal} → Err r ≡ shape_by v l → v ≡ Err r
+shape_no (Ok x) l e = absurd (cc)
+shape_no (Err s) l e = cc
 
 -- words that are well formed in a form: their header, and their chain
 module _ (F : Form) (l : List ℤ) where
@@ -201,7 +182,7 @@ in_channel l = refl
 
 -- the verdict, by the header and what is found along the chain
 module _ (l : List ℤ) where
-  pub bad_header : header_ok (channels (dim_at l)) l ≡ false → form_verdict l ≡ Malformed
+  pub bad_header : header_ok (channels (dim_at l)) l ≡ false → form_verdict l ≡ (Err Malformed)
   unfolding well_formed well_formed_in
   bad_header e = ap (λ (b : Bool). verdict_by (b && chained (channels (dim_at l)) l) (has_zero_block l)) e
 
@@ -209,23 +190,47 @@ module _ (l : List ℤ) where
   unfolding well_formed well_formed_in
   form-along e = ap (λ (b : Bool). verdict_by (b && chained (channels (dim_at l)) l) (has_zero_block l)) e
 
-  -- the verdict of the shape
-  pub shape_verdict : (h : Shape) → h ≡ shape_of l → h.verdict ≡ form_verdict l
-  shape_verdict h e = ap (λ (s : Shape). s.verdict) e ∙ by (well_formed l) (has_zero_block l)
-    where
-      by : (b z : Bool) → (shape_by (verdict_by b z) l).verdict ≡ verdict_by b z
-      by true true = refl
-      by true false = refl
-      by false z = refl
-
   -- only 10 is not well formed
-  pub form-number : not (eqb (verdict_number (form_verdict l)) 10) ≡ well_formed l
-  form-number = by (well_formed l) (has_zero_block l)
+  pub form-malformed : form_verdict l ≡ Err Malformed → well_formed l ≡ false
+  form-malformed = by (well_formed l) (has_zero_block l)
     where
-      by : (b z : Bool) → not (eqb (verdict_number (verdict_by b z)) 10) ≡ b
-      by true true = refl
-      by true false = refl
-      by false z = refl
+      by : (b z : Bool) → verdict_by b z ≡ Err Malformed → b ≡ false
+      by true true e = absurd (cc)
+      by true false e = absurd (cc)
+      by false z e = refl
+
+-- the header of words of a form, or its refusal
+module _ (f : Parts) (l : List ℤ) where
+  pub header_is : {h : Shape} → Ok h ≡ header_of f l → (header_ok (form_in f l) l ≡ true) × (h ≡ shape_at l)
+  header_is e = let q = shape-yes (verdict_by (header_ok (form_in f l) l) false) l e in (sym (verdict_test (header_ok (form_in f l) l)) ∙ ap is_ok q.0, q.1)
+
+  pub header-no : {r : Refusal} → Err r ≡ header_of f l → (header_ok (form_in f l) l ≡ false) × (r ≡ Malformed)
+  header-no {r} e = by (header_ok (form_in f l) l) refl (shape_no (verdict_by (header_ok (form_in f l) l) false) l e)
+    where
+      by : (b : Bool) → header_ok (form_in f l) l ≡ b → verdict_by b false ≡ Err r → (b ≡ false) × (r ≡ Malformed)
+      by true p q = absurd (cc)
+      by false p q = (refl, cc)
+
+abbrev pub all_kept : Parts
+all_kept = record { half = false; plain = false }
+
+-- what is found after the header of a channel
+module _ (l : List ℤ) where
+  pub unheaded : {r : Refusal} → Err r ≡ header_of all_kept l → Err r ≡ shape_of l
+  unheaded e =
+      let q = header-no all_kept l e in
+      ap (λ (r : Refusal). Err r) q.1 ∙ ap (λ (v : Verdict). shape_by v l) (sym (bad_header l q.0))
+
+  module _ {h : Shape} (e : Ok h ≡ header_of all_kept l) where
+    pub room_there : Room l (h.dim * h.dim) h.bits h.count
+    room_there = let q = header_is all_kept l e in subst (λ (s : Shape). Room l (s.dim * s.dim) s.bits s.count) (sym q.1) (headed l q.0).room
+
+    -- the verdict along the chain is the verdict
+    pub chain_is : verdict_by (chain_ok (full (h.dim * h.dim)) l h.bits h.count h.count (word l 3) true 0) (some_zero (h.dim * h.dim) (chain (full (h.dim * h.dim)) l h.count (nat_abs (word l 3)))) ≡ form_verdict l
+    chain_is =
+        let q = header_is all_kept l e in
+        ap (λ (s : Shape). verdict_by (chain_ok (full (s.dim * s.dim)) l s.bits s.count s.count (word l 3) true 0) (some_zero (s.dim * s.dim) (chain (full (s.dim * s.dim)) l s.count (nat_abs (word l 3))))) q.1
+        ∙ sym (form-along l q.0)
 
 -- a well-formed channel: its header, and its chain
 pub record Formed (l : List ℤ) : Type 0 where
@@ -235,3 +240,24 @@ pub record Formed (l : List ℤ) : Type 0 where
 pub formed : (l : List ℤ) → well_formed l ≡ true → Formed l
 unfolding well_formed well_formed_in
 formed l e = let t = and_split (header_ok (channels (dim_at l)) l) (chained (channels (dim_at l)) l) e in record { head = headed l t.0; chain = t.1 }
+
+-- a channel that is judged well: its header
+pub record Passed (l : List ℤ) (h : Shape) : Type 0 where
+  pub verdict : form_verdict l ≡ Ok tt
+  pub right : well_formed l ≡ true
+  pub is : h ≡ shape_at l
+  pub width : h.dim * h.dim ≤ 256
+  pub few : h.bits ≤ 64
+
+pub passed_is : (l : List ℤ) {h : Shape} → Ok h ≡ shape_of l → Passed l h
+passed_is l e =
+    let q = shape-yes (form_verdict l) l e in
+    let w = form-right l (ap is_ok q.0) in
+    let r = (formed l w).head.room in
+    record {
+      verdict = q.0;
+      right = w;
+      is = q.1;
+      width = subst (λ (h : Shape). h.dim * h.dim ≤ 256) (sym q.1) r.width;
+      few = subst (λ (h : Shape). h.bits ≤ 64) (sym q.1) r.few;
+    }

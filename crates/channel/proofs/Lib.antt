@@ -22,6 +22,7 @@ pub mod Trail
 pub mod Canonical
 pub mod Deciding
 pub mod Sizes
+pub mod Places
 pub mod ByWords
 pub mod Pass
 pub mod Examples

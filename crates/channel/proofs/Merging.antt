@@ -1,4 +1,6 @@
 -- One turn of the walk along two chains is one step of the merge of their blocks.
+use Rattle.std.specs.Prelude.{Option, Some, None, is_some}
+use Rattle.std.specs.Option.{option_or}
 use mathlib.Core.Path.{◌≡◌, refl, sym, ap, ◌∙◌, subst}
 use mathlib.Core.Bool.{Bool, true, false, cond, ◌||◌, true≢false}
 use mathlib.Core.List.{List, [], ◌∷◌}
@@ -9,7 +11,6 @@ use lib.ListN.{length}
 use lib.IntN.{ℤ, nat_abs}
 use borrow.Author.Tests.{eq-eqb, ne_eqb, lt-ltb, ltb-true, ltb-false}
 use Rattle.channel.specs.declared.compare.Difference.{Difference}
-use Rattle.channel.specs.declared.compare.Found.TheVariants.{Same}
 use Rattle.channel.specs.declared.compare.Turn.{Turn}
 use Rattle.channel.specs.declared.compare.Cursor.{Cursor}
 use Rattle.algebra.proofs.Tests.{and_split}
@@ -17,7 +18,7 @@ use Rattle.store.specs.Store.{before}
 use Rattle.channel.specs.Layout.{Block, record_head, channels, side, word, store_at, dim_at, count_at, chain, read_back}
 use Rattle.channel.specs.WellFormed.{well_formed}
 use Rattle.channel.specs.Inner.Shapes.{Onward, Entries}
-use Rattle.channel.specs.Compare.{Both, is_same, plain, or_else, scan, first, merge}
+use Rattle.channel.specs.Compare.{Both, scan, first, merge}
 use Rattle.channel.specs.Inner.Walk.{both_at, on_left, on_right, on_both, turn_by, turn_of, cursor_at, advance, On}
 use Rattle.channel.proofs.Chain.{onward_begin, on-inside, on-block, on-next}
 
@@ -165,7 +166,7 @@ module _ {l r : List ℤ} {w : ℕ} {a b : Cursor} (k : Walking l r w a b) (h : 
   abbrev turn : Turn
   turn = turn_of a b
 
-  abbrev answered : Difference
+  abbrev answered : Option Difference
   answered = scan (both_at turn l a.at r b.at) w (w * w) 0
 
   pub left-some : turn.left ≡ true → 0 < a.left
@@ -174,22 +175,30 @@ module _ {l r : List ℤ} {w : ℕ} {a b : Cursor} (k : Walking l r w a b) (h : 
   pub right-some : turn.right ≡ true → 0 < b.left
   right-some = turning.on_right_side
 
-  abbrev rest : Difference
+  abbrev rest : Option Difference
   rest = first w (merge (along l (advance turn.left l a).left (advance turn.left l a).at) (along r (advance turn.right r b).left (advance turn.right r b).at))
 
-  step_is : first w (merge (read_back l) (read_back r)) ≡ or_else answered rest
+  step_is : first w (merge (read_back l) (read_back r)) ≡ option_or answered rest
   step_is =
       k.is ∙ ap (first w) turning.step
-      ∙ sym (λ i. or_else answered (first w (merge (along l (left-of turn.left l a i) (at_of turn.left l a i)) (along r (left-of turn.right r b i) (at_of turn.right r b i)))))
+      ∙ sym (λ i. option_or answered (first w (merge (along l (left-of turn.left l a i) (at_of turn.left l a i)) (along r (left-of turn.right r b i) (at_of turn.right r b i)))))
 
-  pub walking_stop : is_same answered.found ≡ false → answered ≡ first w (merge (read_back l) (read_back r))
-  walking_stop e = sym (step_is ∙ ap (λ (t : Bool). cond t rest answered) e)
+  or-some : (o s : Option Difference) → is_some o ≡ true → o ≡ option_or o s
+  or-some None s e = no e
+  or-some (Some d) s e = refl
 
-  pub walking_on : {c d : Cursor} → is_same answered.found ≡ true → c ≡ advance turn.left l a → d ≡ advance turn.right r b → Walking l r w c d
+  or_none : (o s : Option Difference) → is_some o ≡ false → option_or o s ≡ s
+  or_none None s e = refl
+  or_none (Some d) s e = no (sym e)
+
+  pub walking_stop : is_some answered ≡ true → answered ≡ first w (merge (read_back l) (read_back r))
+  walking_stop e = or-some answered rest e ∙ sym step_is
+
+  pub walking_on : {c d : Cursor} → is_some answered ≡ false → c ≡ advance turn.left l a → d ≡ advance turn.right r b → Walking l r w c d
   walking_on {c} {d} e p q = record {
     left = subst (On l) (sym p) (on-advance turn.left l a k.left left-some);
     right = subst (On r) (sym q) (on-advance turn.right r b k.right right-some);
-    is = step_is ∙ ap (λ (t : Bool). cond t rest answered) e ∙ sym (λ i. first w (merge (along l (p i).left (p i).at) (along r (q i).left (q i).at)));
+    is = step_is ∙ or_none answered rest e ∙ sym (λ i. first w (merge (along l (p i).left (p i).at) (along r (q i).left (q i).at)));
   }
 
   pub walking_less : {c d : Cursor} → c ≡ advance turn.left l a → d ≡ advance turn.right r b → c.left + d.left < a.left + b.left
@@ -204,10 +213,10 @@ module _ {l r : List ℤ} {w : ℕ} {a b : Cursor} (k : Walking l r w a b) (h : 
       by false true e p q = let t = q refl in omega arith
       by false false e p q = no e
 
-pub walking_done : {l r : List ℤ} {w : ℕ} {a b : Cursor} → Walking l r w a b → (ltb 0 a.left || ltb 0 b.left) ≡ false → plain Same ≡ first w (merge (read_back l) (read_back r))
+pub walking_done : {l r : List ℤ} {w : ℕ} {a b : Cursor} → Walking l r w a b → (ltb 0 a.left || ltb 0 b.left) ≡ false → None ≡ first w (merge (read_back l) (read_back r))
 walking_done {l} {r} {w} {a} {b} k h = sym (k.is ∙ by a.left b.left h)
   where
-    by : (m n : ℕ) → (ltb 0 m || ltb 0 n) ≡ false → first w (merge (along l m a.at) (along r n b.at)) ≡ plain Same
+    by : (m n : ℕ) → (ltb 0 m || ltb 0 n) ≡ false → first w (merge (along l m a.at) (along r n b.at)) ≡ None
     by zero zero e = refl
     by zero (suc n) e = absurd (omega (arith, ltb-false 0 (suc n) e))
     by (suc m) n e = absurd (true≢false (sym (ap (λ (t : Bool). t || ltb 0 n) (lt-ltb 0 (suc m) (omega arith))) ∙ e))

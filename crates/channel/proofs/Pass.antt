@@ -19,10 +19,8 @@ use Rattle.gather.specs.declared.Seen.{Seen}
 use Rattle.gather.specs.Words.{all_in_range, all_even, seen_of}
 use Rattle.gather.specs.Words.{all_zero as zeroWords}
 use Rattle.algebra.specs.Dyadic.{power}
-use Rattle.channel.specs.declared.well_formed.Judged.{Judged}
 use Rattle.channel.specs.Layout.{full, record_head, exponent_place, word, exp_at, numbers_at, entry_at}
 use Rattle.channel.specs.WellFormed.{block_ok, all_zero}
-use Rattle.channel.specs.Inner.Shapes.{judged}
 use Rattle.channel.proofs.RoundTrip.{all_same}
 use Rattle.channel.proofs.ByWords.{by-words, words_test, zero_test}
 

@@ -11,10 +11,9 @@ use Rattle.algebra.specs.Dyadic.{frac, power}
 use Rattle.algebra.specs.Sum.{sum}
 use Rattle.algebra.specs.Lists.{all_below}
 use Rattle.algebra.proofs.Tests.{all-at, all_no, or_right}
-use Rattle.algebra.proofs.Semi.{add-mul}
-use Rattle.algebra.proofs.Ring.{semi, mul-one}
+use Rattle.algebra.proofs.Ring.{mul-one}
 use Rattle.algebra.proofs.Quadratic.{ℤ√2i}
-use Rattle.algebra.proofs.Dyadic.{lowest-up, lowest_is, low_exp, low-odd, value-add, sum-value}
+use Rattle.algebra.proofs.Dyadic.{lowest-up, lowest_is, low_exp, low-odd, sum-value}
 use Rattle.exact.specs.Exact.{Number, numbers, number_halves, Exact, exact, lowest, is_lowest}
 use Rattle.exact.proofs.Exact.{exact_halving, is_lowest_lem, lowest-odd}
 use Rattle.channel.specs.Shared.{Shared, entry, all_halves, is_shared, shared_exponent, scaled, shared, reduced}

@@ -1,17 +1,18 @@
 -- What is claimed of the comparison of two channels, of well-formed words, and of words that are written.
-use Rattle.std.specs.Prelude.{◌≡◌, Bool, true, false, cond, ◌&&◌, ◌||◌, List, [], ◌∷◌, ◌++◌, map, ℕ, zero, suc, ◌+◌, ◌*◌, ◌-◌, ◌/◌, ◌^◌, ◌<◌, ◌≤◌, eqb, ltb, ℤ, pos, nat_abs}
+use Rattle.std.specs.Prelude.{◌≡◌, Bool, true, false, cond, ◌&&◌, ◌||◌, List, [], ◌∷◌, ◌++◌, map, ℕ, zero, suc, ◌+◌, ◌*◌, ◌-◌, ◌/◌, ◌^◌, ◌<◌, ◌≤◌, eqb, ltb, ℤ, pos, nat_abs, Ok, is_ok}
+use Rattle.std.specs.Result.{result_map_both}
 use Rattle.algebra.specs.Lists.{total}
-use Rattle.verdict.specs.Verdict.{accepted}
 use Rattle.exact.specs.Exact.{Number, Exact, exact, is_lowest, conj}
 use Rattle.scalar.specs.Calls.{scalar_of}
-use Rattle.channel.specs.declared.compare.Place.{Place}
-use Rattle.channel.specs.declared.compare.Found.TheVariants.{Same, Entry}
+use Rattle.verdict.specs.declared.Refusal.{Refusal}
+use Rattle.channel.specs.declared.compare.Comparison.{Comparison}
+use Rattle.channel.specs.declared.compare.Comparison.TheVariants.{Same, Dimensions, Differs}
 use Rattle.channel.specs.declared.compare.Difference.{Difference}
 use Rattle.store.specs.Store.{before}
 use Rattle.channel.specs.Shared.{shared, shared_fits}
 use Rattle.channel.specs.Layout.{Block, Form, header_size, entries, record_size, side, word, dim_at, bits_at, count_at, words, read_back_in, read_back}
 use Rattle.channel.specs.WellFormed.{is_dim, well_formed_in, well_formed, has_zero_block, form_verdict}
-use Rattle.channel.specs.Compare.{plain, compare_of}
+use Rattle.channel.specs.Compare.{compare_of}
 
 -- entry k of the block of the store s; a missing block is zero
 abbrev pub look : List Block → ℕ → ℕ → Exact
@@ -43,7 +44,7 @@ Agree l r = (s k : ℕ) → k < size l → entry_of l s k ≡ entry_of r s k
 
 -- "same" exactly where they are
 abbrev pub SameExactly : Type 0
-SameExactly = (l r : List ℤ) → Comparable l r → ((compare_of l r).found ≡ Same → Agree l r) × (Agree l r → compare_of l r ≡ plain Same)
+SameExactly = (l r : List ℤ) → Comparable l r → (compare_of l r ≡ Ok Same → Agree l r) × (Agree l r → compare_of l r ≡ Ok Same)
 
 abbrev pub stores_of : List Block → List ℕ
 stores_of bs = map (λ (b : Block). b.store) bs
@@ -57,30 +58,35 @@ pub record Alike (l r : List ℤ) : Type 0 where
 
 -- so "same" says that nothing that is read back differs
 abbrev pub AlikeExactly : Type 0
-AlikeExactly = (l r : List ℤ) → Sound l → Sound r → ((compare_of l r).found ≡ Same → Alike l r) × (Alike l r → compare_of l r ≡ plain Same)
+AlikeExactly = (l r : List ℤ) → Sound l → Sound r → (compare_of l r ≡ Ok Same → Alike l r) × (Alike l r → compare_of l r ≡ Ok Same)
 
 abbrev pub swapped : Difference → Difference
-swapped d = record { found = d.found; left = d.right; right = d.left }
+swapped d = record { place = d.place; left = d.right; right = d.left }
+
+abbrev pub turned : Comparison → Comparison
+turned Same = Same
+turned Dimensions = Dimensions
+turned (Differs d) = Differs (swapped d)
 
 -- the other way round, unless both are refused: then the left one's refusal is told
 abbrev pub Symmetric : Type 0
-Symmetric = (l r : List ℤ) → (accepted (form_verdict l) || accepted (form_verdict r)) ≡ true → compare_of r l ≡ swapped (compare_of l r)
+Symmetric = (l r : List ℤ) → (is_ok (form_verdict l) || is_ok (form_verdict r)) ≡ true → compare_of r l ≡ result_map_both turned (λ (r : Refusal). r) (compare_of l r)
 
 -- entry j of the store s comes before entry k of the store t
 abbrev pub earlier : ℕ → ℕ → ℕ → ℕ → Bool
 earlier s j t k = before s t || (eqb s t && ltb j k)
 
--- p is the first place at which l and r differ, and d has its two entries
-pub record FirstAt (l r : List ℤ) (p : Place) (d : Difference) : Type 0 where
-  pub row : p.row < side (dim_at l)
-  pub col : p.col < side (dim_at l)
-  pub left : d.left ≡ scalar_of (entry_of l p.store (p.row * side (dim_at l) + p.col))
-  pub right : d.right ≡ scalar_of (entry_of r p.store (p.row * side (dim_at l) + p.col))
-  pub unequal : entry_of l p.store (p.row * side (dim_at l) + p.col) ≡ entry_of r p.store (p.row * side (dim_at l) + p.col) → ⊥
-  pub agree : (s k : ℕ) → k < size l → earlier s k p.store (p.row * side (dim_at l) + p.col) ≡ true → entry_of l s k ≡ entry_of r s k
+-- d has the first place at which l and r differ, and its two entries
+pub record FirstAt (l r : List ℤ) (d : Difference) : Type 0 where
+  pub row : d.place.row < side (dim_at l)
+  pub col : d.place.col < side (dim_at l)
+  pub left : d.left ≡ scalar_of (entry_of l d.place.store (d.place.row * side (dim_at l) + d.place.col))
+  pub right : d.right ≡ scalar_of (entry_of r d.place.store (d.place.row * side (dim_at l) + d.place.col))
+  pub unequal : entry_of l d.place.store (d.place.row * side (dim_at l) + d.place.col) ≡ entry_of r d.place.store (d.place.row * side (dim_at l) + d.place.col) → ⊥
+  pub agree : (s k : ℕ) → k < size l → earlier s k d.place.store (d.place.row * side (dim_at l) + d.place.col) ≡ true → entry_of l s k ≡ entry_of r s k
 
 abbrev pub FirstEntry : Type 0
-FirstEntry = (l r : List ℤ) → Comparable l r → (p : Place) → (compare_of l r).found ≡ Entry p → FirstAt l r p (compare_of l r)
+FirstEntry = (l r : List ℤ) → Comparable l r → (d : Difference) → compare_of l r ≡ Ok (Differs d) → FirstAt l r d
 
 -- ---- the chain of well-formed words of a form visits each record once
 -- the places of n records along the chain from index `at` on

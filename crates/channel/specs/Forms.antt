@@ -1,7 +1,7 @@
 -- What is claimed of shared forms, of the words of each form, and of those taken from one form to another.
-use Rattle.std.specs.Prelude.{◌≡◌, Bool, true, false, not, ◌&&◌, ◌||◌, List, ◌++◌, ℕ, ◌+◌, ◌*◌, ◌-◌, ◌<◌, ◌≤◌, leb, take, ℤ, pos, nat_abs}
+use Rattle.std.specs.Prelude.{◌≡◌, Bool, true, not, ◌&&◌, ◌||◌, List, ◌++◌, ℕ, ◌+◌, ◌*◌, ◌<◌, ◌≤◌, leb, take, ℤ, pos, nat_abs}
 use Rattle.algebra.specs.Quadratic.{conjugate}
-use Rattle.algebra.specs.Dyadic.{frac, power, evenℤ}
+use Rattle.algebra.specs.Dyadic.{frac, evenℤ}
 use Rattle.algebra.specs.Lists.{all_below}
 use Rattle.algebra.specs.Sum.{sum}
 use Rattle.algebra.specs.Words.{eqℤ, up_to}

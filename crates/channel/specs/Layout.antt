@@ -7,6 +7,7 @@ use Rattle.algebra.specs.Sum.{sum}
 use Rattle.algebra.specs.Words.{joined}
 use Rattle.store.specs.Store.{before, store_from, low_word, high_word}
 use Rattle.exact.specs.Exact.{Number, number, root2, Exact, exact}
+use Rattle.channel.specs.declared.forms.Parts.{Parts}
 use Rattle.channel.specs.Shared.{Shared, entry, shared}
 
 -- ---- sizes and places
@@ -56,6 +57,10 @@ pub record Form : Type 0 where
 
 abbrev pub form : ℕ → Bool → Bool → Form
 form w a b = record { side = w; half = a; plain = b }
+
+-- of w rows and columns, what is kept by these parts
+abbrev pub form_of : ℕ → Parts → Form
+form_of w f = form w f.half f.plain
 
 -- all numerators of w rows and columns
 abbrev pub full : ℕ → Form
@@ -176,6 +181,10 @@ bits_at l = nat_abs (word l 1)
 
 abbrev pub count_at : List ℤ → ℕ
 count_at l = nat_abs (word l 2)
+
+-- the form that keeps these parts, of the dimension that the header says
+abbrev pub form_in : Parts → List ℤ → Form
+form_in f l = form_of (side (dim_at l)) f
 
 -- the exponent of the record at `at`
 abbrev pub exp_at : List ℤ → ℕ → ℕ

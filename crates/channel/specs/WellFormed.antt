@@ -1,10 +1,10 @@
 -- Well-formed words of a form, well-formed channels, and those without a block of zeros.
-use Rattle.std.specs.Prelude.{Bool, true, false, cond, not, ◌&&◌, ◌||◌, List, ℕ, zero, suc, ◌+◌, ◌*◌, ◌-◌, ◌/◌, ◌%◌, ◌^◌, eqb, leb, ltb, length, ℤ, pos, negsuc, nat_abs}
+use Rattle.std.specs.Prelude.{Bool, true, false, cond, not, ◌&&◌, ◌||◌, List, ℕ, zero, suc, ◌+◌, ◌*◌, ◌-◌, ◌/◌, ◌%◌, ◌^◌, eqb, leb, ltb, length, ℤ, pos, negsuc, nat_abs, Ok, Err}
 use Rattle.algebra.specs.Lists.{all_below, some}
 use Rattle.algebra.specs.Words.{eqℤ, up_to}
 use Rattle.exact.specs.Exact.{Number, Exact, is_zero, max_exponent}
-use Rattle.verdict.specs.declared.Verdict.{Verdict}
-use Rattle.verdict.specs.declared.Verdict.TheVariants.{Accepted, Malformed, ZeroBlock}
+use Rattle.verdict.specs.Questions.{Verdict}
+use Rattle.verdict.specs.declared.Refusal.TheVariants.{Malformed, ZeroBlock}
 use Rattle.store.specs.Store.{max_word, store_from, before}
 use Rattle.channel.specs.Shared.{shared_ok}
 use Rattle.channel.specs.Layout.{Form, channels, header_size, exponent_place, entries, record_size, word, store_at, dim_at, bits_at, count_at, numbers_at, shared_at, Block, side, read_back}
@@ -79,7 +79,7 @@ has_zero_block l = some_zero (side (dim_at l)) (read_back l)
 
 -- the verdict on words given as a channel, by whether they are well formed and whether a block is zero
 abbrev pub verdict_by : Bool → Bool → Verdict
-verdict_by right blank = cond right (cond blank ZeroBlock Accepted) Malformed
+verdict_by right blank = cond right (cond blank (Err ZeroBlock) (Ok tt)) (Err Malformed)
 
 abbrev pub form_verdict : List ℤ → Verdict
 form_verdict l = verdict_by (well_formed l) (has_zero_block l)

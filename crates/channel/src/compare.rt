@@ -6,7 +6,7 @@ ghost use Rattle.scalar.specs.Calls.{scalar_of};
 ghost use Rattle.gather.specs.Words.{same_words};
 ghost use Rattle.channel.specs.Layout.{record_head, full, block_size, read_back};
 ghost use Rattle.channel.specs.Inner.Shapes.{Onward, Entries};
-ghost use Rattle.channel.specs.Compare.{is_same, plain, scan, first, merge, compare_of};
+ghost use Rattle.channel.specs.Compare.{scan, first, merge, compare_of};
 ghost use Rattle.channel.specs.Inner.Walk.{side_at, both_at, alike, turn_of, cursor_at, advance, On, Held, Matched};
 
 use super::layout::{ENTRY, EXPONENT, RECORD_HEAD, block_size, follow, read_entry, read_store};
@@ -14,31 +14,29 @@ use super::well_formed::judge;
 use gather::{same_rows, same_words};
 use scalar::{Scalar, ZERO};
 use store::comes_before;
-use verdict::Verdict;
+use verdict::Refusal;
 
 // Bit j of a store weighs 2^j.
-#[derive(Clone, Copy)]
+#[derive(Clone, Copy, Debug, PartialEq, Eq)]
 pub struct Place {
     pub store: u64,
     pub row: usize,
     pub col: usize,
 }
 
-// A refusal has document 01's number; the other answers are none.
-#[derive(Clone, Copy)]
-pub enum Found {
-    Refused(Verdict),
-    Same,
-    Dimensions,
-    Entry(Place),
-}
-
-// Both scalars are zero unless an entry differs.
-#[derive(Clone, Copy)]
+// An entry at which two channels differ.
+#[derive(Clone, Copy, Debug, PartialEq, Eq)]
 pub struct Difference {
-    pub found: Found,
+    pub place: Place,
     pub left: Scalar,
     pub right: Scalar,
+}
+
+#[derive(Clone, Copy, Debug, PartialEq, Eq)]
+pub enum Comparison {
+    Same,
+    Dimensions,
+    Differs(Difference),
 }
 
 // The sides that have a block of the next store.
@@ -55,29 +53,6 @@ struct Cursor {
     pub at: usize,
     pub left: usize,
     pub store: u64,
-}
-
-fn without_entry(f: Found) -> Difference
-    ensures { result ≡ plain f }
-{
-    let z = ZERO;
-    Difference {
-        found: f,
-        left: z,
-        right: z,
-    }
-}
-
-fn is_same(d: Difference) -> bool
-    ensures { result ≡ is_same d.found }
-{
-    let f = d.found;
-    match f {
-        Found::Refused(_) => false,
-        Found::Same => true,
-        Found::Dimensions => false,
-        Found::Entry(_) => false,
-    }
 }
 
 // Entry k of the record at `at`, or zero where the side has no block.
@@ -135,37 +110,28 @@ fn search_block(
     right: &[i64],
     j: usize,
     w: usize,
-) -> Difference
+) -> Option<Difference>
     requires { (w ≤ 256) × (Held t left.now i right.now j (w * w) × (same ≡ alike t left.now i right.now j)) }
     ensures { result ≡ scan (both_at t left.now i right.now j) w (w * w) 0 }
 {
-    let mut found = without_entry(Found::Same);
-    let mut k = 0;
-    let mut row = 0;
-    'rows: while row < w {
-        let mut col = 0;
-        while col < w {
+    for row in 0..w {
+        for col in 0..w {
+            let k = row * w + col;
             if !same_entry(same, t, left, i, right, j, k) {
-                let x = entry_or_zero(t.left, left, i, k);
-                let y = entry_or_zero(t.right, right, j, k);
                 let place = Place {
                     store: t.store,
                     row,
                     col,
                 };
-                found = Difference {
-                    found: Found::Entry(place),
-                    left: x,
-                    right: y,
-                };
-                break 'rows;
+                return Some(Difference {
+                    place,
+                    left: entry_or_zero(t.left, left, i, k),
+                    right: entry_or_zero(t.right, right, j, k),
+                });
             }
-            k += 1;
-            col += 1;
         }
-        row += 1;
     }
-    found
+    None
 }
 
 // Whether two blocks are alike, if `same`, and have the same words.
@@ -180,13 +146,20 @@ fn same_block(same: bool, left: &[i64], i: usize, right: &[i64], j: usize, w: us
 }
 
 // The first unequal entry of the blocks of one store: none where they are alike and have the same words.
-fn compare_block(t: Turn, left: &[i64], i: usize, right: &[i64], j: usize, w: usize) -> Difference
+fn compare_block(
+    t: Turn,
+    left: &[i64],
+    i: usize,
+    right: &[i64],
+    j: usize,
+    w: usize,
+) -> Option<Difference>
     requires { (w ≤ 256) × Held t left.now i right.now j (w * w) }
     ensures { result ≡ scan (both_at t left.now i right.now j) w (w * w) 0 }
 {
     let same = are_alike(t, left, i, right, j);
     if same_block(same, left, i, right, j, w) {
-        return without_entry(Found::Same);
+        return None;
     }
     search_block(same, t, left, i, right, j, w)
 }
@@ -265,41 +238,36 @@ fn choose(a: Cursor, b: Cursor) -> Turn
 }
 
 // The first unequal entry along two chains, walked in step.
-fn compare_chains(left: &[i64], right: &[i64], m: usize, n: usize, w: usize) -> Difference
+fn compare_chains(left: &[i64], right: &[i64], m: usize, n: usize, w: usize) -> Option<Difference>
     requires { Matched left.now right.now m n w }
     ensures { result ≡ first w (merge (read_back left.now) (read_back right.now)) }
 {
     let mut a = enter(left, m, follow(left, 3));
     let mut b = enter(right, n, follow(right, 3));
+    // Kept: each chain is walked at its own pace, so no range counts the turns; a `for` is no plainer.
     while (0 < a.left) | (0 < b.left) {
         let t = choose(a, b);
         let d = compare_block(t, left, a.at, right, b.at, w);
-        if !is_same(d) {
+        if d.is_some() {
             return d;
         }
         a = advanced(t.left, left, a);
         b = advanced(t.right, right, b);
     }
-    without_entry(Found::Same)
+    None
 }
 
 // The first entry at which two channels differ: the stores of both in rising order, then rows, then columns; a missing block is zero.
-pub fn compare(left: &[i64], right: &[i64]) -> Difference
+pub fn compare(left: &[i64], right: &[i64]) -> Result<Comparison, Refusal>
     ensures { result ≡ compare_of left.now right.now }
 {
-    let g = judge(left);
-    let v = g.verdict;
-    if !v.is_accepted() {
-        return without_entry(Found::Refused(v));
-    }
-    let h = judge(right);
-    let u = h.verdict;
-    if !u.is_accepted() {
-        return without_entry(Found::Refused(u));
-    }
+    let g = judge(left)?;
+    let h = judge(right)?;
     if !((g.dim == h.dim) & (g.bits == h.bits)) {
-        return without_entry(Found::Dimensions);
+        return Ok(Comparison::Dimensions);
     }
-    let d = g.dim;
-    compare_chains(left, right, g.count, h.count, d * d)
+    match compare_chains(left, right, g.count, h.count, g.dim * g.dim) {
+        Some(d) => Ok(Comparison::Differs(d)),
+        None => Ok(Comparison::Same),
+    }
 }

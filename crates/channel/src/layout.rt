@@ -1,12 +1,12 @@
-// The words of a channel: sizes, starts of records, stores and their order, and the chain.
+// The words of a channel: sizes, entries, stores, and the chain.
 ghost use Rattle.std.specs.Prelude.{◌≡◌, true, ◌+◌, ◌<◌, ◌≤◌, length, pos, nat_abs};
 ghost use Rattle.algebra.specs.Words.{up_to};
 ghost use Rattle.scalar.specs.Calls.{scalar_of};
 ghost use Rattle.store.specs.Store.{max_word};
 ghost use Rattle.channel.specs.Layout.{record_head, full, channels, block_size, record_size, entry_at, store_at, word, dim_at};
 ghost use Rattle.channel.specs.Inner.Shapes.{Entries};
-ghost use Rattle.channel.specs.WellFormed.{is_start};
 
+use super::forms::{self, ALL};
 use scalar::Scalar;
 use scalar::numerators::reduce;
 use store::store_from;
@@ -27,7 +27,7 @@ pub fn block_size(w: usize) -> usize
     requires { w ≤ 256 }
     ensures { result ≡ block_size (full w) }
 {
-    w * w * ENTRY
+    forms::block_size(w, ALL)
 }
 
 // The words of the record of a block of w rows and columns.
@@ -35,7 +35,7 @@ pub fn record_size(w: usize) -> usize
     requires { w ≤ 256 }
     ensures { result ≡ record_size (full w) }
 {
-    RECORD_HEAD + block_size(w)
+    forms::record_size(w, ALL)
 }
 
 // Entry k, row · w + column, of the record at `at` of a channel, in lowest form.
@@ -61,19 +61,6 @@ pub fn up_to(n: u64, x: i64) -> bool
         return false;
     }
     x as u64 <= n
-}
-
-// Whether one of `count` records starts at index z.
-pub fn is_start(w: usize, count: usize, z: i64) -> bool
-    requires { w ≤ 256 }
-    ensures { result ≡ is_start (full w) count z }
-{
-    if z < HEADER as i64 {
-        return false;
-    }
-    let size = record_size(w);
-    let a = z as usize - HEADER;
-    (a % size == 0) & (a / size < count)
 }
 
 // The store of the record at `at`.

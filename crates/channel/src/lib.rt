@@ -2,16 +2,14 @@
 #![tactic(auto)]
 
 pub mod compare;
+pub mod forms;
 pub mod layout;
 pub mod lookup;
 pub mod well_formed;
 
-use verdict::Verdict;
-
-// The verdict on words given as a channel, and their header; its numbers are 0 where the words are refused.
-#[derive(Clone, Copy)]
+// The header of a channel.
+#[derive(Clone, Copy, Debug, PartialEq, Eq)]
 pub struct Shape {
-    pub verdict: Verdict,
     pub dim: usize,
     pub bits: u32,
     pub count: usize,

@@ -2,64 +2,50 @@
 ghost use Rattle.std.specs.Prelude.{◌≡◌, true, nat_abs};
 ghost use Rattle.channel.specs.Layout.{word, count_at};
 ghost use Rattle.channel.specs.WellFormed.{well_formed};
-ghost use Rattle.channel.specs.Lookup.{find, lookup_of, part_of, span_of, no_span};
+ghost use Rattle.channel.specs.Lookup.{find, lookup_of, part_of, span_of};
 
 use super::layout::{EXPONENT, block_size, follow, read_store};
 use super::well_formed::judge;
 use store::{is_store, pack};
 
 // A part of a slice.
-#[derive(Clone, Copy)]
+#[derive(Clone, Copy, Debug, PartialEq, Eq)]
 pub struct Span {
     pub start: usize,
     pub size: usize,
 }
 
-fn none() -> Span
-    ensures { result ≡ no_span }
-{
-    Span { start: 0, size: 0 }
-}
-
-// The index of the record of a store in a well-formed channel of `count` blocks, or 0.
-fn find_store(s: &[i64], store: u64, count: usize) -> usize
+// The index of the record of a store in a well-formed channel of `count` blocks.
+fn find_store(s: &[i64], store: u64, count: usize) -> Option<usize>
     requires { (well_formed s.now ≡ true) × (count ≡ count_at s.now) }
     ensures { result ≡ find s.now store count (nat_abs (word s.now 3)) }
 {
     let mut at = follow(s, 3);
-    let mut left = count;
-    while 0 < left {
+    for i in 0..count {
         if read_store(s, at) == store {
-            return at;
+            return Some(at);
         }
         at = follow(s, at);
-        left -= 1;
     }
-    0
+    None
 }
 
 // Where a store's block lies: its exponent, then its numerators.
-pub fn locate(s: &[i64], store: &[u8]) -> Span
+pub fn locate(s: &[i64], store: &[u8]) -> Option<Span>
     ensures { result ≡ span_of s.now (lookup_of s.now store.now) }
 {
-    let h = judge(s);
-    let v = h.verdict;
-    if !v.is_accepted() {
-        return none();
+    let Ok(h) = judge(s) else {
+        return None;
+    };
+    if !is_store(store, h.bits) {
+        return None;
     }
-    let m = h.bits;
-    if !is_store(store, m) {
-        return none();
-    }
-    let at = find_store(s, pack(store, 0, store.len()), h.count);
-    if at == 0 {
-        return none();
-    }
+    let at = find_store(s, pack(store, 0, store.len()), h.count)?;
     let w = h.dim * h.dim;
-    Span {
+    Some(Span {
         start: at + EXPONENT,
         size: 1 + block_size(w),
-    }
+    })
 }
 
 // The part of the channel's words that holds a store's block, its exponent and then its numerators: empty for a channel that is malformed or
@@ -67,8 +53,8 @@ pub fn locate(s: &[i64], store: &[u8]) -> Span
 pub fn lookup<'a>(channel: &'a [i64], store: &[u8]) -> &'a [i64]
     ensures { result.now ≡ part_of channel.now (lookup_of channel.now store.now) }
 {
-    let p = locate(channel, store);
-    let a = p.start;
-    let e = a + p.size;
-    &channel[a..e]
+    match locate(channel, store) {
+        Some(p) => &channel[p.start..p.start + p.size],
+        None => &[],
+    }
 }

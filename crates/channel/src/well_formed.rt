@@ -1,33 +1,23 @@
 // Whether words are a well-formed channel, and whether a block of it is zero. The words of a block are read in one pass.
-ghost use Rattle.std.specs.Prelude.{◌≡◌, true, false, ◌+◌, ◌*◌, ◌≤◌, length, nat_abs};
+ghost use Rattle.std.specs.Prelude.{◌≡◌, true, ◌+◌, ◌*◌, ◌≤◌, length, nat_abs};
 ghost use Rattle.store.specs.Store.{store_from};
 ghost use Rattle.channel.specs.Layout.{full, record_head, record_size, entry_at, store_at, word, chain};
 ghost use Rattle.channel.specs.WellFormed.{is_dim, words_ok, store_ok, block_ok, record_ok, chain_ok, well_formed, all_zero, some_zero, verdict_by};
-ghost use Rattle.channel.specs.Inner.Shapes.{judged, Room, header_of, shape_of, no_shape};
+ghost use Rattle.channel.specs.Inner.Shapes.{when, judged_at, Room, header_of, shape_of};
 
 use super::Shape;
-use super::layout::{EXPONENT, HEADER, RECORD_HEAD, block_size, is_start, record_size, up_to};
+use super::forms::{ALL, Parts, is_start, record_size};
+use super::layout::{EXPONENT, HEADER, RECORD_HEAD, block_size, up_to};
 use exact::MAX_EXPONENT;
 use gather::see;
 use store::{MAX_WORD, comes_before, fits_bits, join};
-use verdict::Verdict;
+use verdict::{Refusal, Verdict};
 
-// What is found of a record: whether its block is zero, and its store; or `ok` false, false and 0.
+// What is found of a record that is right: its store, and whether its block is zero.
 #[derive(Clone, Copy)]
 struct Judged {
-    pub ok: bool,
-    pub zero: bool,
-    pub store: u64,
-}
-
-fn bad() -> Judged
-    ensures { result ≡ judged false false 0 }
-{
-    Judged {
-        ok: false,
-        zero: false,
-        store: 0,
-    }
+    store: u64,
+    zero: bool,
 }
 
 fn is_dim(z: i64) -> bool
@@ -37,78 +27,55 @@ fn is_dim(z: i64) -> bool
 }
 
 // The store in two words, if it has at most m bits.
-fn judge_words(low: i64, high: i64, m: u32) -> Judged
+fn judge_words(low: i64, high: i64, m: u32) -> Option<u64>
     requires { m ≤ 64 }
-    ensures { result ≡ judged (words_ok low high m) false (store_from low high) }
+    ensures { result ≡ when (words_ok low high m) (store_from low high) }
 {
     if !(up_to(MAX_WORD, low) & up_to(MAX_WORD, high)) {
-        return bad();
+        return None;
     }
     let store = join(low, high);
     if !fits_bits(store, m) {
-        return bad();
+        return None;
     }
-    Judged {
-        ok: true,
-        zero: false,
-        store,
-    }
+    Some(store)
 }
 
-// The store of the record at `at`.
-fn judge_store(s: &[i64], at: usize, m: u32) -> Judged
+// The store of the record at `at`, if it has at most m bits.
+fn judge_store(s: &[i64], at: usize, m: u32) -> Option<u64>
     requires { (at + record_head ≤ length s.now) × (m ≤ 64) }
-    ensures { result ≡ judged (store_ok s.now at m) false (store_at s.now at) }
+    ensures { result ≡ when (store_ok s.now at m) (store_at s.now at) }
 {
-    let low = s[at + 1];
-    let high = s[at + 2];
-    judge_words(low, high, m)
+    judge_words(s[at + 1], s[at + 2], m)
 }
 
-// Whether the exponent and the numerators of the record at `at`, of w rows and columns, are a shared form in range, and whether all are zero.
-fn judge_block(s: &[i64], at: usize, w: usize) -> Judged
+// Whether all numerators of the record at `at`, of w rows and columns, are zero, if its exponent and they are a shared form in range.
+fn judge_block(s: &[i64], at: usize, w: usize) -> Option<bool>
     requires { (w ≤ 256) × (at + record_size (full w) ≤ length s.now) }
-    ensures { result ≡ judged (block_ok (full w) s.now at) (all_zero (w * w) (entry_at (full w) s.now at)) 0 }
+    ensures { result ≡ when (block_ok (full w) s.now at) (all_zero (w * w) (entry_at (full w) s.now at)) }
 {
     let e = s[at + EXPONENT];
     if !up_to(MAX_EXPONENT as u64, e) {
-        return bad();
+        return None;
     }
     let g = see(s, at + RECORD_HEAD, block_size(w));
     if !(g.range & ((e == 0) | !g.even)) {
-        return bad();
+        return None;
     }
-    let zero = g.zero;
-    Judged {
-        ok: true,
-        zero,
-        store: 0,
-    }
+    Some(g.zero)
 }
 
-// The record at `at`, whose store is to come after `prev` unless it is the first.
-fn judge_record(s: &[i64], at: usize, w: usize, m: u32, first: bool, prev: u64) -> Judged
+// The record at `at`, if it is right, its store coming after `prev` unless it is the first.
+fn judge_record(s: &[i64], at: usize, w: usize, m: u32, first: bool, prev: u64) -> Option<Judged>
     requires { (w ≤ 256) × ((m ≤ 64) × (at + record_size (full w) ≤ length s.now)) }
-    ensures { result ≡ judged (record_ok (full w) s.now m at first prev) (all_zero (w * w) (entry_at (full w) s.now at)) (store_at s.now at) }
+    ensures { result ≡ when (record_ok (full w) s.now m at first prev) (judged_at w s.now at) }
 {
-    let j = judge_store(s, at, m);
-    if !j.ok {
-        return bad();
-    }
-    let store = j.store;
+    let store = judge_store(s, at, m)?;
     if !(first | comes_before(prev, store)) {
-        return bad();
+        return None;
     }
-    let b = judge_block(s, at, w);
-    if !b.ok {
-        return bad();
-    }
-    let zero = b.zero;
-    Judged {
-        ok: true,
-        zero,
-        store,
-    }
+    let zero = judge_block(s, at, w)?;
+    Some(Judged { store, zero })
 }
 
 // The verdict by whether the words are well formed and whether a block is zero.
@@ -116,12 +83,12 @@ fn verdict_by(right: bool, blank: bool) -> Verdict
     ensures { result ≡ verdict_by right blank }
 {
     if !right {
-        return Verdict::Malformed;
+        return Err(Refusal::Malformed);
     }
     if blank {
-        return Verdict::ZeroBlock;
+        return Err(Refusal::ZeroBlock);
     }
-    Verdict::Accepted
+    Ok(())
 }
 
 // Whether the chain visits `count` records in rising order of their stores, and ends; then, whether a block is zero.
@@ -133,89 +100,59 @@ fn judge_chain(s: &[i64], w: usize, m: u32, count: usize) -> Verdict
     let mut first = true;
     let mut prev = 0;
     let mut zero = false;
-    let mut left = count;
-    while 0 < left {
-        if !is_start(w, count, z) {
-            return Verdict::Malformed;
+    for i in 0..count {
+        if !is_start(w, ALL, count, z) {
+            return Err(Refusal::Malformed);
         }
         let at = z as usize;
-        let j = judge_record(s, at, w, m, first, prev);
-        if !j.ok {
-            return Verdict::Malformed;
-        }
+        let Some(j) = judge_record(s, at, w, m, first, prev) else {
+            return Err(Refusal::Malformed);
+        };
         z = s[at];
         zero = zero | j.zero;
         first = false;
         prev = j.store;
-        left -= 1;
     }
     verdict_by(z == 0, zero)
 }
 
-// A refusal, with zeros.
-pub fn no_shape(v: Verdict) -> Shape
-    ensures { result ≡ no_shape v }
-{
-    Shape {
-        verdict: v,
-        dim: 0,
-        bits: 0,
-        count: 0,
-    }
-}
-
-// The header, if it and the room for its records are right.
-fn header(s: &[i64]) -> Shape
-    ensures { result ≡ header_of s.now }
+// The header of words of a form, if it and the room for its records are right.
+pub fn header(s: &[i64], f: Parts) -> Result<Shape, Refusal>
+    ensures { result ≡ header_of f s.now }
 {
     if s.len() < HEADER {
-        return no_shape(Verdict::Malformed);
+        return Err(Refusal::Malformed);
     }
     let dim = s[0];
     let bits = s[1];
     let count = s[2];
     if !(is_dim(dim) & up_to(64, bits)) {
-        return no_shape(Verdict::Malformed);
+        return Err(Refusal::Malformed);
     }
     let d = dim as usize;
-    let size = record_size(d * d);
-    let most = (s.len() - HEADER) / size;
+    let most = (s.len() - HEADER) / record_size(d * d, f);
     if !up_to(most as u64, count) {
-        return no_shape(Verdict::Malformed);
+        return Err(Refusal::Malformed);
     }
-    let m = bits as u32;
-    let n = count as usize;
-    Shape {
-        verdict: Verdict::Accepted,
+    Ok(Shape {
         dim: d,
-        bits: m,
-        count: n,
-    }
+        bits: bits as u32,
+        count: count as usize,
+    })
 }
 
-// The verdict on words given as a channel, and their header. A refusal is told apart here alone.
-pub fn judge(s: &[i64]) -> Shape
+// The header of words given as a channel, or why they are refused. A refusal is told apart here alone.
+pub fn judge(s: &[i64]) -> Result<Shape, Refusal>
     ensures { result ≡ shape_of s.now }
 {
-    let h = header(s);
-    let v = h.verdict;
-    if !v.is_accepted() {
-        return h;
-    }
-    let d = h.dim;
-    let c = judge_chain(s, d * d, h.bits, h.count);
-    if !c.is_accepted() {
-        return no_shape(c);
-    }
-    h
+    let h = header(s, ALL)?;
+    judge_chain(s, h.dim * h.dim, h.bits, h.count)?;
+    Ok(h)
 }
 
 // A channel with a block of zeros is well formed too.
 pub fn well_formed(s: &[i64]) -> bool
     ensures { result ≡ well_formed s.now }
 {
-    let h = judge(s);
-    let v = h.verdict;
-    let m = Verdict::Malformed;
-    v.number() != m.number()
+    judge(s) != Err(Refusal::Malformed)
 }

@@ -1,101 +1,158 @@
--- The verdicts by their tests, and what an accepted one says.
-use mathlib.Core.Path.{◌≡◌, refl, sym, ap, ◌∙◌}
+-- What is answered by the tests, and what an accepted call may do.
+use Rattle.std.specs.Prelude.{Option, Some, None, is_none, unwrap_or, Result, Ok, Err, is_ok, ⊤}
+use mathlib.Core.Path.{◌≡◌, refl, sym, ap, ◌∙◌, subst}
 use mathlib.Core.Bool.{Bool, true, false, cond, not, true≢false}
 use mathlib.Core.List.{List}
-use Prim.Native.Nat.{ℕ}
-use lib.Dec.{eqb, leb}
+use Prim.Native.Nat.{ℕ, ◌+◌, ◌*◌, ◌≤◌}
+use lib.Dec.{leb}
 use lib.ListN.{length}
 use lib.IntN.{ℤ}
 use borrow.Author.Tests.{leb-true}
-use Rattle.verdict.specs.declared.Verdict.{Verdict}
-use Rattle.verdict.specs.declared.Verdict.TheVariants.{Accepted, ShortBuffer, Malformed, ZeroBlock, NotHermitianAt, NotPlainAt}
-use Rattle.verdict.specs.Verdict.{accepted}
+use Rattle.verdict.specs.declared.Refusal.{Refusal}
+use Rattle.verdict.specs.declared.Refusal.TheVariants.{ShortBuffer, Malformed, ZeroBlock}
+use Rattle.verdict.specs.Questions.{Question, granted}
+use Rattle.verdict.proofs.Questions.{handed}
 use Rattle.channel.specs.declared.Shape.{Shape}
-use Rattle.channel.specs.Layout.{dim_at, count_at}
-use Rattle.channel.specs.WellFormed.{well_formed_in, well_formed, has_zero_block, verdict_by}
-use Rattle.channel.specs.Inner.Shapes.{shape_at, no_shape, shape_by}
-use Rattle.channel.proofs.Judging.{formed_in, in_channel}
+use Rattle.channel.specs.declared.forms.Parts.{Parts}
+use Rattle.channel.specs.Layout.{header_size, record_size, dim_at, count_at, form_of, form_in}
+use Rattle.channel.specs.WellFormed.{well_formed_in, well_formed, has_zero_block, verdict_by, form_verdict}
+use Rattle.channel.specs.Inner.Shapes.{shape_at, shape_of}
+use Rattle.channel.proofs.Judging.{formed_in, in_channel, form-full, verdict_test, shape-yes, shape_no, Passed, passed_is}
 use Rattle.channel.proofs.Words.{square_small}
-use Rattle.recast.specs.declared.Parts.{Parts}
-use Rattle.recast.specs.Words.{form_in, size_in}
+use Rattle.recast.specs.Words.{size_in}
 use Rattle.recast.specs.Inner.Records.{Ready}
-use Rattle.form_calls.specs.Calls.{own, fault, write_verdict, read_verdict}
+use Rattle.form_judge.specs.Faults.{fault_of}
+use Rattle.form_judge.specs.Inner.Judging.{Chained, shape_in}
+use Rattle.form_calls.specs.Calls.{own, refusal, fault, write_questions, read_questions, write_verdict, read_verdict}
 
 abbrev pub full : Parts
 full = record { half = false; plain = false }
 
--- well formed, no zero block, no fault, room; and where the fault is
-abbrev pub write_by : Bool → Bool → Bool → Bool → Bool → ℕ → Verdict
-write_by p z t b h i = cond p (cond z (cond t (cond b Accepted ShortBuffer) (cond h (NotHermitianAt i) (NotPlainAt i))) ZeroBlock) Malformed
+-- well formed, no zero block, no fault, room; and the refusal of a fault
+abbrev pub write_by : {A : Type 0} → A → Bool → Bool → Bool → Bool → Refusal → Result A Refusal
+write_by x p z t b r = cond p (cond z (cond t (cond b (Ok x) (Err ShortBuffer)) (Err r)) (Err ZeroBlock)) (Err Malformed)
 
-abbrev pub read_by : Bool → Bool → Verdict
-read_by p b = cond p (cond b Accepted ShortBuffer) Malformed
+abbrev pub read_by : {A : Type 0} → A → Bool → Bool → Result A Refusal
+read_by x p b = cond p (cond b (Ok x) (Err ShortBuffer)) (Err Malformed)
 
-write_shape : (l : List ℤ) (p z t b h : Bool) (i : ℕ) → (shape_by (write_by p z t b h i) l).verdict ≡ write_by p z t b h i
-write_shape l true true true true h i = refl
-write_shape l true true true false h i = refl
-write_shape l true true false b true i = refl
-write_shape l true true false b false i = refl
-write_shape l true false t b h i = refl
-write_shape l false z t b h i = refl
+pub write_tests : (p z t b : Bool) (r : Refusal) → is_ok (write_by {A = ⊤} tt p z t b r) ≡ true → (p ≡ true) × ((z ≡ true) × ((t ≡ true) × (b ≡ true)))
+write_tests true true true true r e = (refl, (refl, (refl, refl)))
+write_tests true true true false r e = absurd (true≢false (sym e))
+write_tests true true false b r e = absurd (true≢false (sym e))
+write_tests true false t b r e = absurd (true≢false (sym e))
+write_tests false z t b r e = absurd (true≢false (sym e))
 
-pub write_tests : (p z t b h : Bool) (i : ℕ) → accepted (write_by p z t b h i) ≡ true → (p ≡ true) × ((z ≡ true) × ((t ≡ true) × (b ≡ true)))
-write_tests true true true true h i e = (refl, (refl, (refl, refl)))
-write_tests true true true false h i e = absurd (true≢false (sym e))
-write_tests true true false b true i e = absurd (true≢false (sym e))
-write_tests true true false b false i e = absurd (true≢false (sym e))
-write_tests true false t b h i e = absurd (true≢false (sym e))
-write_tests false z t b h i e = absurd (true≢false (sym e))
-
-read-shape : (l : List ℤ) (p b : Bool) → (shape_by (read_by p b) l).verdict ≡ read_by p b
-read-shape l true true = refl
-read-shape l true false = refl
-read-shape l false b = refl
-
-pub read_tests : (p b : Bool) → accepted (read_by p b) ≡ true → (p ≡ true) × (b ≡ true)
+pub read_tests : (p b : Bool) → is_ok (read_by {A = ⊤} tt p b) ≡ true → (p ≡ true) × (b ≡ true)
 read_tests true true e = (refl, refl)
 read_tests true false e = absurd (true≢false (sym e))
 read_tests false b e = absurd (true≢false (sym e))
 
+pub none_is : (o : Option ℕ) → is_none o ≡ true → o ≡ None
+none_is None e = refl
+none_is (Some i) e = absurd (true≢false (sym e))
+
+-- what is handed back where every answer is yes
+pub given : {A : Type 0} (x : A) (qs : List Question) {z : A} → Ok z ≡ granted x qs → z ≡ x
+given {A = A} x qs {z} e = inside (e ∙ sym (handed x x qs e))
+  where
+    inside : ◌≡◌ {A = Result A Refusal} (Ok z) (Ok x) → z ≡ x
+    inside e = cc
+
 -- a channel that is refused first
-pub refused-first : (l : List ℤ) (p z t b h : Bool) (i : ℕ) → accepted (verdict_by p z) ≡ false → no_shape (verdict_by p z) ≡ shape_by (write_by p (not z) t b h i) l
-refused-first l true true t b h i e = refl
-refused-first l true false t b h i e = absurd (true≢false e)
-refused-first l false z t b h i e = refl
+refused-first : {A : Type 0} (x : A) (p z t b : Bool) (q : Refusal) {r : Refusal} → verdict_by p z ≡ Err r → Err r ≡ write_by x p (not z) t b q
+refused-first x true true t b q e = cc
+refused-first x true false t b q e = absurd (cc)
+refused-first x false z t b q e = cc
 
--- a shape by the verdict that it goes with
-module _ (l : List ℤ) (h : Shape) (v : Verdict) (e : h ≡ shape_by v l) (same : (shape_by v l).verdict ≡ v) where
-  pub shape_verdict : h.verdict ≡ v
-  shape_verdict = ap (λ (g : Shape). g.verdict) e ∙ same
+-- ---- what a writer answers
+module _ (f : Parts) (l res : List ℤ) where
+  abbrev room : Bool
+  room = leb (size_in (form_in f l) l) (length res)
 
-  pub shape-accepted : accepted h.verdict ≡ true → (accepted v ≡ true) × (h ≡ shape_at l)
-  shape-accepted t =
-      let u = ap accepted (sym shape_verdict) ∙ t in
-      (u, e ∙ ap (λ (b : Bool). cond b (shape_at l) (no_shape v)) u)
+  abbrev answer : Result Shape Refusal
+  answer = granted (shape_at l) (write_questions f l res)
+
+  pub refused_write : {r : Refusal} → Err r ≡ shape_of l → Err r ≡ answer
+  refused_write e = refused-first (shape_at l) (well_formed l) (has_zero_block l) (is_none (fault f l)) room (refusal f (unwrap_or (fault f l) 0)) (shape_no (form_verdict l) l e)
+
+  module _ {h : Shape} (e : Ok h ≡ shape_of l) where
+    passed : Passed l h
+    passed = passed_is l e
+
+    pub chained : Chained (form_of (h.dim * h.dim) full) l h.count
+    chained = subst (λ (s : Shape). Chained (form_of (s.dim * s.dim) full) l s.count) (sym passed.is)
+        (record { width = subst (λ (s : Shape). s.dim * s.dim ≤ 256) passed.is passed.width; right = sym (in_channel l) ∙ passed.right; counted = refl })
+
+    abbrev found : Option ℕ
+    found = fault_of (form_of (h.dim * h.dim) full) (form_of (h.dim * h.dim) f) l
+
+    faults : found ≡ fault f l
+    faults = ap (λ (s : Shape). fault_of (form_of (s.dim * s.dim) full) (form_of (s.dim * s.dim) f) l) passed.is
+
+    -- 10 and 16 are passed
+    known : (o : Option ℕ) → o ≡ found → (b : Bool) → room ≡ b → write_by (shape_at l) true true (is_none o) b (refusal f (unwrap_or o 0)) ≡ answer
+    known o p b q = sym (λ i. write_by (shape_at l) (passed.right i) (not (form-full l (ap is_ok passed.verdict) i)) (is_none (sym (p ∙ faults) i)) (q i) (refusal f (unwrap_or (sym (p ∙ faults) i) 0)))
+
+    pub at_fault : {i : ℕ} → Some i ≡ found → Err (refusal f i) ≡ answer
+    at_fault {i} p = known (Some i) p room refl
+
+    pub room_is : (s : ℕ) → s ≡ record_size (form_of (h.dim * h.dim) f) → leb (header_size + h.count * s) (length res) ≡ room
+    room_is s p = ap (λ (s : ℕ). leb (header_size + h.count * s) (length res)) p ∙ ap (λ (g : Shape). leb (header_size + g.count * record_size (form_of (g.dim * g.dim) f)) (length res)) passed.is
+
+    pub short_write : None ≡ found → room ≡ false → Err ShortBuffer ≡ answer
+    short_write p q = known None p false q
+
+    pub written : None ≡ found → room ≡ true → Ok h ≡ answer
+    written p q = ap Ok passed.is ∙ known None p true q
+
+-- ---- what a reader answers
+module _ (f : Parts) (l res : List ℤ) where
+  abbrev read_room : Bool
+  read_room = leb (size_in (own l) l) (length res)
+
+  abbrev read_answer : Result Shape Refusal
+  read_answer = granted (shape_at l) (read_questions f l res)
+
+  pub refused-read : {r : Refusal} → Err r ≡ shape_in f l → Err r ≡ read_answer
+  refused-read e = by (well_formed_in (form_in f l) l) (shape_no (verdict_by (well_formed_in (form_in f l) l) false) l e)
+    where
+      by : (b : Bool) {r : Refusal} → verdict_by b false ≡ Err r → Err r ≡ read_by (shape_at l) b read_room
+      by true e = absurd (cc)
+      by false e = cc
+
+  module _ {h : Shape} (e : Ok h ≡ shape_in f l) where
+    is : (well_formed_in (form_in f l) l ≡ true) × (h ≡ shape_at l)
+    is = let q = shape-yes (verdict_by (well_formed_in (form_in f l) l) false) l e in (sym (verdict_test (well_formed_in (form_in f l) l)) ∙ ap is_ok q.0, q.1)
+
+    pub read_width : h.dim * h.dim ≤ 256
+    read_width = subst (λ (s : Shape). s.dim * s.dim ≤ 256) (sym is.1) (square_small (dim_at l) (formed_in (form_in f l) l is.0).0.small)
+
+    pub read_room_is : (s : ℕ) → s ≡ record_size (form_of (h.dim * h.dim) full) → leb (header_size + h.count * s) (length res) ≡ read_room
+    read_room_is s p = ap (λ (s : ℕ). leb (header_size + h.count * s) (length res)) p ∙ ap (λ (g : Shape). leb (header_size + g.count * record_size (form_of (g.dim * g.dim) full)) (length res)) is.1
+
+    pub short-read : read_room ≡ false → Err ShortBuffer ≡ read_answer
+    short-read q = sym (λ i. read_by (shape_at l) (is.0 i) (q i))
+
+    pub read_out : read_room ≡ true → Ok h ≡ read_answer
+    read_out q = ap Ok is.1 ∙ sym (λ i. read_by (shape_at l) (is.0 i) (q i))
 
 -- ---- what an accepted call may do
 module _ (f : Parts) (l res : List ℤ) where
-  pub write_same : (shape_by (write_verdict f l res) l).verdict ≡ write_verdict f l res
-  write_same = write_shape l (well_formed l) (not (has_zero_block l)) (eqb (fault f l) (count_at l)) (leb (size_in (form_in f l) l) (length res)) f.half (fault f l)
-
-  pub read_same : (shape_by (read_verdict f l res) l).verdict ≡ read_verdict f l res
-  read_same = read-shape l (well_formed_in (form_in f l) l) (leb (size_in (own l) l) (length res))
-
   -- the answers of an accepted writer
-  pub asked : accepted (write_verdict f l res) ≡ true → (well_formed l ≡ true) × ((not (has_zero_block l) ≡ true) × ((eqb (fault f l) (count_at l) ≡ true) × (leb (size_in (form_in f l) l) (length res) ≡ true)))
-  asked = write_tests (well_formed l) (not (has_zero_block l)) (eqb (fault f l) (count_at l)) (leb (size_in (form_in f l) l) (length res)) f.half (fault f l)
+  pub asked : is_ok (write_verdict f l res) ≡ true → (well_formed l ≡ true) × ((not (has_zero_block l) ≡ true) × ((is_none (fault f l) ≡ true) × (leb (size_in (form_in f l) l) (length res) ≡ true)))
+  asked = write_tests (well_formed l) (not (has_zero_block l)) (is_none (fault f l)) (leb (size_in (form_in f l) l) (length res)) (refusal f (unwrap_or (fault f l) 0))
 
-  pub asked-read : accepted (read_verdict f l res) ≡ true → (well_formed_in (form_in f l) l ≡ true) × (leb (size_in (own l) l) (length res) ≡ true)
+  pub asked-read : is_ok (read_verdict f l res) ≡ true → (well_formed_in (form_in f l) l ≡ true) × (leb (size_in (own l) l) (length res) ≡ true)
   asked-read = read_tests (well_formed_in (form_in f l) l) (leb (size_in (own l) l) (length res))
 
-  pub write_ready : accepted (write_verdict f l res) ≡ true → Ready (own l) (form_in f l) l (count_at l) res
+  pub write_ready : is_ok (write_verdict f l res) ≡ true → Ready (own l) (form_in f l) l (count_at l) res
   write_ready e =
       let q = asked e in
       let r = sym (in_channel l) ∙ q.0 in
       let w = square_small (dim_at l) (formed_in (own l) l r).0.small in
       record { width = w; target = w; right = r; count = refl; room = leb-true _ _ q.1.1.1 }
 
-  pub read_ready : accepted (read_verdict f l res) ≡ true → Ready (form_in f l) (own l) l (count_at l) res
+  pub read_ready : is_ok (read_verdict f l res) ≡ true → Ready (form_in f l) (own l) l (count_at l) res
   read_ready e =
       let q = asked-read e in
       let w = square_small (dim_at l) (formed_in (form_in f l) l q.0).0.small in

@@ -1,18 +1,18 @@
 -- The claims on a channel's words written in a form that keeps less, and read from there.
+use Rattle.std.specs.Prelude.{Option, Some, None, is_none, unwrap_or, Ok, Err, is_ok, ⊤}
 use mathlib.Core.Path.{◌≡◌, refl, sym, ap, ◌∙◌, subst}
 use mathlib.Core.Bool.{Bool, true, false, cond, not, true≢false}
 use mathlib.Core.List.{List, [], ◌++◌}
 use Prim.Native.Nat.{ℕ, zero, suc, ◌+◌, ◌*◌, ◌<◌, ◌≤◌}
-use native.Mathlib.Omega.{arith}
-use lib.Dec.{eqb, leb}
+use lib.Dec.{leb}
 use lib.ListN.{length, drop, take-append-drop}
 use lib.Seq.{sets}
 use lib.IntN.{ℤ, nat_abs}
-use borrow.Author.Tests.{eq-eqb, eqb-true, ne_eqb, le-leb}
-use Rattle.verdict.specs.declared.Verdict.TheVariants.{Accepted, ShortBuffer, NotHermitianAt, NotPlainAt}
-use Rattle.verdict.specs.Verdict.{accepted, verdict_number, verdict_index}
+use borrow.Author.Tests.{le-leb}
+use Rattle.verdict.specs.declared.Refusal.TheVariants.{ShortBuffer, NotHermitianAt, NotPlainAt}
+use Rattle.verdict.specs.Questions.{Verdict}
 use Rattle.exact.specs.Exact.{Exact, conj}
-use Rattle.channel.specs.Layout.{Form, entries, record_at, side, words, word, dim_at, bits_at, count_at, exp_at, numbers_at, block_at}
+use Rattle.channel.specs.Layout.{Form, entries, record_at, side, words, word, dim_at, bits_at, count_at, exp_at, numbers_at, block_at, form_in}
 use Rattle.channel.specs.WellFormed.{well_formed_in, well_formed, has_zero_block}
 use Rattle.channel.specs.Recast.{recast}
 use Rattle.channel.specs.Claims.{Plain, Suits}
@@ -23,13 +23,13 @@ use Rattle.channel.proofs.Written.{written, written_entry}
 use Rattle.channel.proofs.Recast.{recast-written}
 use Rattle.channel.proofs.Canonical.{writable, canonical, full_suits, recast_back}
 use Rattle.channel.proofs.Deciding.{restores_exactly}
-use Rattle.recast.specs.declared.Parts.{Parts}
-use Rattle.recast.specs.Words.{form_in, size_in, recast_into}
+use Rattle.channel.specs.declared.forms.Parts.{Parts}
+use Rattle.recast.specs.Words.{size_in, recast_into}
 use Rattle.recast.proofs.Whole.{into_is}
 use Rattle.form_calls.specs.Calls.{own, fault, refusal, write_verdict, read_verdict, write_result, read_result}
 use Rattle.form_calls.specs.Claims.{Read, ReadsBack, Written, WritesBack, along, block_along, FirstUnfit, NamesFirst, Suited, NeverUnfit, Source, FormedExactly}
-use Rattle.form_calls.proofs.Answers.{write_by, read_by, asked, asked-read, write_ready, read_ready}
-use Rattle.form_calls.proofs.Walking.{each_fits, no_fault, after, fault-most, First, fault-first, first-fault}
+use Rattle.form_calls.proofs.Answers.{write_by, read_by, none_is, asked, asked-read, write_ready, read_ready}
+use Rattle.form_calls.proofs.Walking.{each_fits, no_fault, after, First, fault-first, first-fault}
 
 -- the same entries
 suits_same : (F : Form) (x y : ℕ → Exact) → ((k : ℕ) → k < entries F → x k ≡ y k) → Suits F y → Suits F x
@@ -57,20 +57,20 @@ module _ (f : Parts) (l : List ℤ) where
   right_of e = sym (in_channel l) ∙ e
 
   -- accepted: the form restores every block
-  suited : (res : List ℤ) → accepted (write_verdict f l res) ≡ true → Suited f l
-  suited res e = let q = asked f l res e in record { right = q.0; suits = λ j h. suits_of (record_at F j) (each_fits F G l (right_of q.0) (eqb-true (fault f l) (count_at l) q.1.1.0) j h) }
+  suited : (res : List ℤ) → is_ok (write_verdict f l res) ≡ true → Suited f l
+  suited res e = let q = asked f l res e in record { right = q.0; suits = λ j h. suits_of (record_at F j) (each_fits F G l (right_of q.0) (none_is (fault f l) q.1.1.0) j h) }
 
   -- taken to the form and back
   there_and_back : Suited f l → (rest : List ℤ) → Restored F G l rest
   there_and_back s rest = recast_back (side (dim_at l)) false false f.half f.plain l (right_of s.right) s.suits rest
 
-  unfaulted : Suited f l → fault f l ≡ count_at l
+  unfaulted : Suited f l → fault f l ≡ None
   unfaulted s = no_fault F G l (right_of s.right) (λ j h. fits-of (record_at F j) (s.suits j h))
 
-  passes : (res : List ℤ) → Suited f l → has_zero_block l ≡ false → size_in G l ≤ length res → accepted (write_verdict f l res) ≡ true
-  passes res s z room = λ i. accepted (write_by (s.right i) (not (z i)) (eq-eqb (fault f l) (count_at l) (unfaulted s) i) (le-leb (size_in G l) (length res) room i) f.half (fault f l))
+  passes : (res : List ℤ) → Suited f l → has_zero_block l ≡ false → size_in G l ≤ length res → is_ok (write_verdict f l res) ≡ true
+  passes res s z room = λ i. is_ok (write_by {A = ⊤} tt (s.right i) (not (z i)) (is_none (unfaulted s i)) (le-leb (size_in G l) (length res) room i) (refusal f (unwrap_or (fault f l) 0)))
 
-  left : (res : List ℤ) → accepted (write_verdict f l res) ≡ true → write_result f l res ≡ recast_into F G l res
+  left : (res : List ℤ) → is_ok (write_verdict f l res) ≡ true → write_result f l res ≡ recast_into F G l res
   left res e = ap (λ (b : Bool). cond b (recast_into F G l res) res) e
 
 -- ---- words of the form, and the channel that is read from them
@@ -102,8 +102,8 @@ module _ (f : Parts) (p : List ℤ) (ok : well_formed_in (form_in f p) p ≡ tru
   from-form : Suited f unpacked
   from-form = record { right = in_channel unpacked ∙ back_and_there.right; suits = same_suits }
 
-read_passes : (f : Parts) (p res : List ℤ) → well_formed_in (form_in f p) p ≡ true → size_in (own p) p ≤ length res → accepted (read_verdict f p res) ≡ true
-read_passes f p res ok room = λ i. accepted (read_by (ok i) (le-leb (size_in (own p) p) (length res) room i))
+read_passes : (f : Parts) (p res : List ℤ) → well_formed_in (form_in f p) p ≡ true → size_in (own p) p ≤ length res → is_ok (read_verdict f p res) ≡ true
+read_passes f p res ok room = λ i. is_ok (read_by {A = ⊤} tt (ok i) (le-leb (size_in (own p) p) (length res) room i))
 
 -- ---- the claims
 pub reads_back : (f : Parts) → ReadsBack f
@@ -149,13 +149,14 @@ formed_exactly f p = (there_is, back_is)
         (there_and_back f s.channel s.suited (drop (size_in (form_in f p) p) p)).right
 
 -- ---- the block that is named
-named : (t b h : Bool) (k i : ℕ) → cond t (cond b Accepted ShortBuffer) (cond h (NotHermitianAt k) (NotPlainAt k)) ≡ cond h (NotHermitianAt i) (NotPlainAt i) → (t ≡ false) × (k ≡ i)
-named true true true k i e = let n = ap verdict_number e in absurd (omega arith)
-named true true false k i e = let n = ap verdict_number e in absurd (omega arith)
-named true false true k i e = let n = ap verdict_number e in absurd (omega arith)
-named true false false k i e = let n = ap verdict_number e in absurd (omega arith)
-named false b true k i e = (refl, ap verdict_index e)
-named false b false k i e = (refl, ap verdict_index e)
+named : (o : Option ℕ) (b h : Bool) (i : ℕ)
+    → ◌≡◌ {A = Verdict} (cond (is_none o) (cond b (Ok tt) (Err ShortBuffer)) (Err (cond h (NotHermitianAt (unwrap_or o 0)) (NotPlainAt (unwrap_or o 0))))) (Err (cond h (NotHermitianAt i) (NotPlainAt i))) → o ≡ Some i
+named None true true i e = absurd (cc)
+named None true false i e = absurd (cc)
+named None false true i e = absurd (cc)
+named None false false i e = absurd (cc)
+named (Some k) b true i e = cc
+named (Some k) b false i e = cc
 
 after_is : (F G : Form) (l : List ℤ) (i : ℕ) → after F G l (nat_abs (word l 3)) i ≡ along l i
 after_is F G l zero = refl
@@ -173,33 +174,24 @@ names_first f l res s i = (there_is, back_is)
     room : Bool
     room = leb (size_in G l) (length res)
 
-    known : write_verdict f l res ≡ cond (eqb (fault f l) (count_at l)) (cond room Accepted ShortBuffer) (refusal f (fault f l))
-    known = λ j. write_by (s.right j) (not (s.full j)) (eqb (fault f l) (count_at l)) room f.half (fault f l)
+    known : write_verdict f l res ≡ cond (is_none (fault f l)) (cond room (Ok tt) (Err ShortBuffer)) (Err (refusal f (unwrap_or (fault f l) 0)))
+    known = λ j. write_by {A = ⊤} tt (s.right j) (not (s.full j)) (is_none (fault f l)) room (refusal f (unwrap_or (fault f l) 0))
 
     fit_at : (j : ℕ) → restores G (numbers_at F l (after F G l (nat_abs (word l 3)) j)) ≡ true → Suits G (block_along l j).entry
     fit_at j t = suits_of f l (along l j) (ap (λ (a : ℕ). restores G (numbers_at F l a)) (sym (after_is F G l j)) ∙ t)
 
-    there_is : write_verdict f l res ≡ refusal f i → FirstUnfit G l i
+    there_is : write_verdict f l res ≡ Err (refusal f i) → FirstUnfit G l i
     there_is e =
-        let n = named (eqb (fault f l) (count_at l)) room f.half (fault f l) i (sym known ∙ e) in
-        by n.0 n.1 (fault-most F G l (count_at l) (nat_abs (word l 3)))
-      where
-        by : eqb (fault f l) (count_at l) ≡ false → fault f l ≡ i → fault f l ≤ count_at l → FirstUnfit G l i
-        by t q h =
-            let apart : fault f l ≡ count_at l → ⊥ = λ u. true≢false (sym (eq-eqb (fault f l) (count_at l) u) ∙ t) in
-            let under : i < count_at l = below (fault f l) (count_at l) q h apart in
-            let r = fault-first F G l (count_at l) (nat_abs (word l 3)) i q under in
-            record {
-              below = under;
-              unfit = λ u. true≢false (sym (fits-of f l (along l i) u) ∙ ap (λ (a : ℕ). restores G (numbers_at F l a)) (sym (after_is F G l i)) ∙ r.unfit);
-              fit = λ j v. fit_at j (r.fit j v);
-            }
-          where
-            below : (a n : ℕ) → a ≡ i → a ≤ n → (a ≡ n → ⊥) → i < n
-            below a n u v w = omega arith
+        let q = named (fault f l) room f.half i (sym known ∙ e) in
+        let r = fault-first F G l (count_at l) (nat_abs (word l 3)) i q in
+        record {
+          below = r.0;
+          unfit = λ u. true≢false (sym (fits-of f l (along l i) u) ∙ ap (λ (a : ℕ). restores G (numbers_at F l a)) (sym (after_is F G l i)) ∙ r.1.unfit);
+          fit = λ j v. fit_at j (r.1.fit j v);
+        }
 
-    back_is : FirstUnfit G l i → write_verdict f l res ≡ refusal f i
-    back_is r = known ∙ (λ j. cond (apart j) (cond room Accepted ShortBuffer) (refusal f (is j)))
+    back_is : FirstUnfit G l i → write_verdict f l res ≡ Err (refusal f i)
+    back_is r = known ∙ (λ j. cond (is_none (is j)) (cond room (Ok tt) (Err ShortBuffer)) (Err (refusal f (unwrap_or (is j) 0))))
       where
         first : First F G l (nat_abs (word l 3)) i
         first = record { unfit = go (restores G (numbers_at F l (after F G l (nat_abs (word l 3)) i))) refl; fit = λ j h. ap (λ (a : ℕ). restores G (numbers_at F l a)) (after_is F G l j) ∙ fits-of f l (along l j) (r.fit j h) }
@@ -208,11 +200,5 @@ names_first f l res s i = (there_is, back_is)
             go true t = absurd (r.unfit (fit_at i t))
             go false t = t
 
-        is : fault f l ≡ i
+        is : fault f l ≡ Some i
         is = first-fault F G l (count_at l) (nat_abs (word l 3)) i first r.below
-
-        apart : eqb (fault f l) (count_at l) ≡ false
-        apart = ne_eqb (fault f l) (count_at l) (λ u. under (fault f l) (count_at l) is u r.below)
-          where
-            under : (a n : ℕ) → a ≡ i → a ≡ n → i < n → ⊥
-            under a n u v w = omega arith

@@ -1,8 +1,10 @@
 -- The walk along the chain: where it stops, and what it says of every block.
+use Rattle.std.specs.Prelude.{Option, Some, None}
+use Rattle.std.specs.Option.{option_map}
 use mathlib.Core.Path.{◌≡◌, refl, sym, ap, ◌∙◌, subst}
 use mathlib.Core.Bool.{Bool, true, false, cond}
 use mathlib.Core.List.{List, [], ◌∷◌}
-use Prim.Native.Nat.{ℕ, zero, suc, ◌+◌, ◌-◌, ◌/◌, ◌<◌, ◌≤◌}
+use Prim.Native.Nat.{ℕ, zero, suc, ◌+◌, ◌-◌, ◌/◌, ◌<◌}
 use native.Mathlib.Nat.{zero-add, not-suc-le-zero}
 use native.Mathlib.Omega.{arith}
 use lib.Dec.{eqb}
@@ -23,6 +25,16 @@ use Rattle.form_judge.proofs.Faults.{fault-here, fault-on, fault-end}
 less : (n : ℕ) → suc n - 1 ≡ n
 less n = omega arith
 
+none_before : (o : Option ℕ) → option_map suc o ≡ None → o ≡ None
+none_before None e = refl
+none_before (Some i) e = absurd (cc)
+
+some_none : {i : ℕ} → ◌≡◌ {A = Option ℕ} (Some i) None → ⊥
+some_none e = cc
+
+some_same : {i j : ℕ} → ◌≡◌ {A = Option ℕ} (Some i) (Some j) → i ≡ j
+some_same e = cc
+
 -- what holds at each of some places holds at one that is visited
 visited : (Q : ℕ → Type 0) (j : ℕ) (ps : List ℕ) → visits j ps ≡ 1 → All Q ps → Q j
 visited Q j [] e a = absurd (omega arith)
@@ -37,33 +49,33 @@ module _ (F G : Form) (l : List ℤ) where
   fits at = restores G (numbers_at F l at)
 
   -- one record further
-  step : (n at : ℕ) → fits at ≡ true → fault_from F G l (suc n) at ≡ suc (fault_from F G l n (nat_abs (word l at)))
-  step n at t = fault-on F G l (suc n) at (omega arith) t ∙ ap (λ (k : ℕ). suc (fault_from F G l k (nat_abs (word l at)))) (less n)
+  step : (n at : ℕ) → fits at ≡ true → fault_from F G l (suc n) at ≡ option_map suc (fault_from F G l n (nat_abs (word l at)))
+  step n at t = fault-on F G l (suc n) at (omega arith) t ∙ ap (λ (k : ℕ). option_map suc (fault_from F G l k (nat_abs (word l at)))) (less n)
 
   onward : (n at : ℕ) → OnwardIn F l (suc n) at → OnwardIn F l n (nat_abs (word l at))
   onward n at o = subst (λ (k : ℕ). OnwardIn F l k (nat_abs (word l at))) (less n) (on-next o (omega arith))
 
   -- ---- every block, or none at fault
-  all_fit : (n at : ℕ) → OnwardIn F l n at → fault_from F G l n at ≡ n → All (λ (p : ℕ). fits (record_at F p) ≡ true) (places F l n at)
+  all_fit : (n at : ℕ) → OnwardIn F l n at → fault_from F G l n at ≡ None → All (λ (p : ℕ). fits (record_at F p) ≡ true) (places F l n at)
   all_fit zero at o e = tt
   all_fit (suc n) at o e = go (fits at) refl (all_fit n (nat_abs (word l at)) (onward n at o))
     where
       here : record_at F ((at - header_size) / record_size F) ≡ at
       here = let s = on-start o (omega arith) in ap (λ (a : ℕ). record_at F ((a - header_size) / record_size F)) s.is ∙ ap (record_at F) (place_of F s.place) ∙ sym s.is
 
-      go : (b : Bool) → fits at ≡ b → (fault_from F G l n (nat_abs (word l at)) ≡ n → All (λ (p : ℕ). fits (record_at F p) ≡ true) (places F l n (nat_abs (word l at)))) → All (λ (p : ℕ). fits (record_at F p) ≡ true) (places F l (suc n) at)
-      go true t ih = let q = sym (step n at t) ∙ e in (ap fits here ∙ t, ih (omega arith))
-      go false t ih = let q = sym (fault-here F G l (suc n) at (omega arith) t) ∙ e in absurd (omega arith)
+      go : (b : Bool) → fits at ≡ b → (fault_from F G l n (nat_abs (word l at)) ≡ None → All (λ (p : ℕ). fits (record_at F p) ≡ true) (places F l n (nat_abs (word l at)))) → All (λ (p : ℕ). fits (record_at F p) ≡ true) (places F l (suc n) at)
+      go true t ih = (ap fits here ∙ t, ih (none_before (fault_from F G l n (nat_abs (word l at))) (sym (step n at t) ∙ e)))
+      go false t ih = absurd (some_none (sym (fault-here F G l (suc n) at (omega arith) t) ∙ e))
 
-  none : ((j : ℕ) → j < count_at l → fits (record_at F j) ≡ true) → (n at : ℕ) → OnwardIn F l n at → fault_from F G l n at ≡ n
+  none : ((j : ℕ) → j < count_at l → fits (record_at F j) ≡ true) → (n at : ℕ) → OnwardIn F l n at → fault_from F G l n at ≡ None
   none h zero at o = fault-end F G l 0 at (omega arith)
-  none h (suc n) at o = let s = on-start o (omega arith) in step n at (ap fits s.is ∙ h s.place s.below) ∙ ap suc (none h n (nat_abs (word l at)) (onward n at o))
+  none h (suc n) at o = let s = on-start o (omega arith) in step n at (ap fits s.is ∙ h s.place s.below) ∙ ap (option_map suc) (none h n (nat_abs (word l at)) (onward n at o))
 
   module _ (ok : well_formed_in F l ≡ true) where
-    pub each_fits : fault_of F G l ≡ count_at l → (j : ℕ) → j < count_at l → fits (record_at F j) ≡ true
+    pub each_fits : fault_of F G l ≡ None → (j : ℕ) → j < count_at l → fits (record_at F j) ≡ true
     each_fits e j h = visited (λ (p : ℕ). fits (record_at F p) ≡ true) j (places F l (count_at l) (nat_abs (word l 3))) (visits_each F l ok j h) (all_fit (count_at l) (nat_abs (word l 3)) (begin_in F l ok) e)
 
-    pub no_fault : ((j : ℕ) → j < count_at l → fits (record_at F j) ≡ true) → fault_of F G l ≡ count_at l
+    pub no_fault : ((j : ℕ) → j < count_at l → fits (record_at F j) ≡ true) → fault_of F G l ≡ None
     no_fault h = none h (count_at l) (nat_abs (word l 3)) (begin_in F l ok)
 
   -- ---- the first block at fault
@@ -74,14 +86,6 @@ module _ (F G : Form) (l : List ℤ) where
   shift : (at i : ℕ) → after (nat_abs (word l at)) i ≡ after at (suc i)
   shift at zero = refl
   shift at (suc i) = ap (λ (a : ℕ). nat_abs (word l a)) (shift at i)
-
-  pub fault-most : (n at : ℕ) → fault_from F G l n at ≤ n
-  fault-most zero at = let q = fault-end F G l 0 at (omega arith) in omega arith
-  fault-most (suc n) at = go (fits at) refl (fault-most n (nat_abs (word l at)))
-    where
-      go : (b : Bool) → fits at ≡ b → fault_from F G l n (nat_abs (word l at)) ≤ n → fault_from F G l (suc n) at ≤ suc n
-      go true t h = let q = step n at t in omega arith
-      go false t h = let q = fault-here F G l (suc n) at (omega arith) t in omega arith
 
   pub record First (at i : ℕ) : Type 0 where
     pub unfit : fits (after at i) ≡ false
@@ -97,17 +101,24 @@ module _ (F G : Form) (l : List ℤ) where
   sooner : (at i : ℕ) → First at (suc i) → First (nat_abs (word l at)) i
   sooner at i r = record { unfit = ap fits (shift at i) ∙ r.unfit; fit = λ j h. ap fits (shift at j) ∙ r.fit (suc j) (omega arith) }
 
-  pub fault-first : (n at i : ℕ) → fault_from F G l n at ≡ i → i < n → First at i
-  fault-first zero at i e h = absurd (not-suc-le-zero h)
-  fault-first (suc n) at i e h = go (fits at) refl (fault-first n (nat_abs (word l at)) (fault_from F G l n (nat_abs (word l at))) refl)
+  pub fault-first : (n at i : ℕ) → fault_from F G l n at ≡ Some i → (i < n) × First at i
+  fault-first zero at i e = absurd (some_none (sym e ∙ fault-end F G l 0 at (omega arith)))
+  fault-first (suc n) at i e = go (fits at) refl (fault-first n (nat_abs (word l at)))
     where
-      go : (b : Bool) → fits at ≡ b → (fault_from F G l n (nat_abs (word l at)) < n → First (nat_abs (word l at)) (fault_from F G l n (nat_abs (word l at)))) → First at i
-      go true t ih = let q = sym (step n at t) ∙ e in subst (First at) q (later at _ t (ih (omega arith)))
-      go false t ih =
-          let q = sym (fault-here F G l (suc n) at (omega arith) t) ∙ e in
-          subst (First at) q (record { unfit = t; fit = λ j u. absurd (not-suc-le-zero u) })
+      further : (o : Option ℕ) → option_map suc o ≡ Some i → ((k : ℕ) → o ≡ Some k → (k < n) × First (nat_abs (word l at)) k) → fits at ≡ true → (i < suc n) × First at i
+      further None q h t = absurd (some_none (sym q))
+      further (Some k) q h t =
+          let r = h k refl in
+          let e : suc k ≡ i = some_same q in
+          (omega arith, subst (First at) e (later at k t r.1))
 
-  pub first-fault : (n at i : ℕ) → First at i → i < n → fault_from F G l n at ≡ i
+      go : (b : Bool) → fits at ≡ b → ((k : ℕ) → fault_from F G l n (nat_abs (word l at)) ≡ Some k → (k < n) × First (nat_abs (word l at)) k) → (i < suc n) × First at i
+      go true t ih = further (fault_from F G l n (nat_abs (word l at))) (sym (step n at t) ∙ e) ih t
+      go false t ih =
+          let q : 0 ≡ i = some_same (sym (fault-here F G l (suc n) at (omega arith) t) ∙ e) in
+          (omega arith, subst (First at) q (record { unfit = t; fit = λ j u. absurd (not-suc-le-zero u) }))
+
+  pub first-fault : (n at i : ℕ) → First at i → i < n → fault_from F G l n at ≡ Some i
   first-fault zero at i r h = absurd (not-suc-le-zero h)
   first-fault (suc n) at zero r h = fault-here F G l (suc n) at (omega arith) r.unfit
-  first-fault (suc n) at (suc i) r h = step n at (r.fit 0 (omega arith)) ∙ ap suc (first-fault n (nat_abs (word l at)) i (sooner at i r) (omega arith))
+  first-fault (suc n) at (suc i) r h = step n at (r.fit 0 (omega arith)) ∙ ap (option_map suc) (first-fault n (nat_abs (word l at)) i (sooner at i r) (omega arith))

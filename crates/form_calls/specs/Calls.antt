@@ -1,13 +1,13 @@
 -- A channel's words written in a form that keeps less, and read from there: what is asked, in order, and what is left in the result.
-use Rattle.std.specs.Prelude.{cond, not, List, [], ◌∷◌, ℕ, eqb, leb, length, ℤ}
-use Rattle.verdict.specs.declared.Verdict.{Verdict}
-use Rattle.verdict.specs.declared.Verdict.TheVariants.{ShortBuffer, Malformed, ZeroBlock, NotHermitianAt, NotPlainAt}
-use Rattle.verdict.specs.Verdict.{accepted}
+use Rattle.std.specs.Prelude.{cond, not, List, [], ◌∷◌, ℕ, leb, length, ℤ, Option, is_none, unwrap_or, is_ok}
+use Rattle.verdict.specs.Questions.{Verdict}
+use Rattle.verdict.specs.declared.Refusal.{Refusal}
+use Rattle.verdict.specs.declared.Refusal.TheVariants.{ShortBuffer, Malformed, ZeroBlock, NotHermitianAt, NotPlainAt}
 use Rattle.verdict.specs.Questions.{Question, question, first_no}
-use Rattle.channel.specs.Layout.{Form, channels, dim_at, count_at}
+use Rattle.channel.specs.Layout.{Form, channels, dim_at, form_in}
 use Rattle.channel.specs.WellFormed.{well_formed_in, well_formed, has_zero_block}
-use Rattle.recast.specs.declared.Parts.{Parts}
-use Rattle.recast.specs.Words.{form_in, size_in, recast_into}
+use Rattle.channel.specs.declared.forms.Parts.{Parts}
+use Rattle.recast.specs.Words.{size_in, recast_into}
 use Rattle.form_judge.specs.Faults.{fault_of}
 
 -- the channel's own form
@@ -16,17 +16,18 @@ own l = channels (dim_at l)
 
 module _ (f : Parts) where
   -- the refusal of the block at place i along the chain
-  abbrev pub refusal : ℕ → Verdict
+  abbrev pub refusal : ℕ → Refusal
   refusal i = cond f.half (NotHermitianAt i) (NotPlainAt i)
 
-  abbrev pub fault : List ℤ → ℕ
+  -- the place of the first block that the form does not restore
+  abbrev pub fault : List ℤ → Option ℕ
   fault l = fault_of (own l) (form_in f l) l
 
   abbrev pub write_questions : List ℤ → List ℤ → List Question
   write_questions l res =
       question 10 (well_formed l) Malformed
       ∷ question 16 (not (has_zero_block l)) ZeroBlock
-      ∷ question (cond f.half 22 23) (eqb (fault l) (count_at l)) (refusal (fault l))
+      ∷ question (cond f.half 22 23) (is_none (fault l)) (refusal (unwrap_or (fault l) 0))
       ∷ question 8 (leb (size_in (form_in f l) l) (length res)) ShortBuffer
       ∷ []
 
@@ -44,7 +45,7 @@ module _ (f : Parts) where
 
   -- a refusal leaves the result as it was
   abbrev pub write_result : List ℤ → List ℤ → List ℤ
-  write_result l res = cond (accepted (write_verdict l res)) (recast_into (own l) (form_in f l) l res) res
+  write_result l res = cond (is_ok (write_verdict l res)) (recast_into (own l) (form_in f l) l res) res
 
   abbrev pub read_result : List ℤ → List ℤ → List ℤ
-  read_result p res = cond (accepted (read_verdict p res)) (recast_into (form_in f p) (own p) p res) res
+  read_result p res = cond (is_ok (read_verdict p res)) (recast_into (form_in f p) (own p) p res) res

@@ -5,36 +5,23 @@ ghost use Rattle.std.specs.Prelude.{◌≡◌, true, not, ◌+◌, ◌<◌, ◌�
 ghost use Rattle.algebra.specs.Lists.{all_below};
 ghost use Rattle.exact.specs.Exact.{number_of, max_numerator};
 ghost use Rattle.exact.specs.Inner.Sizes.{Within};
-ghost use Rattle.channel.specs.Layout.{record_head, record_size, word, numbers_at};
-ghost use Rattle.channel.specs.WellFormed.{is_dim, is_start, is_real, diagonal_ok, store_ok, block_ok, record_ok, chain_ok};
+ghost use Rattle.channel.specs.Layout.{record_head, record_size, word, numbers_at, form_of};
+ghost use Rattle.channel.specs.WellFormed.{is_real, diagonal_ok, store_ok, block_ok, record_ok, chain_ok};
 ghost use Rattle.channel.specs.Forms.{restores, is_conjugate, has_root};
-ghost use Rattle.recast.specs.Words.{form_of};
 ghost use Rattle.recast.specs.Inner.Records.{Readable};
 ghost use Rattle.form_judge.specs.Faults.{fault_of};
-ghost use Rattle.form_judge.specs.Inner.Judging.{shape_in, header_in, Room, Chained, mirror_fits, plain_fits, cell_fits};
+ghost use Rattle.form_judge.specs.Inner.Judging.{shape_in, Room, Chained, mirror_fits, plain_fits, cell_fits};
 
 use channel::Shape;
-use channel::layout::{EXPONENT, HEADER, RECORD_HEAD, follow, read_store, up_to};
-use channel::well_formed::no_shape;
+use channel::forms::{Parts, block_size, is_start};
+use channel::layout::{EXPONENT, RECORD_HEAD, follow, read_store, up_to};
+use channel::well_formed::header;
 use exact::MAX_EXPONENT;
 use gather::see;
-use recast::{Parts, block_size, conj4, place, read_kept, read_number, record_size};
+use recast::{conj4, place, read_kept, read_number};
 use scalar::Scalar;
 use store::{MAX_WORD, comes_before, fits_bits, join};
-use verdict::Verdict;
-
-// Whether one of `count` records of a size starts at index z.
-fn is_start(w: usize, f: Parts, count: usize, z: i64) -> bool
-    requires { w ≤ 256 }
-    ensures { result ≡ is_start (form_of w f) count z }
-{
-    if z < HEADER as i64 {
-        return false;
-    }
-    let size = record_size(w, f);
-    let a = z as usize - HEADER;
-    (a % size == 0) & (a / size < count)
-}
+use verdict::Refusal;
 
 // Whether the store of the record at `at` has at most m bits.
 fn store_ok(s: &[i64], at: usize, m: u32) -> bool
@@ -64,14 +51,10 @@ fn diagonal_ok(s: &[i64], at: usize, w: usize, f: Parts) -> bool
     if !f.half {
         return true;
     }
-    let plain = f.plain;
-    let mut r = 0;
-    while r < w {
-        let x = read_kept(s, at + RECORD_HEAD + place(w, f, r, r), plain);
-        if !is_real(x) {
+    for r in 0..w {
+        if !is_real(read_kept(s, at + RECORD_HEAD + place(w, f, r, r), f.plain)) {
             return false;
         }
-        r += 1;
     }
     true
 }
@@ -114,8 +97,7 @@ fn chain_ok(s: &[i64], w: usize, f: Parts, m: u32, count: usize) -> bool
     let mut z = s[3];
     let mut first = true;
     let mut prev = 0;
-    let mut left = count;
-    while 0 < left {
+    for i in 0..count {
         if !is_start(w, f, count, z) {
             return false;
         }
@@ -126,60 +108,19 @@ fn chain_ok(s: &[i64], w: usize, f: Parts, m: u32, count: usize) -> bool
         z = s[at];
         first = false;
         prev = read_store(s, at);
-        left -= 1;
     }
     z == 0
 }
 
-fn is_dim(z: i64) -> bool
-    ensures { result ≡ is_dim z }
-{
-    (z == 1) | (z == 2) | (z == 4) | (z == 8) | (z == 16)
-}
-
-// The header, if it and the room for its records are right.
-fn header(s: &[i64], f: Parts) -> Shape
-    ensures { result ≡ header_in f s.now }
-{
-    if s.len() < HEADER {
-        return no_shape(Verdict::Malformed);
-    }
-    let dim = s[0];
-    let bits = s[1];
-    let count = s[2];
-    if !(is_dim(dim) & up_to(64, bits)) {
-        return no_shape(Verdict::Malformed);
-    }
-    let d = dim as usize;
-    let size = record_size(d * d, f);
-    let most = (s.len() - HEADER) / size;
-    if !up_to(most as u64, count) {
-        return no_shape(Verdict::Malformed);
-    }
-    let m = bits as u32;
-    let n = count as usize;
-    Shape {
-        verdict: Verdict::Accepted,
-        dim: d,
-        bits: m,
-        count: n,
-    }
-}
-
-// The header of words of a form that are well formed, or 10.
-pub fn judge_form(s: &[i64], f: Parts) -> Shape
+// The header of words of a form that are well formed.
+pub fn judge_form(s: &[i64], f: Parts) -> Result<Shape, Refusal>
     ensures { result ≡ shape_in f s.now }
 {
-    let h = header(s, f);
-    let v = h.verdict;
-    if !v.is_accepted() {
-        return h;
+    let h = header(s, f)?;
+    if !chain_ok(s, h.dim * h.dim, f, h.bits, h.count) {
+        return Err(Refusal::Malformed);
     }
-    let d = h.dim;
-    if !chain_ok(s, d * d, f, h.bits, h.count) {
-        return no_shape(Verdict::Malformed);
-    }
-    h
+    Ok(h)
 }
 
 // Whether a number is the conjugate of another.
@@ -187,9 +128,8 @@ fn are_conjugate(x: [i64; 4], y: [i64; 4]) -> bool
     requires { Within max_numerator (number_of y) }
     ensures { result ≡ is_conjugate (number_of x) (number_of y) }
 {
-    let z = conj4(y);
     let a = Scalar { n: x, e: 0 };
-    let b = Scalar { n: z, e: 0 };
+    let b = Scalar { n: conj4(y), e: 0 };
     a.equals(b)
 }
 
@@ -221,8 +161,7 @@ fn plain_at(s: &[i64], at: usize, w: usize, f: Parts, plain: bool, r: usize, c: 
     if !plain {
         return true;
     }
-    let x = read_number(s, at, w, f, r, c);
-    is_plain(x)
+    is_plain(read_number(s, at, w, f, r, c))
 }
 
 // Whether the form `to` restores entry (r, c) of the record at `at`.
@@ -240,12 +179,10 @@ fn row_fits(s: &[i64], at: usize, w: usize, f: Parts, to: Parts, r: usize) -> bo
     requires { Readable (form_of w f) s.now at × (r < w) }
     ensures { result ≡ all_below w (cell_fits to.half to.plain w (numbers_at (form_of w f) s.now at) r) }
 {
-    let mut c = 0;
-    while c < w {
+    for c in 0..w {
         if !cell_fits(s, at, w, f, to, r, c) {
             return false;
         }
-        c += 1;
     }
     true
 }
@@ -255,29 +192,25 @@ fn block_fits(s: &[i64], at: usize, w: usize, f: Parts, to: Parts) -> bool
     requires { Readable (form_of w f) s.now at }
     ensures { result ≡ restores (form_of w to) (numbers_at (form_of w f) s.now at) }
 {
-    let mut r = 0;
-    while r < w {
+    for r in 0..w {
         if !row_fits(s, at, w, f, to, r) {
             return false;
         }
-        r += 1;
     }
     true
 }
 
-// The place along the chain of the first block that the form `to` does not restore, or the count of blocks.
-pub fn first_fault(s: &[i64], w: usize, f: Parts, to: Parts, count: usize) -> usize
+// The place along the chain of the first block that the form `to` does not restore, if there is one.
+pub fn first_fault(s: &[i64], w: usize, f: Parts, to: Parts, count: usize) -> Option<usize>
     requires { Chained (form_of w f) s.now count }
     ensures { result ≡ fault_of (form_of w f) (form_of w to) s.now }
 {
     let mut at = follow(s, 3);
-    let mut i = 0;
-    while i < count {
+    for i in 0..count {
         if !block_fits(s, at, w, f, to) {
-            return i;
+            return Some(i);
         }
         at = follow(s, at);
-        i += 1;
     }
-    count
+    None
 }

@@ -11,7 +11,7 @@ use exact::MAX_NUMERATOR;
 use exact::ranges::at_most;
 
 // What is seen of numerators: whether each is in range, each even, each zero.
-#[derive(Clone, Copy)]
+#[derive(Clone, Copy, Debug, PartialEq, Eq)]
 pub struct Seen {
     pub range: bool,
     pub even: bool,
@@ -25,11 +25,9 @@ fn gather_edges(s: &[i64], at: usize, n: usize) -> i64
     ensures { of_z w64 result ≡ edges s.now at n }
 {
     let mut g = 0i64;
-    let mut i = 0;
-    while i < n {
+    for i in 0..n {
         let x = s[at + i];
         g = g | (x ^ (x << 1));
-        i += 1;
     }
     g
 }
@@ -39,12 +37,10 @@ fn each_in_range(s: &[i64], at: usize, n: usize) -> bool
     requires { at + n ≤ length s.now }
     ensures { result ≡ all_in_range s.now at n }
 {
-    let mut i = 0;
-    while i < n {
+    for i in 0..n {
         if !at_most(s[at + i], MAX_NUMERATOR) {
             return false;
         }
-        i += 1;
     }
     true
 }
@@ -74,10 +70,8 @@ pub fn same_words(s: &[i64], a: usize, t: &[i64], b: usize, n: usize) -> bool
     ensures { result ≡ same_words s.now a t.now b n }
 {
     let mut d = 0i64;
-    let mut i = 0;
-    while i < n {
+    for i in 0..n {
         d = d | (s[a + i] ^ t[b + i]);
-        i += 1;
     }
     d == 0
 }
@@ -90,12 +84,12 @@ pub fn same_rows(s: &[i64], a: usize, t: &[i64], b: usize, n: usize) -> bool
     requires { (a + n ≤ length s.now) × (b + n ≤ length t.now) }
     ensures { result ≡ same_words s.now a t.now b n }
 {
-    let mut k = 0;
-    while ROW <= n - k {
+    for r in 0..n / ROW {
+        let k = r * ROW;
         if !same_words(s, a + k, t, b + k, ROW) {
             return false;
         }
-        k += ROW;
     }
+    let k = n / ROW * ROW;
     same_words(s, a + k, t, b + k, n - k)
 }

@@ -1,7 +1,7 @@
 -- A packed channel: of each block, which is Hermitian, the entries (r, c) with r ≤ c alone.
 use Rattle.std.specs.Prelude.{true, false, List, ℤ}
-use Rattle.verdict.specs.declared.Verdict.{Verdict}
-use Rattle.recast.specs.declared.Parts.{Parts}
+use Rattle.verdict.specs.Questions.{Verdict}
+use Rattle.channel.specs.declared.forms.Parts.{Parts}
 use Rattle.form_calls.specs.Calls.{write_verdict, read_verdict, write_result, read_result}
 
 abbrev pub kept : Parts

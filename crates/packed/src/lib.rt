@@ -4,8 +4,8 @@
 ghost use Rattle.std.specs.Prelude.{◌≡◌};
 ghost use Rattle.packed.specs.Packed.{pack_verdict, pack_result, unpack_verdict, unpack_result};
 
+use channel::forms::Parts;
 use form_calls::{read_form, write_form};
-use recast::Parts;
 use verdict::Verdict;
 
 // What is kept of a block.

@@ -4,8 +4,8 @@
 ghost use Rattle.std.specs.Prelude.{◌≡◌};
 ghost use Rattle.plain_words.specs.Plain.{plain_write_verdict, plain_write_result, plain_read_verdict, plain_read_result};
 
+use channel::forms::Parts;
 use form_calls::{read_form, write_form};
-use recast::Parts;
 use verdict::Verdict;
 
 // What is kept of a block.

@@ -7,66 +7,13 @@ ghost use Rattle.algebra.specs.Quadratic.{conjugate};
 ghost use Rattle.algebra.specs.Words.{blocks};
 ghost use Rattle.exact.specs.Exact.{root2, number_of, list_of, max_numerator};
 ghost use Rattle.exact.specs.Inner.Sizes.{Within};
-ghost use Rattle.channel.specs.Layout.{header_size, record_size, record_at, block_size, block_words, entry_size, entry_words, entry_from, half_rows, row_start, from, word, numbers_at};
+ghost use Rattle.channel.specs.Layout.{header_size, record_size, record_at, block_size, block_words, entry_size, entry_words, entry_from, row_start, from, word, numbers_at, form_of};
 ghost use Rattle.channel.specs.Recast.{relink, recast_record};
-ghost use Rattle.recast.specs.Words.{form_of, recast_into};
+ghost use Rattle.recast.specs.Words.{recast_into};
 ghost use Rattle.recast.specs.Inner.Records.{Kept, Readable, Linked, Records, Ready};
 
+use channel::forms::{Parts, entry_size, first_column, record_size, row_start};
 use channel::layout::{EXPONENT, HEADER, RECORD_HEAD};
-
-// What is kept of a block: only the entries (r, c) with r ≤ c, and only n0 and n2 of an entry.
-#[derive(Clone, Copy)]
-pub struct Parts {
-    pub half: bool,
-    pub plain: bool,
-}
-
-// The words of an entry.
-pub fn entry_size(plain: bool) -> usize
-    ensures { result ≡ entry_size plain }
-{
-    if plain {
-        return 2;
-    }
-    4
-}
-
-// The first column that is kept of row r.
-pub fn first_column(half: bool, r: usize) -> usize
-    ensures { result ≡ cond half r 0 }
-{
-    if half {
-        return r;
-    }
-    0
-}
-
-// The entries that are kept of the first r rows of w.
-pub fn row_start(w: usize, half: bool, r: usize) -> usize
-    requires { (w ≤ 256) × (r ≤ w) }
-    ensures { result ≡ cond half (half_rows w r) (r * w) }
-{
-    if half {
-        return r * (2 * w + 1 - r) / 2;
-    }
-    r * w
-}
-
-// The words of the numerators of a block of w rows and columns.
-pub fn block_size(w: usize, f: Parts) -> usize
-    requires { w ≤ 256 }
-    ensures { result ≡ block_size (form_of w f) }
-{
-    row_start(w, f.half, w) * entry_size(f.plain)
-}
-
-// The words of the record of such a block.
-pub fn record_size(w: usize, f: Parts) -> usize
-    requires { w ≤ 256 }
-    ensures { result ≡ record_size (form_of w f) }
-{
-    RECORD_HEAD + block_size(w, f)
-}
 
 // Where the words of entry (r, c) begin in its block.
 pub fn place(w: usize, f: Parts, r: usize, c: usize) -> usize
@@ -153,12 +100,9 @@ fn copy_row(
     ensures { res.new ≡ blocks (entry_size plain) res.old out (w - skipped) (λ (j : ℕ). entry_words plain (numbers_at (form_of w f) s.now at (r * w + (skipped + j)))) }
 {
     let size = entry_size(plain);
-    let n = w - skipped;
-    let mut j = 0;
-    while j < n {
+    for j in 0..w - skipped {
         let x = read_number(s, at, w, f, r, skipped + j);
         write_number(res, out + j * size, plain, x);
-        j += 1;
     }
 }
 
@@ -168,12 +112,10 @@ fn copy_block(s: &[i64], at: usize, w: usize, f: Parts, res: &mut [i64], out: us
     ensures { res.new ≡ sets res.old out (block_words (form_of w to) (numbers_at (form_of w f) s.now at)) }
 {
     let size = entry_size(to.plain);
-    let mut r = 0;
-    while r < w {
+    for r in 0..w {
         let start = row_start(w, to.half, r);
         let skipped = first_column(to.half, r);
         copy_row(s, at, w, f, r, skipped, res, out + start * size, to.plain);
-        r += 1;
     }
 }
 
@@ -222,10 +164,8 @@ fn copy_records(s: &[i64], w: usize, f: Parts, n: usize, res: &mut [i64], to: Pa
 {
     let here = record_size(w, f);
     let there = record_size(w, to);
-    let mut j = 0;
-    while j < n {
+    for j in 0..n {
         copy_record(s, HEADER + j * here, w, f, res, HEADER + j * there, to);
-        j += 1;
     }
 }
 

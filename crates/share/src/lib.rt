@@ -14,12 +14,9 @@ pub fn or_more(s: &[i64], at: usize, k: usize, n: usize, g: i64) -> i64
     ensures bits { of_z w64 result ≡ or_words s.now at (k + n) }
     ensures fit { (i : ℕ) → k ≤ i → i < k + n → SFits w64 (get_or s.now (at + i) (pos 0)) }
 {
-    let end = k + n;
     let mut h = g;
-    let mut i = k;
-    while i < end {
+    for i in k..k + n {
         h = h | s[at + i];
-        i += 1;
     }
     h
 }
@@ -29,10 +26,8 @@ pub fn shift_words(s: &mut [i64], at: usize, n: usize, t: u32)
     requires { (at + n ≤ length s.old) × (t ≤ 63) }
     ensures { s.new ≡ fill_words s.old at n (λ (i : ℕ). shr_z (get_or s.old (at + i) (pos 0)) (2 ^ t)) }
 {
-    let mut i = 0;
-    while i < n {
+    for i in 0..n {
         let x = s[at + i];
         s[at + i] = x >> t;
-        i += 1;
     }
 }

@@ -1,36 +1,37 @@
--- What the judge of a channel answers inside: the verdict with the header, and what is found of a record; the room and the walk that its calls ask for.
-use Rattle.std.specs.Prelude.{◌≡◌, Bool, true, false, cond, ◌&&◌, List, ℕ, ◌+◌, ◌*◌, ◌≤◌, length, ℤ, pos}
+-- What the judge of a channel answers inside: the header or a refusal, and what is found of a record; the room and the walk that its calls ask for.
+use Rattle.std.specs.Prelude.{◌≡◌, Bool, true, false, cond, List, ℕ, ◌+◌, ◌*◌, ◌≤◌, length, ℤ, pos, Option, Some, None, Result, Ok}
+use Rattle.std.specs.Result.{result_and}
 use Rattle.algebra.specs.Words.{up_to}
 use Rattle.exact.specs.Exact.{max_exponent}
-use Rattle.verdict.specs.declared.Verdict.{Verdict}
-use Rattle.verdict.specs.declared.Verdict.TheVariants.{Accepted}
-use Rattle.verdict.specs.Verdict.{accepted}
+use Rattle.verdict.specs.Questions.{Verdict}
+use Rattle.verdict.specs.declared.Refusal.{Refusal}
 use Rattle.channel.specs.declared.Shape.{Shape}
+use Rattle.channel.specs.declared.forms.Parts.{Parts}
 use Rattle.channel.specs.declared.well_formed.Judged.{Judged}
-use Rattle.channel.specs.Layout.{Form, full, channels, header_size, record_head, exponent_place, entry_size, record_size, word, dim_at, bits_at, count_at}
-use Rattle.channel.specs.WellFormed.{header_ok, chain_ok, well_formed_in, verdict_by, form_verdict}
-
--- a refusal, with zeros
-abbrev pub no_shape : Verdict → Shape
-no_shape v = record { verdict = v; dim = 0; bits = 0; count = 0 }
+use Rattle.channel.specs.Layout.{Form, full, channels, form_in, header_size, record_head, exponent_place, entry_size, record_size, word, entry_at, store_at, dim_at, bits_at, count_at}
+use Rattle.channel.specs.WellFormed.{all_zero, header_ok, chain_ok, well_formed_in, verdict_by, form_verdict}
 
 abbrev pub shape_at : List ℤ → Shape
-shape_at l = record { verdict = Accepted; dim = dim_at l; bits = bits_at l; count = count_at l }
+shape_at l = record { dim = dim_at l; bits = bits_at l; count = count_at l }
 
--- the header's numbers where the verdict accepts
-abbrev pub shape_by : Verdict → List ℤ → Shape
-shape_by v l = cond (accepted v) (shape_at l) (no_shape v)
+-- the header, where the verdict accepts
+abbrev pub shape_by : Verdict → List ℤ → Result Shape Refusal
+shape_by v l = result_and v (Ok (shape_at l))
 
-abbrev pub shape_of : List ℤ → Shape
+abbrev pub shape_of : List ℤ → Result Shape Refusal
 shape_of l = shape_by (form_verdict l) l
 
--- the header alone
-abbrev pub header_of : List ℤ → Shape
-header_of l = shape_by (verdict_by (header_ok (channels (dim_at l)) l) false) l
+-- the header alone, of words of the form that keeps these parts
+abbrev pub header_of : Parts → List ℤ → Result Shape Refusal
+header_of f l = shape_by (verdict_by (header_ok (form_in f l) l) false) l
 
--- whether a block is zero, and its store, where the test of its record holds
-abbrev pub judged : Bool → Bool → ℕ → Judged
-judged b z s = record { ok = b; zero = b && z; store = cond b s 0 }
+-- x, where a test holds
+abbrev pub when : {A : Type 0} → Bool → A → Option A
+when b x = cond b (Some x) None
+
+-- the store of the record at `at`, and whether its block is zero
+abbrev pub judged_at : ℕ → List ℤ → ℕ → Judged
+judged_at w l at = record { store = store_at l at; zero = all_zero (w * w) (entry_at (full w) l at) }
 
 -- room for `count` records of side w
 pub record Room (l : List ℤ) (w m count : ℕ) : Type 0 where

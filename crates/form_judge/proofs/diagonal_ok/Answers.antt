@@ -1,15 +1,14 @@
 -- `diagonal_ok` meets its contract.
-use mathlib.Core.Path.{◌≡◌, refl, sym, ap, ◌∙◌}
-use mathlib.Core.Bool.{Bool, true, false, not, ◌||◌}
-use Prim.Native.Nat.{ℕ, ◌+◌, ◌*◌, ◌-◌, ◌≤◌}
+use mathlib.Core.Path.{◌≡◌, sym, ap, ◌∙◌}
+use mathlib.Core.Bool.{Bool, false, not, ◌||◌}
+use Prim.Native.Nat.{ℕ, ◌+◌, ◌*◌, ◌≤◌}
 use native.Mathlib.Omega.{arith}
 use lib.ListN.{length}
 use Rattle.algebra.specs.Lists.{all_below}
 use Rattle.algebra.proofs.Tests.{all-step, all_no}
 use Rattle.exact.specs.Exact.{number_of}
-use Rattle.channel.specs.Layout.{Form, record_head, entry_size, numbers_at}
+use Rattle.channel.specs.Layout.{Form, record_head, entry_size, numbers_at, form_of}
 use Rattle.channel.specs.WellFormed.{is_real}
-use Rattle.recast.specs.Words.{form_of}
 use Rattle.recast.specs.Inner.Records.{Kept}
 use Rattle.recast.proofs.Places.{kept-inside, number-kept, read_is}
 use Rattle.form_judge.proofs.Blocks.{from-own}
@@ -61,47 +60,24 @@ found c =
     let s = start c.before.before.before in
     let r = c.loop-r.r in
     c.is_real.ensures
-    ∙ ap is_real (ap number_of c.read_kept-x.ensures ∙ read_is (F s) s.args.s.now s.args.at r r _ c.place.ensures ∙ sym (number-kept (F s) s.args.s.now s.args.at r r (kept c.before.before.before).col (kept c.before.before.before).after))
+    ∙ ap is_real (ap number_of c.read_kept.ensures ∙ read_is (F s) s.args.s.now s.args.at r r _ c.place.ensures ∙ sym (number-kept (F s) s.args.s.now s.args.at r r (kept c.before.before.before).col (kept c.before.before.before).after))
 
 -- half is kept
 halved : (c : Else-not-f) → not c.args.f.half ≡ false
 halved c = c.if-not-f.false
 
-pub returns-then-not-f : goal.returns-then-not-f
-returns-then-not-f c = sym (ap (test c.before.before) c.if-not-f.true)
-
-pub loop-r-init : goal.loop-r-init
-loop-r-init c = (omega arith, refl)
-
-pub overflow_add-at : goal.overflow_add-at
-overflow_add-at c = let s = start c in omega (arith, s.requires.1)
-
-pub place-requires : goal.place-requires
-place-requires c = kept c
-
 pub overflow_add-at-in-loop-r : goal.overflow_add-at-in-loop-r
 overflow_add-at-in-loop-r c = let q = room c in omega arith
 
-pub read_kept-x-requires : goal.read_kept-x-requires
-read_kept-x-requires c = room c
+pub read_kept-requires : goal.read_kept-requires
+read_kept-requires c = room c
 
 pub returns-then-not-is_real : goal.returns-then-not-is_real
 returns-then-not-is_real c =
     let s = start c.before.before.before.before in
     sym (ap (test s) (halved c.before.before.before.before.before.before) ∙ all_no s.args.w c.loop-r.r (real s) c.loop-r-test.true (sym (found c.before) ∙ c.if-not-is_real.true))
 
-pub overflow_add-r : goal.overflow_add-r
-overflow_add-r c = omega arith
-
-pub loop-r-smaller : goal.loop-r-smaller
-loop-r-smaller c = omega arith
-
 pub loop-r-preserved : goal.loop-r-preserved
 loop-r-preserved c =
     let s = start c.before.before.before.before in
-    (omega arith, all-step c.loop-r.r (real s) c.loop-r.invariant.1 (sym (found c.before) ∙ c.if-not-is_real.false))
-
-pub returns : goal.returns
-returns c =
-    let e : c.args.w ≡ c.loop-r.r = omega (arith, c.loop-r.invariant.0, c.loop-r-test.false) in
-    sym (ap (test c.before.before.before.before) (halved c.before.before) ∙ ap (λ (k : ℕ). all_below k (real c.before.before.before.before)) e ∙ c.loop-r.invariant.1)
+    all-step c.loop-r.r (real s) c.loop-r.invariant (sym (found c.before) ∙ c.if-not-is_real.false)

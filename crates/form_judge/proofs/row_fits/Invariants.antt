@@ -1,15 +1,10 @@
 -- `row_fits` meets its contract.
 use mathlib.Core.Path.{◌≡◌}
 use mathlib.Core.Bool.{true}
-use Prim.Native.Nat.{◌-◌, ◌≤◌}
 use Rattle.algebra.specs.Lists.{all_below}
-use Rattle.channel.specs.Layout.{numbers_at}
-use Rattle.recast.specs.Words.{form_of}
+use Rattle.channel.specs.Layout.{numbers_at, form_of}
 use Rattle.form_judge.specs.Inner.Judging.{cell_fits}
 use Rattle.form_judge.proofs.row_fits.Given as goal
 
 abbrev pub invariant-loop-c : goal.invariant-loop-c
-invariant-loop-c l = (l.c ≤ l.w) × (all_below l.c (cell_fits l.to.half l.to.plain l.w (numbers_at (form_of l.w l.f) l.s l.at) l.r) ≡ true)
-
-abbrev pub decreases-loop-c : goal.decreases-loop-c
-decreases-loop-c l = l.w - l.c
+invariant-loop-c l = all_below l.c (cell_fits l.to.half l.to.plain l.w (numbers_at (form_of l.w l.f) l.s l.at) l.r) ≡ true

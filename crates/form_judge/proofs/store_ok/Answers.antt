@@ -1,6 +1,6 @@
 -- `store_ok` meets its contract.
 use mathlib.Core.Path.{◌≡◌, sym, ap, ◌∙◌}
-use mathlib.Core.Bool.{Bool, true, ◌&&◌}
+use mathlib.Core.Bool.{true, ◌&&◌}
 use Prim.Native.Nat.{ℕ, ◌+◌, ◌^◌}
 use lib.Dec.{ltb}
 use lib.IntN.{ℤ}
@@ -47,10 +47,6 @@ module _ (c : After-up_to-2) where
 
 ranges : (c : Else-not-up_to) → (up_to max_word (low c.before) ≡ true) × (up_to max_word (high c.before) ≡ true)
 ranges c = and_split _ _ (sym (both c.before) ∙ c.if-not-up_to.false)
-
-pub returns-then-not-up_to : goal.returns-then-not-up_to
-returns-then-not-up_to c =
-    sym (ap (λ (t : Bool). t && ltb (store_from (low c.before) (high c.before)) (2 ^ (start c.before).args.m)) (sym (both c.before) ∙ c.if-not-up_to.true))
 
 pub join-requires : goal.join-requires
 join-requires c =

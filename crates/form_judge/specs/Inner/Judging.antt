@@ -1,21 +1,17 @@
--- What is answered of words of a form: the verdict with the header; and the room that the walk asks for.
-use Rattle.std.specs.Prelude.{◌≡◌, Bool, true, false, not, ◌&&◌, ◌||◌, List, ℕ, ◌+◌, ◌*◌, ◌≤◌, length, ℤ}
+-- What is answered of words of a form: the header or a refusal; and the room that the walk asks for.
+use Rattle.std.specs.Prelude.{◌≡◌, Bool, true, false, not, ◌&&◌, ◌||◌, List, ℕ, ◌+◌, ◌*◌, ◌≤◌, length, ℤ, Result}
+use Rattle.verdict.specs.declared.Refusal.{Refusal}
 use Rattle.exact.specs.Exact.{Number}
 use Rattle.channel.specs.declared.Shape.{Shape}
-use Rattle.channel.specs.Layout.{Form, record_at, count_at}
-use Rattle.channel.specs.WellFormed.{header_ok, well_formed_in, verdict_by}
+use Rattle.channel.specs.Layout.{Form, record_at, count_at, form_in}
+use Rattle.channel.specs.WellFormed.{well_formed_in, verdict_by}
 use Rattle.channel.specs.Forms.{is_conjugate, has_root}
 use Rattle.channel.specs.Inner.Shapes.{shape_by}
-use Rattle.recast.specs.declared.Parts.{Parts}
-use Rattle.recast.specs.Words.{form_in}
+use Rattle.channel.specs.declared.forms.Parts.{Parts}
 
--- the header's numbers where the words are well formed, or 10
-abbrev pub shape_in : Parts → List ℤ → Shape
+-- the header where the words are well formed, or 10
+abbrev pub shape_in : Parts → List ℤ → Result Shape Refusal
 shape_in f l = shape_by (verdict_by (well_formed_in (form_in f l) l) false) l
-
--- the header alone
-abbrev pub header_in : Parts → List ℤ → Shape
-header_in f l = shape_by (verdict_by (header_ok (form_in f l) l) false) l
 
 -- room for `count` records of the form F
 pub record Room (F : Form) (l : List ℤ) (m count : ℕ) : Type 0 where

@@ -24,39 +24,12 @@ tested c =
     let s = c.args in
     c.at_most.ensures ∙ ap (λ (x : ℤ). leb (nat_abs x) max_numerator) (reads (get_or s.s.now (s.at + c.loop-i.i) (pos 0)) c.at_most-arg-1.given)
 
-pub loop-i-init : goal.loop-i-init
-loop-i-init c = (omega arith, refl)
-
-pub overflow_add-at : goal.overflow_add-at
-overflow_add-at c = omega arith
-
-pub offset_bounds-s-at : goal.offset_bounds-s-at
-offset_bounds-s-at c = omega arith
-
-pub bounds-s-at : goal.bounds-s-at
-bounds-s-at c = omega arith
-
-pub at_most-requires : goal.at_most-requires
-at_most-requires c = refl
-
 pub returns-then-not-at_most : goal.returns-then-not-at_most
 returns-then-not-at_most c =
     let s = c.args in
     sym (all_no s.n c.loop-i.i _ c.loop-i-test.true (sym (tested c.before) ∙ c.if-not-at_most.true))
 
-pub overflow_add-i : goal.overflow_add-i
-overflow_add-i c = omega arith
-
-pub loop-i-smaller : goal.loop-i-smaller
-loop-i-smaller c = omega arith
-
 pub loop-i-preserved : goal.loop-i-preserved
 loop-i-preserved c =
     let s = c.args in
-    (omega arith, all-step c.loop-i.i (λ (i : ℕ). leb (nat_abs (get_or s.s.now (s.at + i) (pos 0))) max_numerator) c.loop-i.invariant.1 (sym (tested c.before) ∙ c.if-not-at_most.false))
-
-pub returns : goal.returns
-returns c =
-    let s = c.args in
-    let e : c.loop-i.i ≡ s.n = omega arith in
-    sym (ap (all_in_range s.s.now s.at) (sym e) ∙ c.loop-i.invariant.1)
+    all-step c.loop-i.i (λ (i : ℕ). leb (nat_abs (get_or s.s.now (s.at + i) (pos 0))) max_numerator) c.loop-i.invariant (sym (tested c.before) ∙ c.if-not-at_most.false)

@@ -1,12 +1,8 @@
 -- `each_in_range` meets its contract: word by word.
 use mathlib.Core.Path.{◌≡◌}
 use mathlib.Core.Bool.{true}
-use Prim.Native.Nat.{◌-◌, ◌≤◌}
 use Rattle.gather.specs.Words.{all_in_range}
 use Rattle.gather.proofs.each_in_range.Given as goal
 
 abbrev pub invariant-loop-i : goal.invariant-loop-i
-invariant-loop-i l = (l.i ≤ l.n) × (all_in_range l.s l.at l.i ≡ true)
-
-abbrev pub decreases-loop-i : goal.decreases-loop-i
-decreases-loop-i l = l.n - l.i
+invariant-loop-i l = all_in_range l.s l.at l.i ≡ true

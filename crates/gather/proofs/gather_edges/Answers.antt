@@ -12,38 +12,12 @@ use Rattle.gather.proofs.Edges.{edge-word, edge-fits}
 use Rattle.gather.proofs.Laws.{more}
 use Rattle.gather.proofs.gather_edges.Goals as goal
 
-pub loop-i-init : goal.loop-i-init
-loop-i-init c = omega arith
-
-pub overflow_add-x : goal.overflow_add-x
-overflow_add-x c = omega arith
-
-pub offset_bounds-s-at : goal.offset_bounds-s-at
-offset_bounds-s-at c = omega arith
-
-pub bounds-s-at : goal.bounds-s-at
-bounds-s-at c = omega arith
-
-pub overflow_add-i : goal.overflow_add-i
-overflow_add-i c = omega arith
-
-pub loop-i-smaller : goal.loop-i-smaller
-loop-i-smaller c = omega arith
-
 pub loop-i-preserved : goal.loop-i-preserved
 loop-i-preserved c =
     let s = c.args in
     let x = get_or s.s.now (s.at + c.loop-i.i) (pos 0) in
     let e = edge-word x c.x-1.given in
     let bits = c.loop-i.auto.g in
-    let g = or_lt 64 c.loop-i.g-bits _ bits.fits (subst (λ (m : ℕ). m < 2 ^ 64) (sym e) (edge-fits x c.x-1.given)) in (
-      omega arith,
-      of_z-to_z {w = w64} (record { fits = g })
-          ∙ more (λ (i : ℕ). edge (get_or s.s.now (s.at + i) (pos 0))) (sym (of_z-to_z {w = w64} bits) ∙ c.loop-i.invariant.1) e,
-    )
-
-pub returns : goal.returns
-returns c =
-    let s = c.args in
-    let e : c.loop-i.i ≡ s.n = omega arith in
-    c.loop-i.invariant.1 ∙ ap (edges s.s.now s.at) e
+    let g = or_lt 64 c.loop-i.g-bits _ bits.fits (subst (λ (m : ℕ). m < 2 ^ 64) (sym e) (edge-fits x c.x-1.given)) in
+    of_z-to_z {w = w64} (record { fits = g })
+    ∙ more (λ (i : ℕ). edge (get_or s.s.now (s.at + i) (pos 0))) (sym (of_z-to_z {w = w64} bits) ∙ c.loop-i.invariant) e

@@ -1,13 +1,9 @@
 -- `gather_edges` meets its contract: what is gathered so far is what is gathered from i words.
 use mathlib.Core.Path.{◌≡◌}
-use Prim.Native.Nat.{◌-◌, ◌≤◌}
 use mir.Syntax.{w64}
 use Rattle.gather.specs.Inner.Gathered.{edges}
 use mir.Val.{of_z}
 use Rattle.gather.proofs.gather_edges.Given as goal
 
 abbrev pub invariant-loop-i : goal.invariant-loop-i
-invariant-loop-i l = (l.i ≤ l.n) × (of_z w64 l.g ≡ edges l.s l.at l.i)
-
-abbrev pub decreases-loop-i : goal.decreases-loop-i
-decreases-loop-i l = l.n - l.i
+invariant-loop-i l = of_z w64 l.g ≡ edges l.s l.at l.i

@@ -15,33 +15,6 @@ use Rattle.gather.specs.Words.{same_at}
 use Rattle.gather.proofs.Laws.{all_more, xor_words}
 use Rattle.gather.proofs.same_words.Goals as goal
 
-pub loop-i-init : goal.loop-i-init
-loop-i-init c = (omega arith, refl)
-
-pub overflow_add-d : goal.overflow_add-d
-overflow_add-d c = omega arith
-
-pub offset_bounds-s-a : goal.offset_bounds-s-a
-offset_bounds-s-a c = omega arith
-
-pub bounds-s-a : goal.bounds-s-a
-bounds-s-a c = omega arith
-
-pub overflow_add-d-in-loop-i : goal.overflow_add-d-in-loop-i
-overflow_add-d-in-loop-i c = omega arith
-
-pub offset_bounds-t-b : goal.offset_bounds-t-b
-offset_bounds-t-b c = omega arith
-
-pub bounds-t-b : goal.bounds-t-b
-bounds-t-b c = omega arith
-
-pub overflow_add-i : goal.overflow_add-i
-overflow_add-i c = omega arith
-
-pub loop-i-smaller : goal.loop-i-smaller
-loop-i-smaller c = omega arith
-
 pub loop-i-preserved : goal.loop-i-preserved
 loop-i-preserved c =
     let s = c.args in
@@ -50,15 +23,13 @@ loop-i-preserved c =
     let p : SFits w64 x = record { sfits = c.d-1.given } in
     let q : SFits w64 y = record { sfits = c.d-in-loop-i-1.given } in
     let bits = c.loop-i.auto.d in
-    let g = or_lt 64 c.loop-i.d-bits _ bits.fits (xor_lt 64 (of_z w64 x) (of_z w64 y) (Fits-of_z p).fits (Fits-of_z q).fits) in (
-      omega arith,
-      ap (λ (m : ℕ). eqb m 0) (of_z-to_z {w = w64} (record { fits = g }))
-          ∙ or_zero c.loop-i.d-bits (bit_xor (of_z w64 x) (of_z w64 y))
-          ∙ all_more c.loop-i.i (same_at s.s.now s.a s.t.now s.b) (ap (λ (m : ℕ). eqb m 0) (sym (of_z-to_z {w = w64} bits)) ∙ c.loop-i.invariant.1) (xor_words x y p q),
-    )
+    let g = or_lt 64 c.loop-i.d-bits _ bits.fits (xor_lt 64 (of_z w64 x) (of_z w64 y) (Fits-of_z p).fits (Fits-of_z q).fits) in
+    ap (λ (m : ℕ). eqb m 0) (of_z-to_z {w = w64} (record { fits = g }))
+    ∙ or_zero c.loop-i.d-bits (bit_xor (of_z w64 x) (of_z w64 y))
+    ∙ all_more c.loop-i.i (same_at s.s.now s.a s.t.now s.b) (ap (λ (m : ℕ). eqb m 0) (sym (of_z-to_z {w = w64} bits)) ∙ c.loop-i.invariant) (xor_words x y p q)
 
 pub returns : goal.returns
 returns c =
     let s = c.args in
     let e : c.loop-i.i ≡ s.n = omega arith in
-    ap (λ (m : ℕ). eqb m 0) (sym (of_z-to_z {w = w64} c.loop-i.auto.d)) ∙ c.loop-i.invariant.1 ∙ ap (λ (k : ℕ). all_below k (same_at s.s.now s.a s.t.now s.b)) e
+    ap (λ (m : ℕ). eqb m 0) (sym (of_z-to_z {w = w64} c.loop-i.auto.d)) ∙ c.loop-i.invariant ∙ ap (λ (k : ℕ). all_below k (same_at s.s.now s.a s.t.now s.b)) e

@@ -1,6 +1,5 @@
 -- `same_words` meets its contract: what is gathered so far is 0 exactly if the first i words are the same.
 use mathlib.Core.Path.{◌≡◌}
-use Prim.Native.Nat.{◌-◌, ◌≤◌}
 use lib.Dec.{eqb}
 use mir.Syntax.{w64}
 use mir.Val.{of_z}
@@ -9,7 +8,4 @@ use Rattle.gather.specs.Words.{same_at}
 use Rattle.gather.proofs.same_words.Given as goal
 
 abbrev pub invariant-loop-i : goal.invariant-loop-i
-invariant-loop-i l = (l.i ≤ l.n) × (eqb (of_z w64 l.d) 0 ≡ all_below l.i (same_at l.s l.a l.t l.b))
-
-abbrev pub decreases-loop-i : goal.decreases-loop-i
-decreases-loop-i l = l.n - l.i
+invariant-loop-i l = eqb (of_z w64 l.d) 0 ≡ all_below l.i (same_at l.s l.a l.t l.b)

@@ -5,8 +5,7 @@ use Prim.Native.Nat.{ℕ, ◌+◌, ◌*◌, ◌-◌, ◌≤◌, ◌<◌}
 use native.Mathlib.Omega.{arith}
 use lib.ListN.{length}
 use Rattle.algebra.specs.Words.{blocks}
-use Rattle.channel.specs.Layout.{Form, entry_size, entry_words, from, row_start, block_size, numbers_at}
-use Rattle.recast.specs.Words.{form_of}
+use Rattle.channel.specs.Layout.{Form, entry_size, entry_words, from, row_start, block_size, numbers_at, form_of}
 use Rattle.recast.proofs.Rows.{row_room, rows_begin, rows_again, rows_done, rows_long}
 use Rattle.recast.proofs.copy_block.Lts as lts
 use Rattle.recast.proofs.copy_block.Reads as reads
@@ -66,9 +65,6 @@ module _ (c : After-first_column-skipped) where
 pub loop-r-init : goal.loop-r-init
 loop-r-init c = let s = c.args in rows_begin (form_of s.w s.to) (numbers_at (form_of s.w s.f) s.s.now s.at) s.res.now s.out
 
-pub row_start-start-requires : goal.row_start-start-requires
-row_start-start-requires c = (c.requires.0.width, omega arith)
-
 pub overflow_mul-start : goal.overflow_mul-start
 overflow_mul-start c = let q = room c.before in let e = same c.before in omega arith
 
@@ -77,12 +73,6 @@ overflow_add-out c = let q = room c.before in let e = same c.before in omega ari
 
 pub copy_row-requires : goal.copy_row-requires
 copy_row-requires c = ((start c.before).requires.0, (row c.before, (skips c.before, room c.before)))
-
-pub overflow_add-r : goal.overflow_add-r
-overflow_add-r c = let q = row c.before.before.before in omega arith
-
-pub loop-r-smaller : goal.loop-r-smaller
-loop-r-smaller c = let q = row c.before.before.before in omega arith
 
 pub loop-r-preserved : goal.loop-r-preserved
 loop-r-preserved c =

@@ -5,9 +5,8 @@ use Prim.Native.Nat.{◌+◌}
 use lib.Seq.{sets}
 use Rattle.algebra.proofs.Blocks.{append_block}
 use Rattle.algebra.proofs.Signed.{reads}
-use Rattle.channel.specs.Layout.{word, block_words, numbers_at}
+use Rattle.channel.specs.Layout.{word, block_words, numbers_at, form_of}
 use Rattle.channel.specs.Recast.{relink}
-use Rattle.recast.specs.Words.{form_of}
 use Rattle.recast.proofs.copy_record.Lts as lts
 use Rattle.recast.proofs.copy_record.Reads as reads
 use Rattle.recast.proofs.copy_record.Tie as tie

@@ -1,14 +1,13 @@
 -- `copy_records` meets its contract.
 use mathlib.Core.Path.{◌≡◌, sym, ap, ◌∙◌, subst}
-use Prim.Native.Nat.{ℕ, ◌+◌, ◌*◌, ◌-◌, ◌≤◌}
+use Prim.Native.Nat.{ℕ, ◌+◌, ◌*◌, ◌≤◌}
 use native.Mathlib.Nat.{le_of_eq}
 use native.Mathlib.Omega.{arith}
 use lib.ListN.{length}
 use lib.Seq.{sets}
 use Rattle.algebra.proofs.Blocks.{begin, again, done, long, block_in_lem}
-use Rattle.channel.specs.Layout.{Form, header_size, record_size, record_at, word}
+use Rattle.channel.specs.Layout.{Form, header_size, record_size, record_at, word, form_of}
 use Rattle.channel.specs.Recast.{recast_record}
-use Rattle.recast.specs.Words.{form_of}
 use Rattle.recast.specs.Inner.Records.{Readable, Linked}
 use Rattle.recast.proofs.Whole.{record_long}
 use Rattle.recast.proofs.copy_records.Lts as lts
@@ -58,26 +57,8 @@ module _ (c : In-loop-j) where
   room : header_size + j * c.record_size-there.result + record_size G ≤ length start.args.res.now
   room = subst (λ (a : ℕ). a + record_size G ≤ length start.args.res.now) (sym to) (within (record_size G) start.args.n (length start.args.res.now) (block_in_lem c.loop-j-test.true (record_size G)) start.requires.1)
 
-pub record_size-here-requires : goal.record_size-here-requires
-record_size-here-requires c = c.requires.0.width
-
-pub record_size-there-requires : goal.record_size-there-requires
-record_size-there-requires c = c.requires.0.width
-
 pub loop-j-init : goal.loop-j-init
 loop-j-init c = let s = c.args in begin (λ k. le_of_eq (record_long (form_of s.w s.f) (form_of s.w s.to) s.s.now (record_at (form_of s.w s.f) k)))
-
-pub overflow_mul-j : goal.overflow_mul-j
-overflow_mul-j c = let q = inside c in omega arith
-
-pub overflow_add-j : goal.overflow_add-j
-overflow_add-j c = let q = inside c in omega arith
-
-pub overflow_mul-j-in-loop-j : goal.overflow_mul-j-in-loop-j
-overflow_mul-j-in-loop-j c = let q = room c.before in omega arith
-
-pub overflow_add-j-in-loop-j : goal.overflow_add-j-in-loop-j
-overflow_add-j-in-loop-j c = let q = room c.before in omega arith
 
 pub copy_record-requires : goal.copy_record-requires
 copy_record-requires c =
@@ -88,12 +69,6 @@ copy_record-requires c =
         subst (λ (k : ℕ). header_size + j c.before * c.record_size-there.result + record_size (G c.before) ≤ k) (sym (long c.loop-j.invariant)) (room c.before),
       ),
     )
-
-pub overflow_add-j-in-loop-j-2 : goal.overflow_add-j-in-loop-j-2
-overflow_add-j-in-loop-j-2 c = omega arith
-
-pub loop-j-smaller : goal.loop-j-smaller
-loop-j-smaller c = omega arith
 
 pub loop-j-preserved : goal.loop-j-preserved
 loop-j-preserved c =

@@ -1,7 +1,7 @@
 -- `copy_row` meets its contract.
 use mathlib.Core.Path.{◌≡◌, sym, ap, ◌∙◌, subst}
 use mathlib.Core.List.{List}
-use Prim.Native.Nat.{ℕ, ◌+◌, ◌*◌, ◌-◌, ◌≤◌, ◌<◌}
+use Prim.Native.Nat.{ℕ, ◌+◌, ◌*◌, ◌-◌, ◌≤◌}
 use native.Mathlib.Nat.{le_of_eq}
 use native.Mathlib.Omega.{arith}
 use lib.ListN.{length}
@@ -32,9 +32,6 @@ module _ (c : In-loop-j) where
   abbrev size : ℕ
   size = c.entry_size-size.result
 
-  column : start.args.skipped + j < start.args.w
-  column = let t : j < start.args.w - start.args.skipped = c.loop-j-test.true in omega (arith, start.requires.1.1.0)
-
   room : start.args.out + j * size + entry_size start.args.plain ≤ length c.loop-j.res
   room = subst (λ (k : ℕ). start.args.out + j * k + entry_size start.args.plain ≤ length c.loop-j.res) (sym c.entry_size-size.ensures)
       (by (entry_size start.args.plain) (start.args.w - start.args.skipped) (block_in_lem c.loop-j-test.true (entry_size start.args.plain)) start.requires.1.1.1 (long c.loop-j.invariant))
@@ -42,32 +39,14 @@ module _ (c : In-loop-j) where
       by : (k n : ℕ) → j * k + k ≤ n * k → start.args.out + n * k ≤ length start.args.res.now → length c.loop-j.res ≡ length start.args.res.now → start.args.out + j * k + k ≤ length c.loop-j.res
       by k n p q e = omega arith
 
-pub overflow_sub-n : goal.overflow_sub-n
-overflow_sub-n c = omega (arith, c.requires.1.1.0)
-
 pub loop-j-init : goal.loop-j-init
 loop-j-init c = begin (λ k. le_of_eq (entry_long c.args.plain _))
-
-pub overflow_add-skipped : goal.overflow_add-skipped
-overflow_add-skipped c = let q = column c in omega arith
-
-pub read_number-x-requires : goal.read_number-x-requires
-read_number-x-requires c = let s = start c in (s.requires.0, (s.requires.1.0, column c))
 
 pub overflow_mul-j : goal.overflow_mul-j
 overflow_mul-j c = let q = room c.before.before in let e = long c.loop-j.invariant in omega arith
 
 pub overflow_add-out : goal.overflow_add-out
 overflow_add-out c = let q = room c.before.before in let e = long c.loop-j.invariant in omega arith
-
-pub write_number-requires : goal.write_number-requires
-write_number-requires c = room c.before.before
-
-pub overflow_add-j : goal.overflow_add-j
-overflow_add-j c = let q = column c.before.before.before.before in omega arith
-
-pub loop-j-smaller : goal.loop-j-smaller
-loop-j-smaller c = omega arith
 
 pub loop-j-preserved : goal.loop-j-preserved
 loop-j-preserved c =

@@ -1,9 +1,9 @@
 -- `place` meets its contract.
 use mathlib.Core.Path.{sym, subst}
-use Prim.Native.Nat.{ℕ, ◌+◌, ◌*◌, ◌-◌, ◌≤◌}
+use Prim.Native.Nat.{ℕ, ◌+◌, ◌-◌, ◌≤◌}
 use native.Mathlib.Nat.{mul-le-mul}
 use native.Mathlib.Omega.{arith}
-use Rattle.recast.proofs.Places.{rows_small, entry-most}
+use Rattle.channel.proofs.Places.{rows_small, entry-most}
 use Rattle.recast.proofs.place.Lts as lts
 use Rattle.recast.proofs.place.Reads as reads
 use Rattle.recast.proofs.place.Tie as tie
@@ -35,8 +35,3 @@ overflow_add-result c = let q = start_small c in omega (arith, c.requires.col, c
 
 pub overflow_mul-result : goal.overflow_mul-result
 overflow_mul-result c = let q = cells-small c in let p = size_small c in omega (arith, mul-le-mul q p)
-
-pub returns : goal.returns
-returns c =
-    let s = c.args in
-    λ i. (c.row_start-start.ensures i + (s.c - c.first_column-skipped.ensures i)) * c.entry_size-size.ensures i

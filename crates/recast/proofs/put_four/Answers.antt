@@ -1,18 +1,8 @@
 -- `put_four` meets its contract.
 use native.Mathlib.Numerals.{add-one, add-two, add-three}
-use native.Mathlib.Omega.{arith}
-use lib.ListN.{set, length-set}
+use lib.ListN.{set}
 use mir.Facts.{to_z-of_z}
 use Rattle.recast.proofs.put_four.Goals as goal
-
-pub bounds-res-at-2 : goal.bounds-res-at-2
-bounds-res-at-2 c = simp length-set (omega arith)
-
-pub bounds-res-at-3 : goal.bounds-res-at-3
-bounds-res-at-3 c = simp length-set (omega arith)
-
-pub bounds-res-at-4 : goal.bounds-res-at-4
-bounds-res-at-4 c = simp length-set (omega arith)
 
 pub returns : goal.returns
 returns c =

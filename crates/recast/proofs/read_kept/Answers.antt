@@ -1,25 +1,16 @@
 -- `read_kept` meets its contract.
-use mathlib.Core.Path.{sym, ap, ◌∙◌, subst}
+use mathlib.Core.Path.{sym, ap, ◌∙◌}
 use mathlib.Core.Bool.{Bool}
 use mathlib.Core.List.{[], ◌∷◌}
-use Prim.Native.Nat.{ℕ, ◌+◌, ◌≤◌}
+use Prim.Native.Nat.{ℕ, ◌+◌}
 use native.Mathlib.Nat.{add-zero}
 use native.Mathlib.Omega.{arith}
 use lib.IntN.{pos}
-use lib.ListN.{length}
 use Rattle.algebra.proofs.Signed.{reads}
 use Rattle.exact.specs.Exact.{list_of}
-use Rattle.channel.specs.Layout.{entry_size, entry_from, word}
-use Rattle.recast.proofs.Places.{entry-least}
-use Rattle.recast.proofs.read_kept.Lts as lts
-use Rattle.recast.proofs.read_kept.Reads as reads
+use Rattle.channel.specs.Layout.{entry_from, word}
+use Rattle.channel.proofs.Places.{entry-least}
 use Rattle.recast.proofs.read_kept.Goals as goal
-
-abbrev Else-plain : Type 0
-Else-plain = lts.Else1 reads.Pre reads.Post
-
-four : (c : Else-plain) → (c.args.p + 4 ≤ length c.args.s.now)
-four c = subst (λ (q : Bool). c.args.p + entry_size q ≤ length c.args.s.now) c.if-plain.false c.requires
 
 pub bounds-s-p : goal.bounds-s-p
 bounds-s-p c = omega (arith, entry-least c.args.plain, c.requires)
@@ -34,12 +25,6 @@ returns-then-plain c =
     let p0 = reads (word l p) c.a-1.given ∙ ap (word l) (sym (add-zero p)) in
     let p1 = reads (word l (p + 1)) c.b-1.given in
     (λ i. p0 i ∷ pos 0 ∷ p1 i ∷ pos 0 ∷ []) ∙ sym (ap (λ (q : Bool). list_of (entry_from q (λ (i : ℕ). word l (p + i)))) c.if-plain.true)
-
-pub bounds-s-p-3 : goal.bounds-s-p-3
-bounds-s-p-3 c = let q = four c in omega arith
-
-pub bounds-s-p-4 : goal.bounds-s-p-4
-bounds-s-p-4 c = let q = four c.before in omega arith
 
 pub returns : goal.returns
 returns c =

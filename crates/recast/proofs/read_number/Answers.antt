@@ -6,8 +6,7 @@ use lib.ListN.{length}
 use Rattle.algebra.specs.Quadratic.{conjugate}
 use Rattle.exact.specs.Exact.{Number, root2, number_of, list_of, max_numerator}
 use Rattle.exact.specs.Inner.Sizes.{Within}
-use Rattle.channel.specs.Layout.{record_head, entry_size, from, numbers_at}
-use Rattle.recast.specs.Words.{form_of}
+use Rattle.channel.specs.Layout.{record_head, entry_size, from, numbers_at, form_of}
 use Rattle.recast.specs.Inner.Records.{Kept}
 use Rattle.recast.proofs.Places.{kept-inside, lost, number-kept, number_lost, read_is, in_range_lem}
 use Rattle.recast.proofs.read_number.Lts as lts
@@ -67,9 +66,6 @@ direct c =
 room-2 : (c : After-place-p) → (let s = c.args in s.at + record_head + c.place-p.result + entry_size s.f.plain ≤ length s.s.now)
 room-2 c = inside _ _ _ _ _ (kept-inside (form_of c.args.w c.args.f) (direct c.before) _ c.place-p.ensures) c.requires.0.inside
 
-pub place-q-requires : goal.place-q-requires
-place-q-requires c = mirrored c
-
 pub overflow_add-at-then-c-first_column : goal.overflow_add-at-then-c-first_column
 overflow_add-at-then-c-first_column c = let q = room c in omega arith
 
@@ -84,9 +80,6 @@ returns-then-c-first_column c =
     let a = c.args in
     c.conj4.ensures ∙ ap (λ (z : Number). list_of (conjugate root2 z)) (value c.before ∙ number-kept (form_of a.w a.f) a.s.now a.at a.c a.r c.requires.1.0 (mirrored c.before.before.before).after)
     ∙ ap list_of (sym (number_lost (form_of a.w a.f) a.s.now a.at a.r a.c c.requires.1.1 (under c.before.before.before)))
-
-pub place-p-requires : goal.place-p-requires
-place-p-requires c = direct c
 
 pub overflow_add-at-3 : goal.overflow_add-at-3
 overflow_add-at-3 c = let q = room-2 c in omega arith

@@ -9,10 +9,9 @@ use mir.Syntax.{w64}
 use mir.Val.{SFits}
 use Rattle.algebra.proofs.Signed.{reads}
 use Rattle.store.proofs.Words.{read}
-use Rattle.channel.specs.Layout.{Form, record_at, word}
+use Rattle.channel.specs.Layout.{Form, record_at, word, form_of}
 use Rattle.channel.specs.Recast.{relink}
 use Rattle.channel.proofs.Chain.{long_in}
-use Rattle.recast.specs.Words.{form_of}
 use Rattle.recast.specs.Inner.Records.{Linked}
 use Rattle.recast.proofs.Ready.{first-linked, records-of}
 use Rattle.recast.proofs.Whole.{whole_is}
@@ -56,9 +55,6 @@ pub relinked-requires : goal.relinked-requires
 relinked-requires c =
     let f : SFits w64 (word c.args.s.now 3) = record { sfits = c.first-1.given } in
     read f (Linked (F c.before.before.before.before.before) (G c.before.before.before.before.before)) (first-linked (F c.before.before.before.before.before) (G c.before.before.before.before.before) c.args.s.now c.args.n c.args.res.now c.requires (big c.before.before.before.before.before))
-
-pub put_four-requires : goal.put_four-requires
-put_four-requires c = let q = room c.before.before.before.before.before.before in omega arith
 
 pub copy_records-requires : goal.copy_records-requires
 copy_records-requires c =

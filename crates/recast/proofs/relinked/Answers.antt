@@ -1,17 +1,15 @@
 -- `relinked` meets its contract.
 use mathlib.Core.Path.{sym, ap, ◌∙◌, subst}
 use Prim.Native.Nat.{ℕ, ◌+◌, ◌*◌, ◌-◌, ◌/◌, ◌^◌, ◌≤◌, ◌<◌}
-use native.Mathlib.Omega.{arith}
 use lib.Dec.{T}
 use lib.IntN.{ℤ, pos, nat_abs}
 use lib.Signed.{non_neg}
 use mir.Syntax.{w64}
 use mir.Val.{to_z, of_z}
 use mir.Facts.{to_z-of_z, to_z_pos}
-use Rattle.channel.specs.Layout.{header_size}
+use Rattle.channel.specs.Layout.{header_size, form_of}
 use Rattle.channel.specs.Recast.{relink}
 use Rattle.store.proofs.Words.{Casts, read, fits-abs}
-use Rattle.recast.specs.Words.{form_of}
 use Rattle.recast.proofs.Linking.{zero_word, link_start, relink-at}
 use Rattle.recast.proofs.relinked.Lts as lts
 use Rattle.recast.proofs.relinked.Reads as reads
@@ -39,15 +37,6 @@ overflow_cast-j c = let k = starts c.before in read c.ranges.z (Casts w64) (k.0,
 
 pub overflow_sub-j : goal.overflow_sub-j
 overflow_sub-j c = read c.ranges.z (λ (z : ℤ). header_size ≤ nat_abs z) (starts c.before).1
-
-pub overflow_mul-at : goal.overflow_mul-at
-overflow_mul-at c = let q = less c in omega arith
-
-pub overflow_add-at : goal.overflow_add-at
-overflow_add-at c = let q = less c in omega arith
-
-pub overflow_cast-result : goal.overflow_cast-result
-overflow_cast-result c = record { sfits = less c }
 
 pub returns : goal.returns
 returns c =

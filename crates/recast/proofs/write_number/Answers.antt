@@ -1,16 +1,15 @@
 -- `write_number` meets its contract.
-use mathlib.Core.Path.{sym, ap, ◌∙◌, subst}
+use mathlib.Core.Path.{sym, ap, ◌∙◌}
 use mathlib.Core.Bool.{Bool}
-use Prim.Native.Nat.{◌+◌, ◌≤◌}
 use native.Mathlib.Numerals.{add-one, add-two, add-three}
 use native.Mathlib.Omega.{arith}
 use lib.IntN.{pos}
-use lib.ListN.{length, get_or, set, length-set}
+use lib.ListN.{get_or, set, length-set}
 use lib.Seq.{sets}
 use Rattle.algebra.proofs.Signed.{reads}
 use Rattle.exact.specs.Exact.{number_of}
-use Rattle.channel.specs.Layout.{entry_size, entry_words}
-use Rattle.recast.proofs.Places.{entry-least}
+use Rattle.channel.specs.Layout.{entry_words}
+use Rattle.channel.proofs.Places.{entry-least}
 use Rattle.recast.proofs.write_number.Lts as lts
 use Rattle.recast.proofs.write_number.Reads as reads
 use Rattle.recast.proofs.write_number.Goals as goal
@@ -21,14 +20,8 @@ After-d-1 = lts.After-d reads.Pre reads.Post
 abbrev Start : Type 0
 Start = lts.Start reads.Pre reads.Post
 
-abbrev Else-plain : Type 0
-Else-plain = lts.Else1 reads.Pre reads.Post
-
 abbrev start : After-d-1 → Start
 start c = c.before.before.before.before
-
-four : (c : Else-plain) → (let s = start c.before in s.args.p + 4 ≤ length s.args.s.now)
-four c = let s = start c.before in subst (λ (q : Bool). s.args.p + entry_size q ≤ length s.args.s.now) c.if-plain.false s.requires
 
 pub bounds-s-p : goal.bounds-s-p
 bounds-s-p c = let s = start c.before in omega (arith, entry-least s.args.plain, s.requires)
@@ -42,18 +35,6 @@ returns-then-plain c =
     let p0 = reads (get_or s.x 0 (pos 0)) c.a-1.given in
     let p2 = reads (get_or s.x 2 (pos 0)) c.c-1.given in
     (λ i. set (set s.s.now s.p (p0 i)) (add-one s.p i) (p2 i)) ∙ sym (ap (λ (q : Bool). sets s.s.now s.p (entry_words q (number_of s.x))) c.if-plain.true)
-
-pub bounds-s-p-2 : goal.bounds-s-p-2
-bounds-s-p-2 c = let q = four c in omega arith
-
-pub bounds-s-p-3 : goal.bounds-s-p-3
-bounds-s-p-3 c = let q = four c in simp length-set (omega arith)
-
-pub bounds-s-p-4 : goal.bounds-s-p-4
-bounds-s-p-4 c = let q = four c in simp length-set (omega arith)
-
-pub bounds-s-p-5 : goal.bounds-s-p-5
-bounds-s-p-5 c = let q = four c in simp length-set (omega arith)
 
 pub returns : goal.returns
 returns c =

@@ -23,25 +23,7 @@ one_more l at k i f x j q h = go (dec_lt j i)
     go (no p) = let e : i ≡ j = omega arith in subst (λ (m : ℕ). SFits w64 (word l (at + m))) e x
 
 pub loop-i-init : goal.loop-i-init
-loop-i-init c = (le_refl c.args.k, (omega arith, (of_z-to_z {w = w64} (Fits-of_z {w = w64} {z = c.args.g} c.ranges.g) ∙ c.requires.1, λ j p h. absurd (omega arith))))
-
-pub overflow_add-end : goal.overflow_add-end
-overflow_add-end c = omega (arith, c.requires.0)
-
-pub overflow_add-h : goal.overflow_add-h
-overflow_add-h c = omega arith
-
-pub offset_bounds-s-at : goal.offset_bounds-s-at
-offset_bounds-s-at c = omega arith
-
-pub bounds-s-at : goal.bounds-s-at
-bounds-s-at c = omega arith
-
-pub overflow_add-i : goal.overflow_add-i
-overflow_add-i c = omega arith
-
-pub loop-i-smaller : goal.loop-i-smaller
-loop-i-smaller c = omega arith
+loop-i-init c = (of_z-to_z {w = w64} (Fits-of_z {w = w64} {z = c.args.g} c.ranges.g) ∙ c.requires.1, λ j p h. absurd (omega arith))
 
 pub loop-i-preserved : goal.loop-i-preserved
 loop-i-preserved c =
@@ -49,23 +31,10 @@ loop-i-preserved c =
     let x = word s.s.now (s.at + c.loop-i.i) in
     let p : SFits w64 x = record { sfits = c.h-1.given } in
     let bits = c.loop-i.auto.h in
-    let v = c.loop-i.invariant.1.1 in
+    let v = c.loop-i.invariant in
     let fits = or_lt 64 c.loop-i.h-bits (of_z w64 x) bits.fits (Fits-of_z {w = w64} {z = x} p).fits in (
-      omega (arith, c.loop-i.invariant.0),
-      (
-        omega arith,
-        (
-          of_z-to_z {w = w64} (record { fits = fits })
-              ∙ ap (λ (k : ℕ). bit_or k (of_z w64 x)) (sym (of_z-to_z {w = w64} bits) ∙ v.0)
-              ∙ ap (or_words s.s.now s.at) (sym (add-one c.loop-i.i)),
-          one_more s.s.now s.at s.k c.loop-i.i v.1 p,
-        ),
-      ),
+      of_z-to_z {w = w64} (record { fits = fits })
+          ∙ ap (λ (k : ℕ). bit_or k (of_z w64 x)) (sym (of_z-to_z {w = w64} bits) ∙ v.0)
+          ∙ ap (or_words s.s.now s.at) (sym (add-one c.loop-i.i)),
+      one_more s.s.now s.at s.k c.loop-i.i v.1 p,
     )
-
-pub returns : goal.returns
-returns c =
-    let s = c.args in
-    let v = c.loop-i.invariant.1 in
-    let e : c.loop-i.i ≡ s.k + s.n = omega (arith, v.0) in
-    record { bits = v.1.0 ∙ ap (or_words s.s.now s.at) e; fit = λ j p h. v.1.1 j p (omega arith) }

@@ -13,29 +13,11 @@ use Rattle.share.proofs.shift_words.Goals as goal
 pub loop-i-init : goal.loop-i-init
 loop-i-init c = begin (λ k. le_refl 1)
 
-pub overflow_add-x : goal.overflow_add-x
-overflow_add-x c = omega arith
-
-pub offset_bounds-s-at : goal.offset_bounds-s-at
-offset_bounds-s-at c = omega arith
-
 pub slice_copy_out-x : goal.slice_copy_out-x
 slice_copy_out-x c = omega (arith, long c.loop-i.invariant)
 
-pub overflow_add-at : goal.overflow_add-at
-overflow_add-at c = omega arith
-
-pub offset_bounds-s-at-in-loop-i : goal.offset_bounds-s-at-in-loop-i
-offset_bounds-s-at-in-loop-i c = omega arith
-
 pub bounds-s-at : goal.bounds-s-at
 bounds-s-at c = omega (arith, long c.loop-i.invariant)
-
-pub overflow_add-i : goal.overflow_add-i
-overflow_add-i c = omega arith
-
-pub loop-i-smaller : goal.loop-i-smaller
-loop-i-smaller c = omega arith
 
 pub loop-i-preserved : goal.loop-i-preserved
 loop-i-preserved c =

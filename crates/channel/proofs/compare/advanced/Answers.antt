@@ -1,10 +1,8 @@
 -- `compare::advanced` meets its contract.
-use mathlib.Core.Path.{sym, ap, ◌∙◌, subst}
-use mathlib.Core.Bool.{Bool}
+use mathlib.Core.Path.{sym, subst}
 use Prim.Native.Nat.{◌-◌, ◌<◌}
 use native.Mathlib.Omega.{arith}
 use Rattle.channel.specs.Inner.Shapes.{Onward}
-use Rattle.channel.specs.Inner.Walk.{cursor_at, advance}
 use Rattle.channel.proofs.Chain.{on-inside, on-index, on-next}
 use Rattle.channel.proofs.compare.advanced.Lts as lts
 use Rattle.channel.proofs.compare.advanced.Reads as reads
@@ -17,20 +15,9 @@ Else-not-b = lts.Else1 tie.the-claims reads.Pre reads.Post
 some : (c : Else-not-b) → 0 < c.args.c.left
 some c = c.requires.1 (c.if-not-b.false)
 
-pub returns-then-not-b : goal.returns-then-not-b
-returns-then-not-b c = let s = c.args in ap (λ (b : Bool). advance b s.s.now s.c) (sym (c.if-not-b.true))
-
-pub overflow_sub-n : goal.overflow_sub-n
-overflow_sub-n c = some c.before
-
 pub follow-next-requires : goal.follow-next-requires
 follow-next-requires c = let q = on-inside c.requires.0.walk (some c.before) in (omega arith, on-index c.requires.0.walk (some c.before))
 
 pub enter-requires : goal.enter-requires
 enter-requires c =
     subst (Onward c.args.s.now (c.args.c.left - 1)) (sym c.follow-next.ensures) (on-next c.requires.0.walk (some c.before.before))
-
-pub returns : goal.returns
-returns c =
-    let s = c.args in
-    c.enter.ensures ∙ ap (cursor_at s.s.now (s.c.left - 1)) c.follow-next.ensures ∙ ap (λ (b : Bool). advance b s.s.now s.c) (sym (c.if-not-b.false))

@@ -8,7 +8,8 @@ use Rattle.channel.specs.declared.compare.Turn.{Turn}
 use Rattle.channel.specs.Layout.{word, count_at}
 use Rattle.channel.specs.WellFormed.{well_formed}
 use Rattle.channel.specs.Inner.Shapes.{Onward}
-use Rattle.channel.specs.Compare.{is_same, scan}
+use Rattle.std.specs.Prelude.{Option, is_some}
+use Rattle.channel.specs.Compare.{scan}
 use Rattle.channel.specs.Inner.Walk.{both_at, turn_of, cursor_at, advance}
 use Rattle.channel.proofs.Judging.{formed}
 use Rattle.channel.proofs.Chain.{onward_begin, first-index, header_long}
@@ -31,8 +32,8 @@ Start = lts.Start tie.the-claims reads.Pre reads.Post goal.the-invariant-loop-a 
 abbrev After-compare_block-d : Type 0
 After-compare_block-d = lts.After-compare_block tie.the-claims reads.Pre reads.Post goal.the-invariant-loop-a goal.the-decreases-loop-a
 
-abbrev After-is_same : Type 0
-After-is_same = lts.After-is_same tie.the-claims reads.Pre reads.Post goal.the-invariant-loop-a goal.the-decreases-loop-a
+abbrev After-is_some : Type 0
+After-is_some = lts.After-is_some tie.the-claims reads.Pre reads.Post goal.the-invariant-loop-a goal.the-decreases-loop-a
 
 abbrev After-advanced-a : Type 0
 After-advanced-a = lts.After-advanced tie.the-claims reads.Pre reads.Post goal.the-invariant-loop-a goal.the-decreases-loop-a
@@ -62,23 +63,23 @@ answer c =
     let s = (start c.before.before).args in
     c.compare_block-d.ensures ∙ ap (λ (u : Turn). scan (both_at u s.left.now (now c.before.before).loop-a.a.at s.right.now (now c.before.before).loop-a.b.at) s.w (s.w * s.w) 0) c.choose-t.ensures
 
-tested : (c : After-is_same) →
-    (let s = (start c.before.before.before).args in
-    let a = (now c.before.before.before).loop-a.a in
-    let b = (now c.before.before.before).loop-a.b in
-    c.is_same.result ≡ is_same (scan (both_at (turn_of a b) s.left.now a.at s.right.now b.at) s.w (s.w * s.w) 0).found)
-tested c = c.is_same.ensures ∙ ap (λ (d : Difference). is_same d.found) (answer c.before)
+tested : (c : After-is_some) →
+    (let s = (start c.before.before.before.before).args in
+    let a = (now c.before.before.before.before).loop-a.a in
+    let b = (now c.before.before.before.before).loop-a.b in
+    c.is_some.result ≡ is_some (scan (both_at (turn_of a b) s.left.now a.at s.right.now b.at) s.w (s.w * s.w) 0))
+tested c = c.is_some.ensures ∙ ap (λ (d : Option Difference). is_some d) (answer c.before.before)
 
 -- both cursors move on
 moved-left : (c : After-advanced-a) →
-    (c.advanced-a.result ≡ advance (turn_of (now c.before.before.before.before.before).loop-a.a (now c.before.before.before.before.before).loop-a.b).left (start c.before.before.before.before.before).args.left.now (now c.before.before.before.before.before).loop-a.a)
+    (c.advanced-a.result ≡ advance (turn_of (now c.before.before.before.before.before.before).loop-a.a (now c.before.before.before.before.before.before).loop-a.b).left (start c.before.before.before.before.before.before).args.left.now (now c.before.before.before.before.before.before).loop-a.a)
 moved-left c =
-    c.advanced-a.ensures ∙ ap (λ (u : Turn). advance u.left (start c.before.before.before.before.before).args.left.now (now c.before.before.before.before.before).loop-a.a) c.choose-t.ensures
+    c.advanced-a.ensures ∙ ap (λ (u : Turn). advance u.left (start c.before.before.before.before.before.before).args.left.now (now c.before.before.before.before.before.before).loop-a.a) c.choose-t.ensures
 
 moved-right : (c : After-advanced-b) →
-    (c.advanced-b.result ≡ advance (turn_of (now c.before.before.before.before.before.before).loop-a.a (now c.before.before.before.before.before.before).loop-a.b).right (start c.before.before.before.before.before.before).args.right.now (now c.before.before.before.before.before.before).loop-a.b)
+    (c.advanced-b.result ≡ advance (turn_of (now c.before.before.before.before.before.before.before).loop-a.a (now c.before.before.before.before.before.before.before).loop-a.b).right (start c.before.before.before.before.before.before.before).args.right.now (now c.before.before.before.before.before.before.before).loop-a.b)
 moved-right c =
-    c.advanced-b.ensures ∙ ap (λ (u : Turn). advance u.right (start c.before.before.before.before.before.before).args.right.now (now c.before.before.before.before.before.before).loop-a.b) c.choose-t.ensures
+    c.advanced-b.ensures ∙ ap (λ (u : Turn). advance u.right (start c.before.before.before.before.before.before.before).args.right.now (now c.before.before.before.before.before.before.before).loop-a.b) c.choose-t.ensures
 
 pub follow-requires : goal.follow-requires
 follow-requires c = (header_long _ c.requires.left, first-index _ c.requires.left)
@@ -98,9 +99,6 @@ loop-a-init c =
     (c.enter-a.ensures ∙ (λ i. cursor_at c.args.left.now (c.requires.left_count i) (c.follow.ensures i)))
     (c.enter-b.ensures ∙ (λ i. cursor_at c.args.right.now (c.requires.right_count i) (c.follow-2.ensures i)))
 
-pub choose-t-requires : goal.choose-t-requires
-choose-t-requires c = tt
-
 pub compare_block-d-requires : goal.compare_block-d-requires
 compare_block-d-requires c =
     let t = c.before in
@@ -113,33 +111,27 @@ compare_block-d-requires c =
       },
     )
 
-pub is_same-requires : goal.is_same-requires
-is_same-requires c = tt
-
-pub returns-then-not-is_same : goal.returns-then-not-is_same
-returns-then-not-is_same c =
-    answer c.before.before ∙ walking_stop (walk c.before.before.before.before) c.loop-a-test.true (sym (tested c.before) ∙ c.if-not-is_same.true)
+pub returns-then-is_some : goal.returns-then-is_some
+returns-then-is_some c =
+    answer c.before.before.before ∙ walking_stop (walk c.before.before.before.before.before) c.loop-a-test.true (sym (tested c.before) ∙ c.if-is_some.true)
 
 pub advanced-a-requires : goal.advanced-a-requires
 advanced-a-requires c =
-    let t = c.before.before.before.before in
+    let t = c.before.before.before.before.before in
     ((walk t).left, λ e. left-some (walk t) t.loop-a-test.true (sym (ap (λ (t : Turn). t.left) c.choose-t.ensures) ∙ e))
 
 pub advanced-b-requires : goal.advanced-b-requires
 advanced-b-requires c =
-    let t = c.before.before.before.before.before in
+    let t = c.before.before.before.before.before.before in
     ((walk t).right, λ e. right-some (walk t) t.loop-a-test.true (sym (ap (λ (t : Turn). t.right) c.choose-t.ensures) ∙ e))
 
 pub loop-a-smaller : goal.loop-a-smaller
 loop-a-smaller c =
-    walking_less (walk c.before.before.before.before.before.before) c.loop-a-test.true (moved-left c.before) (moved-right c)
+    walking_less (walk c.before.before.before.before.before.before.before) c.loop-a-test.true (moved-left c.before) (moved-right c)
 
 pub loop-a-preserved : goal.loop-a-preserved
 loop-a-preserved c =
-    walking_on (walk c.before.before.before.before.before.before) c.loop-a-test.true (sym (tested c.before.before.before) ∙ c.if-not-is_same.false) (moved-left c.before) (moved-right c)
-
-pub without_entry-requires : goal.without_entry-requires
-without_entry-requires c = tt
+    walking_on (walk c.before.before.before.before.before.before.before) c.loop-a-test.true (sym (tested c.before.before.before) ∙ c.if-is_some.false) (moved-left c.before) (moved-right c)
 
 pub returns : goal.returns
-returns c = c.without_entry.ensures ∙ walking_done c.loop-a.invariant c.loop-a-test.false
+returns c = walking_done c.loop-a.invariant c.loop-a-test.false

@@ -4,7 +4,6 @@ use Prim.Native.Nat.{◌+◌, ◌*◌, ◌≤◌}
 use native.Mathlib.Nat.{add_assoc}
 use native.Mathlib.Omega.{arith}
 use lib.Dec.{lit<}
-use lib.ListN.{length}
 use mir.Syntax.{w64}
 use mir.Val.{to_z, of_z}
 use lib.IntN.{ℤ, nat_abs}
@@ -24,65 +23,11 @@ Start = lts.Start tie.the-claims reads.Pre reads.Post
 abbrev After-x-1 : Type 0
 After-x-1 = lts.After-x tie.the-claims reads.Pre reads.Post
 
-room : (c : Start) → c.args.at + record_head + c.args.k * 4 + 4 ≤ length c.args.s.now
-room c = omega (arith, c.requires.inside)
-
 abbrev start : After-x-1 → Start
 start c = c.before.before.before.before.before
 
 exponent : (c : After-x-1) → to_z w64 (of_z w64 (word (start c).args.s.now ((start c).args.at + exponent_place))) ≡ word (start c).args.s.now ((start c).args.at + exponent_place)
 exponent c = reads (word (start c).args.s.now ((start c).args.at + exponent_place)) c.x-1.given
-
-pub overflow_add-p : goal.overflow_add-p
-overflow_add-p c = let q = room c in omega arith
-
-pub overflow_mul-p : goal.overflow_mul-p
-overflow_mul-p c = let q = room c in omega arith
-
-pub overflow_add-p-2 : goal.overflow_add-p-2
-overflow_add-p-2 c = let q = room c in omega arith
-
-pub offset_bounds-s-p : goal.offset_bounds-s-p
-offset_bounds-s-p c = let q = room c in omega arith
-
-pub bounds-s-p : goal.bounds-s-p
-bounds-s-p c = let q = room c in omega arith
-
-pub overflow_add-n1 : goal.overflow_add-n1
-overflow_add-n1 c = let q = room c.before in omega arith
-
-pub offset_bounds-s-p-2 : goal.offset_bounds-s-p-2
-offset_bounds-s-p-2 c = let q = room c.before in omega arith
-
-pub bounds-s-p-2 : goal.bounds-s-p-2
-bounds-s-p-2 c = let q = room c.before in omega arith
-
-pub overflow_add-n2 : goal.overflow_add-n2
-overflow_add-n2 c = let q = room c.before.before in omega arith
-
-pub offset_bounds-s-p-3 : goal.offset_bounds-s-p-3
-offset_bounds-s-p-3 c = let q = room c.before.before in omega arith
-
-pub bounds-s-p-3 : goal.bounds-s-p-3
-bounds-s-p-3 c = let q = room c.before.before in omega arith
-
-pub overflow_add-n3 : goal.overflow_add-n3
-overflow_add-n3 c = let q = room c.before.before.before in omega arith
-
-pub offset_bounds-s-p-4 : goal.offset_bounds-s-p-4
-offset_bounds-s-p-4 c = let q = room c.before.before.before in omega arith
-
-pub bounds-s-p-4 : goal.bounds-s-p-4
-bounds-s-p-4 c = let q = room c.before.before.before in omega arith
-
-pub overflow_add-x : goal.overflow_add-x
-overflow_add-x c = let q = room c.before.before.before.before in omega arith
-
-pub offset_bounds-s-at : goal.offset_bounds-s-at
-offset_bounds-s-at c = let q = room c.before.before.before.before in omega arith
-
-pub bounds-s-at : goal.bounds-s-at
-bounds-s-at c = let q = room c.before.before.before.before in omega arith
 
 pub overflow_cast-e : goal.overflow_cast-e
 overflow_cast-e c = rw (exponent c) (cast_ok max_exponent (word (start c).args.s.now ((start c).args.at + exponent_place)) (start c).requires.exponent (record { fits = lit< tt }))

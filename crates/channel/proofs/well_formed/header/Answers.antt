@@ -1,4 +1,5 @@
 -- `well_formed::header` meets its contract.
+use Rattle.std.specs.Prelude.{Ok, Err}
 use mathlib.Core.Path.{◌≡◌, sym, ap, ◌∙◌}
 use mathlib.Core.Bool.{Bool, true, false, ◌&&◌}
 use mathlib.Core.List.{List}
@@ -12,15 +13,15 @@ use mir.Val.{SFits, to_z, of_z}
 use mir.Facts.{to_z-of_z}
 use borrow.Author.Tests.{le-leb, lt-leb}
 use Rattle.algebra.specs.Words.{up_to}
-use Rattle.verdict.specs.declared.Verdict.TheVariants.{Accepted, Malformed}
+use Rattle.verdict.specs.declared.Refusal.TheVariants.{Malformed}
 use Rattle.algebra.proofs.Tests.{and_split}
 use Rattle.algebra.proofs.Signed.{cast_ok}
-use Rattle.channel.specs.declared.Shape.{Shape}
-use Rattle.channel.specs.Layout.{full, channels, header_size, word, record_size, dim_at}
+use Rattle.channel.specs.Layout.{header_size, word, record_size, form_of, form_in}
 use Rattle.channel.specs.WellFormed.{is_dim, counted, header_ok, verdict_by}
-use Rattle.channel.specs.Inner.Shapes.{shape_by, no_shape}
+use Rattle.channel.specs.Inner.Shapes.{shape_by, header_of}
 use Rattle.store.proofs.Words.{Casts, read, casts_up, up-abs}
 use Rattle.channel.proofs.Words.{dim_range, square_small}
+use Rattle.channel.specs.declared.forms.Parts.{Parts}
 use Rattle.channel.proofs.well_formed.header.Lts as lts
 use Rattle.channel.proofs.well_formed.header.Reads as reads
 use Rattle.channel.proofs.well_formed.header.Tie as tie
@@ -40,6 +41,9 @@ After-up_to-2 = lts.After-up_to2 tie.the-claims reads.Pre reads.Post
 
 abbrev words : After-count-1 → List ℤ
 words c = c.args.s.now
+
+abbrev parts : After-count-1 → Parts
+parts c = c.args.f
 
 module _ (c : After-count-1) where
   dim : SFits w64 (word (words c) 0)
@@ -72,26 +76,22 @@ module _ (c : Else-not-is_dim-up_to) where
   small = read (dim a) (λ (z : ℤ). nat_abs z ≤ 16) (up-abs 16 (word (words a) 0) range.0)
 
 -- room for the records
-counts : (c : After-up_to-2) → c.up_to-2.result ≡ counted (channels (dim_at (words (a c.before.before)))) (words (a c.before.before))
+counts : (c : After-up_to-2) → c.up_to-2.result ≡ counted (form_in (parts (a c.before.before)) (words (a c.before.before))) (words (a c.before.before))
 counts c =
     let l = words (a c.before.before) in
     c.up_to-2.ensures
-    ∙ (λ i. up_to ((length l - header_size) / c.record_size-size.ensures i) (to_z-of_z (count (a c.before.before)) i))
-    ∙ ap (λ (z : ℤ). up_to ((length l - header_size) / record_size (full (nat_abs z * nat_abs z))) (word l 2)) (to_z-of_z (dim (a c.before.before)))
+    ∙ (λ i. up_to ((length l - header_size) / c.record_size.ensures i) (to_z-of_z (count (a c.before.before)) i))
+    ∙ ap (λ (z : ℤ). up_to ((length l - header_size) / record_size (form_of (nat_abs z * nat_abs z) (parts (a c.before.before)))) (word l 2)) (to_z-of_z (dim (a c.before.before)))
 
 -- the header by its three tests
-refused : (l : List ℤ) (s : Shape) → s ≡ no_shape Malformed → header_ok (channels (dim_at l)) l ≡ false → s ≡ shape_by (verdict_by (header_ok (channels (dim_at l)) l) false) l
-refused l s e f = e ∙ ap (λ (b : Bool). shape_by (verdict_by b false) l) (sym f)
+refused : (f : Parts) (l : List ℤ) → header_ok (form_in f l) l ≡ false → Err Malformed ≡ header_of f l
+refused f l e = ap (λ (b : Bool). shape_by (verdict_by b false) l) (sym e)
 
 pub returns-then-s-lt-HEADER : goal.returns-then-s-lt-HEADER
 returns-then-s-lt-HEADER c =
     let l = c.args.s.now in
-    refused l _ c.no_shape.ensures (ap (λ (b : Bool). b && ((is_dim (word l 0) && up_to 64 (word l 1)) && counted (channels (dim_at l)) l)) (lt-leb header_size (length l) c.if-s-lt-HEADER.true))
-
-pub returns-then-not-is_dim-up_to : goal.returns-then-not-is_dim-up_to
-returns-then-not-is_dim-up_to c =
-    let l = words c.before.before.before.before in
-    refused l _ c.no_shape-then-not-is_dim-up_to.ensures (λ i. long c.before.before.before.before i && ((sym (both c.before.before) ∙ c.if-not-is_dim-up_to.true) i && counted (channels (dim_at l)) l))
+    let p = c.args.f in
+    refused p l (ap (λ (b : Bool). b && ((is_dim (word l 0) && up_to 64 (word l 1)) && counted (form_in p l) l)) (lt-leb header_size (length l) c.if-s-lt-HEADER.true))
 
 pub overflow_cast-d : goal.overflow_cast-d
 overflow_cast-d c = read (dim (a c)) (Casts w64) (cast_ok 16 (word (words (a c)) 0) (range c).0 (record { fits = lit< tt }))
@@ -99,29 +99,27 @@ overflow_cast-d c = read (dim (a c)) (Casts w64) (cast_ok 16 (word (words (a c))
 pub overflow_mul-d : goal.overflow_mul-d
 overflow_mul-d c = omega (arith, square_small _ (small c))
 
-pub record_size-size-requires : goal.record_size-size-requires
-record_size-size-requires c = square_small _ (small c)
+pub record_size-requires : goal.record_size-requires
+record_size-requires c = square_small _ (small c)
 
-pub returns-then-not-up_to : goal.returns-then-not-up_to
-returns-then-not-up_to c =
-    let l = words (a c.before.before.before.before) in
-    refused l _ c.no_shape-then-not-up_to.ensures (λ i. long (a c.before.before.before.before) i && (right c.before.before.before.before i && (sym (counts c.before.before) ∙ c.if-not-up_to.true) i))
+pub overflow_cast-result : goal.overflow_cast-result
+overflow_cast-result c =
+    let q = c.before.before.before in
+    let l = words (a q) in
+    read (bits (a q)) (Casts w32) (cast_ok 64 (word l 1) (and_split (is_dim (word l 0)) (up_to 64 (word l 1)) (right q)).1 (record { fits = lit< tt }))
 
-pub overflow_cast-m : goal.overflow_cast-m
-overflow_cast-m c =
-    let l = words (a c.before.before.before) in
-    read (bits (a c.before.before.before)) (Casts w32) (cast_ok 64 (word l 1) (and_split (is_dim (word l 0)) (up_to 64 (word l 1)) (right c.before.before.before)).1 (record { fits = lit< tt }))
-
-pub overflow_cast-n : goal.overflow_cast-n
-overflow_cast-n c =
-    let l = words (a c.before.before.before) in
-    read (count (a c.before.before.before)) (Casts w64) (casts_up ((length l - header_size) / record_size (channels (dim_at l))) (word l 2) (count (a c.before.before.before)) (sym (counts c.before) ∙ c.if-not-up_to.false))
+pub overflow_cast-result-2 : goal.overflow_cast-result-2
+overflow_cast-result-2 c =
+    let q = c.before.before.before in
+    let l = words (a q) in
+    read (count (a q)) (Casts w64) (casts_up ((length l - header_size) / record_size (form_in (parts (a q)) l)) (word l 2) (count (a q)) (sym (counts c.before) ∙ c.if-not-up_to.false))
 
 pub returns : goal.returns
 returns c =
-    let l = words (a c.before.before.before) in
-    let d = to_z-of_z (dim (a c.before.before.before)) in
-    let b = to_z-of_z (bits (a c.before.before.before)) in
-    let n = to_z-of_z (count (a c.before.before.before)) in
-    let ok : header_ok (channels (dim_at l)) l ≡ true = λ i. long (a c.before.before.before) i && (right c.before.before.before i && (sym (counts c.before) ∙ c.if-not-up_to.false) i) in
-    (λ i. record { verdict = Accepted; dim = nat_abs (d i); bits = nat_abs (b i); count = nat_abs (n i) }) ∙ ap (λ (b : Bool). shape_by (verdict_by b false) l) (sym ok)
+    let q = c.before.before.before in
+    let l = words (a q) in
+    let d = to_z-of_z (dim (a q)) in
+    let b = to_z-of_z (bits (a q)) in
+    let n = to_z-of_z (count (a q)) in
+    let ok : header_ok (form_in (parts (a q)) l) l ≡ true = λ i. long (a q) i && (right q i && (sym (counts c.before) ∙ c.if-not-up_to.false) i) in
+    (λ i. Ok (record { dim = nat_abs (d i); bits = nat_abs (b i); count = nat_abs (n i) })) ∙ ap (λ (b : Bool). shape_by (verdict_by b false) l) (sym ok)

@@ -1,4 +1,4 @@
--- `is_start` meets its contract.
+-- `forms::is_start` meets its contract.
 use mathlib.Core.Path.{◌≡◌, refl, ap, ◌∙◌}
 use mathlib.Core.Bool.{true, false, ◌&&◌}
 use Prim.Native.Nat.{ℕ, ◌-◌, ◌/◌, ◌%◌, ◌≤◌}
@@ -6,14 +6,13 @@ use lib.Dec.{eqb, ltb}
 use lib.IntN.{ℤ, pos, nat_abs}
 use lib.Signed.{lt_z}
 use mir.Syntax.{w64}
-use Rattle.channel.specs.Layout.{header_size}
+use Rattle.channel.specs.Layout.{header_size, form_of}
 use Rattle.store.proofs.Words.{Casts, read, unread, casts, natural}
 use Rattle.channel.proofs.Words.{low-start, high_start}
-use Rattle.recast.specs.Words.{form_of}
-use Rattle.form_judge.proofs.is_start.Lts as lts
-use Rattle.form_judge.proofs.is_start.Reads as reads
-use Rattle.form_judge.proofs.is_start.Tie as tie
-use Rattle.form_judge.proofs.is_start.Goals as goal
+use Rattle.channel.proofs.forms.is_start.Lts as lts
+use Rattle.channel.proofs.forms.is_start.Reads as reads
+use Rattle.channel.proofs.forms.is_start.Tie as tie
+use Rattle.channel.proofs.forms.is_start.Goals as goal
 
 abbrev Else-z : Type 0
 Else-z = lts.Else1 tie.the-claims reads.Pre reads.Post

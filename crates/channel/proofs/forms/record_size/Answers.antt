@@ -1,9 +1,9 @@
--- `record_size` meets its contract.
+-- `forms::record_size` meets its contract.
 use mathlib.Core.Path.{sym, subst}
 use Prim.Native.Nat.{ℕ, ◌≤◌}
 use native.Mathlib.Omega.{arith}
-use Rattle.recast.proofs.Places.{words_small}
-use Rattle.recast.proofs.record_size.Goals as goal
+use Rattle.channel.proofs.Places.{words_small}
+use Rattle.channel.proofs.forms.record_size.Goals as goal
 
 pub overflow_add-result : goal.overflow_add-result
 overflow_add-result c =

@@ -1,12 +1,12 @@
--- `block_size` meets its contract.
+-- `forms::block_size` meets its contract.
 use mathlib.Core.Path.{sym, subst}
 use Prim.Native.Nat.{ℕ, ◌*◌, ◌≤◌}
 use native.Mathlib.Omega.{arith}
-use Rattle.recast.proofs.Places.{words_small}
-use Rattle.recast.proofs.block_size.Lts as lts
-use Rattle.recast.proofs.block_size.Reads as reads
-use Rattle.recast.proofs.block_size.Tie as tie
-use Rattle.recast.proofs.block_size.Goals as goal
+use Rattle.channel.proofs.Places.{words_small}
+use Rattle.channel.proofs.forms.block_size.Lts as lts
+use Rattle.channel.proofs.forms.block_size.Reads as reads
+use Rattle.channel.proofs.forms.block_size.Tie as tie
+use Rattle.channel.proofs.forms.block_size.Goals as goal
 
 abbrev After-entry_size : Type 0
 After-entry_size = lts.After-entry_size tie.the-claims reads.Pre reads.Post
@@ -16,6 +16,3 @@ small c = subst (λ (k : ℕ). k ≤ 262144) (sym (λ i. c.row_start.ensures i *
 
 pub overflow_mul-result : goal.overflow_mul-result
 overflow_mul-result c = let q = small c in omega arith
-
-pub returns : goal.returns
-returns c = λ i. c.row_start.ensures i * c.entry_size.ensures i
