@@ -2,7 +2,7 @@
 use mathlib.Core.Path.{◌≡◌, refl, sym, ap, ◌∙◌, subst, subst₂}
 use mathlib.Core.Bool.{Bool, true, false, cond}
 use mathlib.Core.List.{List, [], ◌∷◌}
-use Prim.Native.Nat.{ℕ, ◌+◌, ◌*◌, ◌^◌, ◌≤◌}
+use Prim.Native.Nat.{ℕ, ◌+◌, ◌*◌, ◌-◌, ◌%◌, ◌^◌, ◌≤◌}
 use native.Mathlib.Nat.{one-mul}
 use native.Mathlib.Omega.{arith}
 use lib.Pow.{pow_mono}
@@ -19,7 +19,8 @@ use Rattle.gate.specs.Inner.Entries.{flips, row_entry, Ready}
 use Rattle.kraus.proofs.Counting.{operators-length}
 use Rattle.branches.specs.Inner.Store.{outcome_bit}
 use Rattle.branches.specs.Inner.Bank.{branch_size}
-use Rattle.branches.specs.Inner.Step.{Step, step_words}
+use Rattle.branches.specs.Inner.Step.{Step, operator_number, step_words}
+use Rattle.branches.proofs.Steps.{number_is}
 use Rattle.branches.specs.Inner.Run.{operator_words, with_operators, gate_stepped, GateStep}
 
 splits-one : (g : Gate) → splits g ≤ 1
@@ -75,11 +76,22 @@ module _ {l m : List ℤ} {ws : List ℕ} {at slots n d from to count ops : ℕ}
   pub ops_are : ops ≡ length (operators (gate_at ws at))
   ops_are = a ∙ ap (λ (g : Gate). length (operators g)) e
 
-  pub gate_ready : {f : ℕ} → f ≡ flips n g → Step m f slots ops from to d count
-  gate_ready {f} h =
-      subst (λ (m : List ℤ). Step m f slots ops from to d count) (sym words_are)
-      (subst₂ (λ (f ops : ℕ). Step (with_operators l slots n d (gate_at ws at)) f slots ops from to d count) (sym (h ∙ ap (flips n) e)) (sym ops_are) p.ready)
+  -- the number of a product's operator is its number's last digit
+  pub gate_number : operator_number 0 (ops - 1) ≡ (λ (j : ℕ). j % ops)
+  gate_number = number_is ops (subst (λ (k : ℕ). 1 ≤ k) (sym ops_are) p.ready.some_op) (subst (λ (k : ℕ). k ≤ 2) (sym ops_are) p.ready.few_ops)
 
-  pub gate_done : {f : ℕ} → f ≡ flips n g → {q : List ℤ} {bit : ℕ} → bit ≡ outcome_bit g → q ≡ blocks (branch_size d) m to (count * ops) (step_words m f slots ops from d bit)
+  pub gate_ready : {f size : ℕ} → f ≡ flips n g → size ≡ branch_size d → Step m f slots size (ops - 1 + 1) (operator_number 0 (ops - 1)) ops from to d count
+  gate_ready {f} {size} h s =
+      let some : 1 ≤ ops = subst (λ (k : ℕ). 1 ≤ k) (sym ops_are) p.ready.some_op in
+      let all : ops - 1 + 1 ≡ ops = omega arith in
+      subst₂ (λ (held : ℕ) (v : ℕ → ℕ). Step m f slots size held v ops from to d count) (sym all) (sym gate_number)
+      (subst (λ (m : List ℤ). Step m f slots size ops (λ (j : ℕ). j % ops) ops from to d count) (sym words_are)
+      (subst (λ (size : ℕ). Step (with_operators l slots n d (gate_at ws at)) f slots size ops (λ (j : ℕ). j % ops) ops from to d count) (sym s)
+      (subst₂ (λ (f ops : ℕ). Step (with_operators l slots n d (gate_at ws at)) f slots (branch_size d) ops (λ (j : ℕ). j % ops) ops from to d count) (sym (h ∙ ap (flips n) e)) (sym ops_are) p.ready)))
+
+  pub gate_done : {f size : ℕ} → f ≡ flips n g → size ≡ branch_size d → {q : List ℤ} {bit : ℕ} → bit ≡ outcome_bit g
+      → q ≡ blocks (branch_size d) m to (count * ops) (step_words m f slots size (operator_number 0 (ops - 1)) ops from d bit)
       → q ≡ gate_stepped l slots n d from to count (gate_at ws at)
-  gate_done k f h = h ∙ (λ i. blocks (branch_size d) (words_are i) to (count * ops_are i) (step_words (words_are i) ((k ∙ ap (flips n) e) i) slots (ops_are i) from d ((f ∙ ap outcome_bit e) i)))
+  gate_done {f} {size} k s {bit = bit} u h =
+      h ∙ ap (λ (v : ℕ → ℕ). blocks (branch_size d) m to (count * ops) (step_words m f slots size v ops from d bit)) gate_number
+      ∙ (λ i. blocks (branch_size d) (words_are i) to (count * ops_are i) (step_words (words_are i) ((k ∙ ap (flips n) e) i) slots (s i) (λ (j : ℕ). j % ops_are i) (ops_are i) from d ((u ∙ ap outcome_bit e) i)))

@@ -130,7 +130,7 @@ module _ (n m : ℕ) (g : Gate) (ok : valid n m g ≡ true) (z : Branch) (bs : L
           store_at (2 ^ n) bs held z j h b (omega arith)
 
       module _ (slots : ℕ) (few_qubits : n ≤ 5) (rows : (v : ℕ) → v < length (operators g) → RowsAt l (slots + v * branch_size (2 ^ n)) n g v (2 ^ n)) where
-        step_words_lem : (j : ℕ) → j < length bs * ops → step_words l (flips n g) slots ops from (2 ^ n) (outcome_bit g) j ≡ branch_words (2 ^ n) (get_or (gate_step n bs g) j (apply n z (K o)))
+        step_words_lem : (j : ℕ) → j < length bs * ops → step_words l (flips n g) slots (branch_size (2 ^ n)) (λ (j : ℕ). j % ops) ops from (2 ^ n) (outcome_bit g) j ≡ branch_words (2 ^ n) (get_or (gate_step n bs g) j (apply n z (K o)))
         step_words_lem j h =
             let p = factor_pos j (length bs) ops h in
             let b = (div-lt_iff_lt-mul p).1 h in
@@ -142,9 +142,9 @@ module _ (n m : ℕ) (g : Gate) (ok : valid n m g ≡ true) (z : Branch) (bs : L
             ∙ outcome-store n m g o x.store (j % ops) ok (all_get_d (λ (b : Branch). Word m b.store) bs words (j / ops) b z) few (mod-lt j p)) i)
             ∙ ap (branch_words (2 ^ n)) (sym (step-at j h))
 
-        pub step_held : {to : ℕ} {q : List ℤ} → q ≡ blocks (branch_size (2 ^ n)) l to (length bs * length (operators g)) (step_words l (flips n g) slots (length (operators g)) from (2 ^ n) (outcome_bit g))
+        pub step_held : {to : ℕ} {q : List ℤ} → q ≡ blocks (branch_size (2 ^ n)) l to (length bs * length (operators g)) (step_words l (flips n g) slots (branch_size (2 ^ n)) (λ (j : ℕ). j % length (operators g)) (length (operators g)) from (2 ^ n) (outcome_bit g))
             → to + length bs * length (operators g) * branch_size (2 ^ n) ≤ length l → Holds q to (bank_words (2 ^ n) (gate_step n bs g))
         step_held {to} e room =
-            let f = step_words l (flips n g) slots ops from (2 ^ n) (outcome_bit g) in
+            let f = step_words l (flips n g) slots (branch_size (2 ^ n)) (λ (j : ℕ). j % ops) ops from (2 ^ n) (outcome_bit g) in
             held_blocks l to (2 ^ n) f (apply n z (K o)) (gate_step n bs g) (e ∙ ap (λ (k : ℕ). blocks (branch_size (2 ^ n)) l to k f) (sym gate-length))
             (λ j. le_of_eq (length-product l (flips n g) _ _ (2 ^ n) (outcome_bit g) (j % ops))) (omega (arith, ap (λ (k : ℕ). k * branch_size (2 ^ n)) gate-length)) (λ j h. step_words_lem j (omega (arith, gate-length)))

@@ -4,7 +4,7 @@ use mathlib.Core.Bool.{true}
 use mathlib.Core.Logic.{◌⊎◌, inl, inr, ⊎_elim}
 use mathlib.Core.List.{List, [], ◌∷◌, foldl-append}
 use Prim.Native.Nat.{ℕ, ◌+◌, ◌*◌, ◌-◌, ◌/◌, ◌%◌, ◌^◌, ◌≤◌, ◌<◌}
-use native.Mathlib.Nat.{mul-le-mul, le_refl, le_of_eq, add-mul, mul_assoc, zero-add}
+use native.Mathlib.Nat.{mod-lt, mul-le-mul, le_refl, le_of_eq, add-mul, mul_assoc, zero-add}
 use native.Mathlib.Numerals.{add-one}
 use native.Mathlib.Omega.{arith}
 use lib.Pow.{pow_mono, pow_pos}
@@ -208,6 +208,8 @@ module _ {l₀ : List ℤ} {ws : List ℕ} {σ : Store} {n banks : ℕ} (r : Run
         below = step_below n (length σ) g ok z (after i) held_still slots r.few rows;
         some_op = operators-some g;
         few_ops = two-operators g;
+        number = λ j hj. mod-lt j (operators-some g);
+        few_held = two-operators g;
         wide = wide;
         slots_room = omega (arith, long writing, ops-size, room);
         own = step-own n (length σ) g ok z (after i) held_still slots r.few rows;
@@ -239,7 +241,7 @@ module _ {l₀ : List ℤ} {ws : List ℕ} {σ : Store} {n banks : ℕ} (r : Run
     }
       where
         stepped : ℕ → List ℤ
-        stepped = step_words m (flips n g) slots ops from d (outcome_bit g)
+        stepped = step_words m (flips n g) slots (branch_size d) (λ (j : ℕ). j % ops) ops from d (outcome_bit g)
 
         after-step : Writing size m to (count * ops) stepped q (count * ops)
         after-step = wrote (λ j. le_of_eq (length-product m (flips n g) _ _ d (outcome_bit g) (j % ops))) e

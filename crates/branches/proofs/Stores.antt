@@ -72,7 +72,7 @@ module _ (σ : Store) (b : Bits σ) where
           ∙ ap from_bits (sym (drop-set-add 32 σ (bit - 32) v) ∙ ap (λ (k : ℕ). drop 32 (set σ k v)) e))) i ∷ []
 
 -- a store of at most 64 bits, cut at bit 32 or at its end
-module _ (σ : Store) {cut : ℕ} (e : cut ≡ min 32 (length σ)) where
+module _ (σ : Store) {cut : ℕ} (e : cut ≡ min (length σ) 32) where
   pub cut_low : from_bits (drop 0 (take cut σ)) ≡ from_bits (take 32 σ)
   cut_low = go (dec_lt (length σ) 32)
     where

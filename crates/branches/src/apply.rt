@@ -22,8 +22,7 @@ fn apply_rows(work: &mut [i64], m: usize, op: usize, old: usize, new: usize, d: 
     requires { Applying work.old m op old new d }
     ensures { work.new ≡ written work.old new d (row_sum work.old m op old d) }
 {
-    let mut r = 0;
-    while r < d {
+    for r in 0..d {
         let s = partner_row(r, m);
         let a = op + r * ROW;
         let b = a + CELL;
@@ -33,7 +32,6 @@ fn apply_rows(work: &mut [i64], m: usize, op: usize, old: usize, new: usize, d: 
         let q = old + s * d * CELL;
         let to = new + r * d * CELL;
         combine_rows(work, x, p, y, q, to, d);
-        r += 1;
     }
 }
 

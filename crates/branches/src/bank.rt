@@ -1,10 +1,11 @@
 // Branches in words: where they lie, the first one, and a step of all of them.
-ghost use Rattle.std.specs.Prelude.{◌≡◌, ◌+◌, ◌*◌, ◌≤◌, min, length};
+ghost use Rattle.std.specs.Prelude.{◌≡◌, ◌+◌, ◌*◌, ◌<◌, ◌≤◌, length, unwrap_or};
 ghost use Rattle.std.proofs.lemmas.List.Edits.{sets};
 ghost use Rattle.algebra.specs.Words.{blocks};
 ghost use Rattle.store.specs.Inner.Held.{Bits};
+ghost use Rattle.branches.specs.Inner.Store.{no_bit};
 ghost use Rattle.branches.specs.Inner.Bank.{branch_size, branch_words, identity_branch};
-ghost use Rattle.branches.specs.Inner.Step.{Step, step_words};
+ghost use Rattle.branches.specs.Inner.Step.{Step, operator_number, step_words};
 
 use super::apply::apply_operator;
 use super::outcome::write_store;
@@ -23,19 +24,13 @@ pub fn branch_size(d: usize) -> usize
     d * d * CELL + 2
 }
 
-fn least(a: usize, b: usize) -> usize
-    ensures { result ≡ min a b }
-{
-    if a < b { a } else { b }
-}
-
 // Write the identity with a store of bytes.
 pub fn start_branch(work: &mut [i64], at: usize, d: usize, store: &[u8])
     requires { (d ≤ 32) × ((at + branch_size d ≤ length work.old) × ((length store.now ≤ 64) × Bits store.now)) }
     ensures { work.new ≡ sets work.old at (branch_words d (identity_branch d store.now)) }
 {
     identity_into(work, at, d);
-    let cut = least(32, store.len());
+    let cut = store.len().min(32);
     let low = pack(store, 0, cut);
     let high = pack(store, cut, store.len());
     let s = at + d * d * CELL;
@@ -43,33 +38,42 @@ pub fn start_branch(work: &mut [i64], at: usize, d: usize, store: &[u8])
     work[s + 1] = high as i64;
 }
 
-// Send each of `count` branches to its products with each of the `ops` operators whose rows lie in the slots, in order, and write the operator's number to the store's bit `bit`.
+// Operators by their rows, which lie from `slots` on, `stride` words from each to the next.
+// Product j is with the one whose number is j >> shift, of which `mask` keeps the bits that number operators.
+#[derive(Clone, Copy)]
+pub struct Operators {
+    pub slots: usize,
+    pub stride: usize,
+    pub shift: u32,
+    pub mask: usize,
+}
+
+// Send each of `count` branches to its `ops` products with these operators, and write the operator's number to the store's bit `bit`, if there is one.
 pub fn step(
     work: &mut [i64],
     m: usize,
-    slots: usize,
+    operators: Operators,
     ops: usize,
     from: usize,
     to: usize,
     d: usize,
     count: usize,
-    bit: u32,
+    bit: Option<u32>,
 )
-    requires { Step work.old m slots ops from to d count }
-    ensures { work.new ≡ blocks (branch_size d) work.old to (count * ops) (step_words work.old m slots ops from d bit) }
+    requires shift { operators.shift < 64 }
+    requires ready { Step work.old m operators.slots operators.stride (operators.mask + 1) (operator_number operators.shift operators.mask) ops from to d count }
+    ensures { work.new ≡ blocks (branch_size d) work.old to (count * ops) (step_words work.old m operators.slots operators.stride (operator_number operators.shift operators.mask) ops from d (unwrap_or bit no_bit)) }
 {
     let matrix = d * d * CELL;
     let size = matrix + 2;
     let total = count * ops;
     let last = ops - 1;
-    let mut j = 0;
-    while j < total {
-        let v = j & last;
-        let op = slots + v * size;
+    for j in 0..total {
+        let v = (j >> operators.shift) & operators.mask;
+        let op = operators.slots + v * operators.stride;
         let old = from + (j >> last) * size;
         let new = to + j * size;
         apply_operator(work, m, op, old, new, d);
         write_store(work, old + matrix, new + matrix, bit, v as u64);
-        j += 1;
     }
 }

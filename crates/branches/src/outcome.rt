@@ -1,10 +1,10 @@
 // A branch's store, written with an outcome.
-ghost use Rattle.std.specs.Prelude.{◌≡◌, true, ◌+◌, ◌<◌, ◌≤◌, ◌^◌, ◌-◌, length};
+ghost use Rattle.std.specs.Prelude.{◌≡◌, true, ◌+◌, ◌<◌, ◌≤◌, ◌^◌, ◌-◌, length, unwrap_or};
 ghost use Rattle.std.proofs.lemmas.List.Edits.{sets};
 ghost use Rattle.algebra.specs.Words.{up_to};
 ghost use Rattle.store.specs.Store.{max_word};
 ghost use Rattle.store.specs.Inner.Held.{StoreAt};
-ghost use Rattle.branches.specs.Inner.Store.{with_bit, outcome_word, outcome_words};
+ghost use Rattle.branches.specs.Inner.Store.{no_bit, with_bit, outcome_word, outcome_words};
 
 // x with bit k made v.
 fn with_bit(x: u64, k: u32, v: u64) -> u64
@@ -15,15 +15,18 @@ fn with_bit(x: u64, k: u32, v: u64) -> u64
     x - x / p % 2 * p + v * p
 }
 
-// The word of the bits from `first` on, with bit `bit` made v where it is one of its 32.
-fn outcome_word(w: i64, first: u32, bit: u32, v: u64) -> i64
-    requires { (up_to max_word w ≡ true) × (v ≤ 1) }
-    ensures { result ≡ outcome_word first bit v w }
+// The word of the bits from `first` on, with bit `bit` made v where there is such a bit and it is one of its 32.
+fn outcome_word(w: i64, first: u32, bit: Option<u32>, v: u64) -> i64
+    requires { (up_to max_word w ≡ true) × ((v ≤ 1) × (first ≤ 32)) }
+    ensures { result ≡ outcome_word first (unwrap_or bit no_bit) v w }
 {
-    if bit < first {
+    let Some(b) = bit else {
+        return w;
+    };
+    if b < first {
         return w;
     }
-    let k = bit - first;
+    let k = b - first;
     if 31 < k {
         return w;
     }
@@ -32,14 +35,12 @@ fn outcome_word(w: i64, first: u32, bit: u32, v: u64) -> i64
 }
 
 // Write the store at `from` to `to`, with bit `bit` made v where there is such a bit.
-pub fn write_store(work: &mut [i64], from: usize, to: usize, bit: u32, v: u64)
+pub fn write_store(work: &mut [i64], from: usize, to: usize, bit: Option<u32>, v: u64)
     requires { (v ≤ 1) × ((to + 2 ≤ length work.old) × StoreAt work.old from) }
-    ensures { work.new ≡ sets work.old to (outcome_words work.old from bit v) }
+    ensures { work.new ≡ sets work.old to (outcome_words work.old from (unwrap_or bit no_bit) v) }
 {
-    let low = work[from];
-    let high = work[from + 1];
-    let l = outcome_word(low, 0, bit, v);
-    let h = outcome_word(high, 32, bit, v);
-    work[to] = l;
-    work[to + 1] = h;
+    let low = outcome_word(work[from], 0, bit, v);
+    let high = outcome_word(work[from + 1], 32, bit, v);
+    work[to] = low;
+    work[to + 1] = high;
 }

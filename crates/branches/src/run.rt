@@ -1,13 +1,13 @@
 // A circuit's gates, run one after the other on the branches.
-ghost use Rattle.std.specs.Prelude.{◌≡◌, ◌*◌, length};
+ghost use Rattle.std.specs.Prelude.{◌≡◌, ◌*◌, length, unwrap_or};
 ghost use Rattle.gate.specs.Gate.{gate_at};
 ghost use Rattle.gate.specs.Operators.{operators};
 ghost use Rattle.gate.specs.Inner.Entries.{flips};
 ghost use Rattle.gate.specs.Inner.Words.{gate_of};
-ghost use Rattle.branches.specs.Inner.Store.{outcome_bit};
+ghost use Rattle.branches.specs.Inner.Store.{no_bit, outcome_bit};
 ghost use Rattle.branches.specs.Inner.Run.{Slots, with_operators, gate_stepped, GateStep, Runs, Ran};
 
-use super::bank::{branch_size, start_branch, step};
+use super::bank::{Operators, branch_size, start_branch, step};
 use gate::judge::{GateWords, read_gate};
 use gate::rows::{flips, write_rows};
 use gate::{GATE, MEASURE};
@@ -33,14 +33,11 @@ fn write_operators(
     2
 }
 
-// A bit that no store has.
-const NO_BIT: u32 = 64;
-
-// The classical bit that a gate writes.
-fn outcome_bit(g: GateWords) -> u32
-    ensures { result ≡ outcome_bit (gate_of g) }
+// The classical bit that a gate writes, if it writes one.
+fn outcome_bit(g: GateWords) -> Option<u32>
+    ensures { unwrap_or result no_bit ≡ outcome_bit (gate_of g) }
 {
-    if g.kind == MEASURE { g.b } else { NO_BIT }
+    if g.kind == MEASURE { Some(g.b) } else { None }
 }
 
 // Send the `count` branches at `from` to their products with the operators of the gate at `at`, whose rows are written to the two slots; answers how many they are.
@@ -62,7 +59,13 @@ fn step_gate(
     let m = flips(g, n);
     let ops = write_operators(work, slots, n, d, g, m);
     let bit = outcome_bit(g);
-    step(work, m, slots, ops, from, to, d, count, bit);
+    let operators = Operators {
+        slots,
+        stride: branch_size(d),
+        shift: 0,
+        mask: ops - 1,
+    };
+    step(work, m, operators, ops, from, to, d, count, bit);
     count * ops
 }
 
@@ -84,12 +87,10 @@ pub fn run_gates(
     start_branch(work, 0, d, store);
     let mut from = 0;
     let mut count = 1;
-    let mut i = 0;
-    while i < total {
+    for i in 0..total {
         let to = bank - from;
         count = step_gate(work, gates, i * GATE, slots, n, d, from, to, count);
         from = to;
-        i += 1;
     }
     from
 }

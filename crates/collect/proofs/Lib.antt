@@ -1,4 +1,3 @@
-pub mod Finding
 pub mod Numerators
 pub mod Summing
 pub mod Sharing

@@ -22,7 +22,7 @@ use Rattle.branches.specs.Inner.Bank.{branch_size}
 use Rattle.share.specs.Share.{with_numerators}
 use Rattle.overlaps.specs.Inner.Overlap.{number_in, upper_added, Block, Upper}
 use Rattle.overlaps.proofs.Numbers.{number-filled}
-use Rattle.collect.specs.Inner.Bank.{place, store_of, has, raised, numerators, upper, Branch, Found, Bank}
+use Rattle.collect.specs.Inner.Bank.{place, store_of, has, raised, numerators, upper, Branch, Bank}
 use Rattle.collect.proofs.Numerators.{entry_is, sum-within}
 
 pub bank-branch : {l : List ℤ} {at d n : ℕ} → Bank l at d n → (j : ℕ) → j < n → Branch l at d j
@@ -37,13 +37,6 @@ module _ (l : List ℤ) (at d : ℕ) where
   sum_step : (n s r c : ℕ) (t : Bool) → has l at d s n ≡ t → numerators l at d (n + 1) s r c ≡ cond t (more n r c (numerators l at d n s r c)) (numerators l at d n s r c)
   unfolding numerators
   sum_step n s r c t e = ap (λ (k : ℕ). numerators l at d k s r c) (add-one n) ∙ ap (λ (b : Bool). cond b (more n r c (numerators l at d n s r c)) (numerators l at d n s r c)) e
-
-  -- the next k branches have not the store
-  sum_past : (s r c j k : ℕ) → ((i : ℕ) → j ≤ i → i < j + k → has l at d s i ≡ false) → numerators l at d (j + k) s r c ≡ numerators l at d j s r c
-  sum_past s r c j zero h = ap (λ (n : ℕ). numerators l at d n s r c) (add-zero j)
-  sum_past s r c j (suc k) h =
-      let e : j + suc k ≡ j + k + 1 = omega arith in
-      ap (λ (n : ℕ). numerators l at d n s r c) e ∙ sum_step (j + k) s r c false (h (j + k) (omega arith) (omega arith)) ∙ sum_past s r c j k (λ i p q. h i p (omega arith))
 
   none : (s k : ℕ) → upper l at d 0 s k ≡ numbers.𝟘
   unfolding numerators
@@ -69,16 +62,10 @@ module _ {m : List ℤ} {out : ℕ} {l : List ℤ} {at d s : ℕ} where
   pub none_summed : {b : List ℤ} → b ≡ fill_words m out (d * d * (d * d) * 4) (λ (i : ℕ). pos 0) → Summed m out l at d s b 0
   none_summed e = record { is = e ∙ zero-numbers m out (d * d * (d * d)) ∙ blocks-same 4 m out (d * d * (d * d)) _ _ (λ k h. ap list_of (sym (none l at d s k))) }
 
-  -- branches that have not the store are passed over
-  pub summed_past : {b : List ℤ} {j n k : ℕ} → Summed m out l at d s b j → Found (has l at d s) j n k → Summed m out l at d s b k
-  summed_past {b} {j} {n} {k} ws f =
-      record { is = ws.is ∙ blocks-same 4 m out (d * d * (d * d)) _ _ (λ i h. ap (λ (z : Number). list_of (cond (leb (i / (d * d)) (i % (d * d))) z numbers.𝟘)) (sym (past (i / (d * d)) (i % (d * d))))) }
-    where
-      back : j + (k - j) ≡ k
-      back = omega (arith, f.low)
-
-      past : (r c : ℕ) → numerators l at d k s r c ≡ numerators l at d j s r c
-      past r c = ap (λ (i : ℕ). numerators l at d i s r c) (sym back) ∙ sum_past l at d s r c j (k - j) (λ i p q. f.passed i p (omega arith))
+  -- a branch that has not the store is passed over
+  pub summed_past : {b : List ℤ} {j : ℕ} → Summed m out l at d s b j → has l at d s j ≡ false → Summed m out l at d s b (j + 1)
+  summed_past {b} {j} ws h =
+      record { is = ws.is ∙ blocks-same 4 m out (d * d * (d * d)) _ _ (λ i q. ap (λ (z : Number). list_of (cond (leb (i / (d * d)) (i % (d * d))) z numbers.𝟘)) (sym (sum_step l at d j s (i / (d * d)) (i % (d * d)) false h))) }
 
   module _ {b : List ℤ} {j : ℕ} (ws : Summed m out l at d s b j) where
     pub summed_long : length b ≡ length m

@@ -1,6 +1,6 @@
 // A bank's branches, read: their stores, and which survive.
-ghost use Rattle.std.specs.Prelude.{◌≡◌, ℕ, ◌<◌, ◌≤◌};
-ghost use Rattle.collect.specs.Inner.Bank.{store_of, survives, has, is_first, Branch, Branches, Found};
+ghost use Rattle.std.specs.Prelude.{◌≡◌};
+ghost use Rattle.collect.specs.Inner.Bank.{store_of, survives, has, is_first, Branch, Branches};
 
 use cells::CELL;
 use matrix::words::is_zero;
@@ -27,29 +27,11 @@ pub fn is_alive(work: &[i64], at: usize, d: usize, j: usize) -> bool
 }
 
 // Whether branch j survives with this store.
-fn has_store(work: &[i64], at: usize, d: usize, j: usize, store: u64) -> bool
+pub fn has_store(work: &[i64], at: usize, d: usize, j: usize, store: u64) -> bool
     requires { Branch work.now at d j }
     ensures { result ≡ has work.now at d store j }
 {
-    if branch_store(work, at, d, j) != store {
-        return false;
-    }
-    is_alive(work, at, d, j)
-}
-
-// The first branch from branch b on, and before branch n, that survives with this store; n where there is none.
-pub fn find_branch(work: &[i64], at: usize, d: usize, b: usize, n: usize, store: u64) -> usize
-    requires { (b ≤ n) × ((j : ℕ) → j < n → Branch work.now at d j) }
-    ensures { Found (has work.now at d store) b n result }
-{
-    let mut j = b;
-    while j < n {
-        if has_store(work, at, d, j, store) {
-            return j;
-        }
-        j += 1;
-    }
-    j
+    branch_store(work, at, d, j) == store && is_alive(work, at, d, j)
 }
 
 // Whether no branch before branch b survives with its store.
@@ -58,5 +40,10 @@ pub fn is_first(work: &[i64], at: usize, d: usize, b: usize) -> bool
     ensures { result ≡ is_first work.now at d b }
 {
     let store = branch_store(work, at, d, b);
-    find_branch(work, at, d, 0, b, store) == b
+    for j in 0..b {
+        if has_store(work, at, d, j, store) {
+            return false;
+        }
+    }
+    true
 }

@@ -4,7 +4,7 @@ ghost use Rattle.std.proofs.lemmas.List.Edits.{sets};
 ghost use Rattle.share.specs.Share.{with_numerators};
 ghost use Rattle.collect.specs.Inner.Bank.{store_of, upper, shared_words, Bank};
 
-use super::bank::{branch_store, find_branch};
+use super::bank::{branch_store, has_store};
 use cells::CELL;
 use channel::layout::ENTRY;
 use hermitian::{mirror, share_block};
@@ -22,11 +22,11 @@ fn sum_block(res: &mut [i64], out: usize, work: &[i64], at: usize, d: usize, cou
     let store = branch_store(work, at, d, b);
     let w = d * d;
     clear(res, out, w * w * ENTRY);
-    let mut j = find_branch(work, at, d, 0, count, store);
-    while j < count {
-        let q = at + j * (w * CELL + 2);
-        add_upper(res, out, work, q, w, SCALE);
-        j = find_branch(work, at, d, j + 1, count, store);
+    for j in 0..count {
+        if has_store(work, at, d, j, store) {
+            let q = at + j * (w * CELL + 2);
+            add_upper(res, out, work, q, w, SCALE);
+        }
     }
 }
 

@@ -14,7 +14,7 @@ ghost use Rattle.collect.specs.Delivered.{branches_words, overwritten};
 use links::{link_records, write_header};
 use records::collect;
 
-// Write the channel of the bank of `count` branches at `at` of `work`, with `bits` bits in a store, to the start of `result`.
+// Write the channel of the bank of `count` branches at `at` of `work`, with `bits` bits in a store, to the start of `res`.
 pub fn deliver(res: &mut [i64], work: &[i64], at: usize, d: usize, bits: u32, count: usize)
     requires { Deliverable res.old work.now at d bits count }
     ensures { res.new ≡ overwritten (branches_words d bits (survivors (bank_in work.now at d bits count))) res.old }

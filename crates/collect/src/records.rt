@@ -62,10 +62,8 @@ pub fn collect(res: &mut [i64], work: &[i64], at: usize, d: usize, count: usize)
     ensures { (result ≡ length (stores_of work.now at d count)) × (res.new ≡ recorded res.old work.now at d count) }
 {
     let mut n = 0;
-    let mut b = 0;
-    while b < count {
+    for b in 0..count {
         n = collect_branch(res, n, work, at, d, count, b);
-        b += 1;
     }
     n
 }

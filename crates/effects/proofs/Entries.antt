@@ -1,8 +1,8 @@
 -- What the shared form of a block says of its entries, and a finished effect's range at its shared exponent.
-use mathlib.Core.Path.{◌≡◌, refl, sym, ap, ◌∙◌, subst}
+use mathlib.Core.Path.{◌≡◌, refl, sym, ap, ◌∙◌}
 use mathlib.Core.Bool.{Bool, true, ◌&&◌}
 use mathlib.Core.List.{List}
-use Prim.Native.Nat.{ℕ, zero, suc, ◌+◌, ◌*◌, ◌/◌, ◌^◌, max, ◌≤◌, ◌<◌}
+use Prim.Native.Nat.{ℕ, zero, suc, ◌+◌, ◌*◌, ◌/◌, ◌^◌, ◌≤◌, ◌<◌}
 use native.Mathlib.Omega.{arith}
 use lib.Dec.{leb}
 use lib.ListN.{length}
@@ -19,13 +19,13 @@ use Rattle.exact.specs.Inner.Sizes.{scaled as times}
 use Rattle.exact.proofs.Exact.{lowest-form}
 use Rattle.exact.proofs.Sizes.{and4, within_of, of-within, well_exponent}
 use Rattle.exact.proofs.Overflow.{lowest-size}
-use Rattle.channel.specs.Shared.{is_shared, shared_exponent, scaled, shared, shared_fits}
+use Rattle.channel.specs.Shared.{is_shared, shared_exponent, scaled, shared_fits}
 use Rattle.channel.specs.Layout.{channels, effects, exponent_place, block_words, side, word, numbers_at, exp_at, shared_at, entry_at}
 use Rattle.channel.specs.Inner.Shapes.{Entries}
 use Rattle.channel.proofs.Full.{full-words}
 use Rattle.share.specs.Share.{with_numerators}
 use Rattle.effects.specs.Effects.{term, effect_at, partials_fit, terms_fit, record_fits}
-use Rattle.effects.specs.Inner.Readable.{Dim, Readable}
+use Rattle.effects.specs.Inner.Readable.{Readable}
 use Rattle.effects.proofs.Summing.{sum-formed}
 
 module _ (l : List ℤ) (at d : ℕ) (r : Readable l at d) where

@@ -9,7 +9,6 @@ use lib.Arith.{digits_lt, digits_div, digits_mod}
 use lib.IntN.{ℤ, pos}
 use Rattle.algebra.specs.Dyadic.{frac}
 use Rattle.algebra.proofs.Blocks.{blocks-same}
-use Rattle.exact.specs.Exact.{Exact}
 use Rattle.channel.specs.Shared.{Shared, shared_exponent, scaled}
 use Rattle.channel.specs.Forms.{Alike}
 use Rattle.channel.specs.Layout.{channels, effects, header_size, record_size, record_at, word, entry_at, effect_of}

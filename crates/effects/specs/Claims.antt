@@ -1,6 +1,5 @@
 -- What is claimed of the two forms of effects.
-use Rattle.std.specs.Prelude.{◌≡◌, true, false, List, ℕ, ◌+◌, ◌*◌, ◌≤◌, ◌<◌, length, ℤ}
-use Rattle.verdict.specs.Verdict.{accepted}
+use Rattle.std.specs.Prelude.{◌≡◌, true, false, List, ℕ, ◌+◌, ◌*◌, ◌≤◌, ◌<◌, length, ℤ, is_ok}
 use Rattle.channel.specs.Layout.{effects, header_size, record_head, entry_size, record_at, word, dim_at, count_at}
 use Rattle.effects.specs.Effects.{effects_verdict, result_of, povm_of}
 
@@ -18,4 +17,4 @@ pub record Exchanged (d n : ℕ) (old new : List ℤ) : Type 0 where
 
 -- of every channel that is accepted, Hermitian or not: what povm_effects leaves, beside what classical_blocks leaves
 abbrev pub Transposes : Type 0
-Transposes = (l res : List ℤ) → accepted (effects_verdict l res) ≡ true → Exchanged (dim_at l) (count_at l) (result_of l res) (povm_of l res)
+Transposes = (l res : List ℤ) → is_ok (effects_verdict l res) ≡ true → Exchanged (dim_at l) (count_at l) (result_of l res) (povm_of l res)

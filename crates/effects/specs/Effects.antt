@@ -1,12 +1,11 @@
 -- The effects of a channel, its POVM elements: the Choi block of each store summed over the outputs, in words of the same layout; transposed, and as the textbook has them.
-use Rattle.std.specs.Prelude.{Bool, cond, ◌&&◌, List, [], ◌∷◌, ℕ, suc, ◌+◌, ◌*◌, ◌/◌, ◌%◌, leb, length, ℤ, pos}
+use Rattle.std.specs.Prelude.{Bool, cond, ◌&&◌, List, [], ◌∷◌, ℕ, suc, ◌+◌, ◌*◌, ◌/◌, ◌%◌, leb, length, ℤ, pos, is_ok, Ok, Err}
 use Rattle.std.proofs.lemmas.List.Edits.{sets}
 use Rattle.algebra.specs.Sum.{sum}
 use Rattle.algebra.specs.Lists.{all_below}
 use Rattle.algebra.specs.Words.{blocks}
-use Rattle.verdict.specs.declared.Verdict.{Verdict}
-use Rattle.verdict.specs.declared.Verdict.TheVariants.{Accepted, ShortBuffer, TooLarge}
-use Rattle.verdict.specs.Verdict.{accepted}
+use Rattle.verdict.specs.Questions.{Verdict}
+use Rattle.verdict.specs.declared.Refusal.TheVariants.{ShortBuffer, TooLarge}
 use Rattle.exact.specs.Exact.{Exact, exact, in_range}
 use Rattle.channel.specs.Shared.{Shared, shared, shared_fits}
 use Rattle.channel.specs.Layout.{channels, effects, header_size, record_size, record_at, block_words, word, entry_at, effect_place, effect_of, dim_at, count_at}
@@ -69,13 +68,13 @@ module _ (entry : List ℤ → ℕ → ℕ → ℕ → Exact) where
 
   -- a refusal leaves the result as it was
   abbrev pub result_by : Verdict → List ℤ → List ℤ → List ℤ
-  result_by v l res = cond (accepted v) (effects_words l res) res
+  result_by v l res = cond (is_ok v) (effects_words l res) res
 
 -- ---- the answer of both calls, and what each leaves in the result
 abbrev pub effects_verdict : List ℤ → List ℤ → Verdict
 effects_verdict l res =
-    cond (accepted (form_verdict l))
-    (cond (leb (effects_size l) (length res)) (cond (sums_fit l (dim_at l) (count_at l)) Accepted TooLarge) ShortBuffer)
+    cond (is_ok (form_verdict l))
+    (cond (leb (effects_size l) (length res)) (cond (sums_fit l (dim_at l) (count_at l)) (Ok tt) (Err TooLarge)) (Err ShortBuffer))
     (form_verdict l)
 
 abbrev pub result_of : List ℤ → List ℤ → List ℤ

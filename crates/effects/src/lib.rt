@@ -1,12 +1,12 @@
 // The effects of a channel's blocks, transposed and as the textbook has them. The sums are tried before the first word is written, so that a refusal leaves the result as it was.
 #![tactic(auto)]
 
-ghost use Rattle.std.specs.Prelude.{◌≡◌, true, cond, ℕ, ◌+◌, ◌*◌, ◌<◌, ◌≤◌, max, [], ◌∷◌, length, pos};
+ghost use Rattle.std.specs.Prelude.{◌≡◌, true, cond, ℕ, ◌+◌, ◌*◌, ◌<◌, ◌≤◌, [], ◌∷◌, length, pos, Err};
 ghost use Rattle.std.proofs.lemmas.List.Edits.{sets};
 ghost use Rattle.algebra.specs.Lists.{all_below};
 ghost use Rattle.exact.specs.Exact.{within, max_numerator, max_exponent, number_of, list_of};
-ghost use Rattle.scalar.specs.Calls.{value, accepted, refused_with};
-ghost use Rattle.verdict.specs.declared.Verdict.TheVariants.{TooLarge};
+ghost use Rattle.scalar.specs.Calls.{value, scalar_of, accepted};
+ghost use Rattle.verdict.specs.declared.Refusal.TheVariants.{TooLarge};
 ghost use Rattle.channel.specs.Shared.{shared_exponent, scaled};
 ghost use Rattle.channel.specs.Layout.{channels, effects, header_size, block_size, block_words, record_size, effect_place, word};
 ghost use Rattle.channel.specs.Recast.{relink};
@@ -18,12 +18,12 @@ ghost use Rattle.effects.specs.Inner.Strides.{strided, strided_at, Strides, form
 
 use channel::Shape;
 use channel::layout::{ENTRY, EXPONENT, HEADER, read_entry, record_size};
-use channel::well_formed::{judge, no_shape};
+use channel::well_formed::judge;
 use exact::MAX_NUMERATOR;
 use exact::numerators::scaled4;
 use exact::ranges::are_within;
-use scalar::{Answer, Scalar, ZERO, refused};
-use verdict::Verdict;
+use scalar::{Scalar, ZERO};
+use verdict::{Refusal, Verdict};
 
 // The place in a block of its entry (o·d + r, o·d + c).
 fn term_place(d: usize, r: usize, c: usize, o: usize) -> usize
@@ -36,30 +36,20 @@ fn term_place(d: usize, r: usize, c: usize, o: usize) -> usize
     row * w + col
 }
 
-// Entry i of the effect of the block at `at`, or 9 where a partial sum leaves the range.
-fn sum_entry(s: &[i64], at: usize, d: usize, i: usize) -> Answer
+// Entry i of the effect of the block at `at`, or a refusal where a partial sum leaves the range.
+fn sum_entry(s: &[i64], at: usize, d: usize, i: usize) -> Result<Scalar, Refusal>
     requires { Readable s.now at d × (i < d * d) }
-    ensures { result ≡ cond (partials_fit d (term s.now at d i)) (accepted (effect_at s.now at d i)) (refused_with TooLarge) }
+    ensures { result ≡ cond (partials_fit d (term s.now at d i)) (accepted (effect_at s.now at d i)) (Err TooLarge) }
 {
     let r = i / d;
     let c = i % d;
     let mut acc = ZERO;
-    let mut o = 0;
-    while o < d {
+    for o in 0..d {
         let k = term_place(d, r, c, o);
         let x = read_entry(s, at, k);
-        let a = acc.add(x);
-        let v = a.verdict;
-        if !v.is_accepted() {
-            return refused(Verdict::TooLarge);
-        }
-        acc = a.value;
-        o += 1;
+        acc = acc.add(x)?;
     }
-    Answer {
-        value: acc,
-        verdict: Verdict::Accepted,
-    }
+    Ok(acc)
 }
 
 // Whether every partial sum of the block at `at` fits.
@@ -67,23 +57,20 @@ fn terms_fit(s: &[i64], at: usize, d: usize) -> bool
     requires { Readable s.now at d }
     ensures { result ≡ terms_fit s.now at d }
 {
-    let n = d * d;
-    let mut i = 0;
-    while i < n {
-        let a = sum_entry(s, at, d, i);
-        let v = a.verdict;
-        if !v.is_accepted() {
+    for i in 0..d * d {
+        if sum_entry(s, at, d, i).is_err() {
             return false;
         }
-        i += 1;
     }
     true
 }
 
-fn greatest(x: u32, y: u32) -> u32
-    ensures { result ≡ max x y }
+// Entry i of an effect whose partial sums fit.
+fn entry(s: &[i64], at: usize, d: usize, i: usize) -> Scalar
+    requires { Readable s.now at d × ((i < d * d) × (terms_fit s.now at d ≡ true)) }
+    ensures { result ≡ scalar_of (effect_at s.now at d i) }
 {
-    if x < y { y } else { x }
+    sum_entry(s, at, d, i).unwrap()
 }
 
 // The exponent that the entries of the effect share: the largest of theirs.
@@ -91,14 +78,10 @@ fn effect_exponent(s: &[i64], at: usize, d: usize) -> u32
     requires { Readable s.now at d × (terms_fit s.now at d ≡ true) }
     ensures { result ≡ shared_exponent (d * d) (effect_at s.now at d) }
 {
-    let n = d * d;
     let mut e = 0u32;
-    let mut i = 0;
-    while i < n {
-        let a = sum_entry(s, at, d, i);
-        let x = a.value;
-        e = greatest(e, x.e);
-        i += 1;
+    for i in 0..d * d {
+        let x = entry(s, at, d, i);
+        e = e.max(x.e);
     }
     e
 }
@@ -108,9 +91,7 @@ fn fits_over(x: Scalar, e: u32) -> bool
     requires { (x.e ≤ e) × (e ≤ max_exponent) }
     ensures { result ≡ within max_numerator (scaled e (value x)) }
 {
-    let m = MAX_NUMERATOR >> (e - x.e);
-    let n = x.n;
-    are_within(n, m)
+    are_within(x.n, MAX_NUMERATOR >> (e - x.e))
 }
 
 // Whether the entries of the effect fit over 2^e, the exponent that they share.
@@ -118,15 +99,11 @@ fn entries_fit(s: &[i64], at: usize, d: usize, e: u32) -> bool
     requires { Readable s.now at d × ((terms_fit s.now at d ≡ true) × (e ≡ shared_exponent (d * d) (effect_at s.now at d))) }
     ensures { result ≡ all_below (d * d) (λ (i : ℕ). within max_numerator (scaled e (effect_at s.now at d i))) }
 {
-    let n = d * d;
-    let mut i = 0;
-    while i < n {
-        let a = sum_entry(s, at, d, i);
-        let x = a.value;
+    for i in 0..d * d {
+        let x = entry(s, at, d, i);
         if !fits_over(x, e) {
             return false;
         }
-        i += 1;
     }
     true
 }
@@ -149,12 +126,10 @@ fn sums_fit(s: &[i64], d: usize, n: usize) -> bool
     ensures { result ≡ sums_fit s.now d n }
 {
     let size = record_size(d * d);
-    let mut j = 0;
-    while j < n {
+    for j in 0..n {
         if !record_fits(s, HEADER + j * size, d) {
             return false;
         }
-        j += 1;
     }
     true
 }
@@ -186,14 +161,10 @@ fn write_number(res: &mut [i64], at: usize, x: [i64; 4])
     requires { at + 4 ≤ length res.old }
     ensures { res.new ≡ sets res.old at (list_of (number_of x)) }
 {
-    let a = x[0];
-    let b = x[1];
-    let c = x[2];
-    let d = x[3];
-    res[at] = a;
-    res[at + 1] = b;
-    res[at + 2] = c;
-    res[at + 3] = d;
+    res[at] = x[0];
+    res[at + 1] = x[1];
+    res[at + 2] = x[2];
+    res[at + 3] = x[3];
 }
 
 // Write the numerators of x over 2^e from `at` on.
@@ -201,8 +172,7 @@ fn write_scaled(res: &mut [i64], at: usize, x: Scalar, e: u32)
     requires { (at + 4 ≤ length res.old) × ((x.e ≤ e) × ((e ≤ max_exponent) × (within max_numerator (scaled e (value x)) ≡ true))) }
     ensures { res.new ≡ sets res.old at (list_of (scaled e (value x))) }
 {
-    let n = x.n;
-    let y = scaled4(n, e - x.e);
+    let y = scaled4(x.n, e - x.e);
     write_number(res, at, y);
 }
 
@@ -220,13 +190,10 @@ fn write_entries(
     requires { Effect s.now at d rows cols × ((e ≡ shared_exponent (d * d) (effect_at s.now at d)) × (out + block_size (effects d) ≤ length res.old)) }
     ensures { res.new ≡ with_numerators res.old out (d * d) (λ (i : ℕ). scaled e (strided_at rows cols s.now at d i)) }
 {
-    let n = d * d;
-    let mut i = 0;
-    while i < n {
+    for i in 0..d * d {
         let k = strided(d, rows, cols, i);
-        let a = sum_entry(s, at, d, k);
-        write_scaled(res, out + i * ENTRY, a.value, e);
-        i += 1;
+        let x = entry(s, at, d, k);
+        write_scaled(res, out + i * ENTRY, x, e);
     }
 }
 
@@ -271,10 +238,7 @@ fn write_record(
     requires { Effect s.now at d rows cols × (out + record_size (effects d) ≤ length res.old) }
     ensures { res.new ≡ sets res.old out (effect_record (strided_at rows cols) s.now d at) }
 {
-    let next = s[at];
-    let low = s[at + 1];
-    let high = s[at + 2];
-    put_three(res, out, relinked(d, next), low, high);
+    put_three(res, out, relinked(d, s[at]), s[at + 1], s[at + 2]);
     write_block(s, at, d, rows, cols, res, out + EXPONENT);
 }
 
@@ -285,10 +249,8 @@ fn write_records(s: &[i64], d: usize, n: usize, rows: usize, cols: usize, res: &
 {
     let from = record_size(d * d);
     let to = record_size(d);
-    let mut j = 0;
-    while j < n {
+    for j in 0..n {
         write_record(s, HEADER + j * from, d, rows, cols, res, HEADER + j * to);
-        j += 1;
     }
 }
 
@@ -297,34 +259,23 @@ fn write_header(s: &[i64], d: usize, res: &mut [i64])
     requires { Linked d (word s.now 3) × ((header_size ≤ length s.now) × (header_size ≤ length res.old)) }
     ensures { res.new ≡ sets res.old 0 (effect_header s.now d) }
 {
-    let dim = s[0];
-    let bits = s[1];
-    let count = s[2];
-    let first = s[3];
-    let link = relinked(d, first);
-    put_three(res, 0, dim, bits, count);
-    res[3] = link;
+    put_three(res, 0, s[0], s[1], s[2]);
+    res[3] = relinked(d, s[3]);
 }
 
-// The verdict on a channel and on the result that its effects go to, and the channel's header; its numbers are 0 where that is a refusal.
-fn judge_effects(channel: &[i64], res: &[i64]) -> Shape
+// The channel's header, or why its effects are refused: the verdict on it and on the result that they go to.
+fn judge_effects(channel: &[i64], res: &[i64]) -> Result<Shape, Refusal>
     ensures { result ≡ shape_by (effects_verdict channel.now res.now) channel.now }
 {
-    let h = judge(channel);
-    let v = h.verdict;
-    if !v.is_accepted() {
-        return h;
+    let h = judge(channel)?;
+    let size = record_size(h.dim);
+    if res.len() < HEADER + h.count * size {
+        return Err(Refusal::ShortBuffer);
     }
-    let d = h.dim;
-    let n = h.count;
-    let size = record_size(d);
-    if res.len() < HEADER + n * size {
-        return no_shape(Verdict::ShortBuffer);
+    if !sums_fit(channel, h.dim, h.count) {
+        return Err(Refusal::TooLarge);
     }
-    if !sums_fit(channel, d, n) {
-        return no_shape(Verdict::TooLarge);
-    }
-    h
+    Ok(h)
 }
 
 // Write the effects' words.
@@ -340,10 +291,7 @@ fn write_effects(s: &[i64], d: usize, n: usize, rows: usize, cols: usize, res: &
 fn stride(d: usize, row: bool) -> usize
     ensures { result ≡ cond row d 1 }
 {
-    if row {
-        return d;
-    }
-    1
+    if row { d } else { 1 }
 }
 
 // Write the effect of each store's block, transposed or as the textbook has it. A refusal leaves the result as it was.
@@ -351,16 +299,11 @@ fn effects_in(channel: &[i64], textbook: bool, res: &mut [i64]) -> Verdict
     ensures verdict { result ≡ effects_verdict channel.now res.old }
     ensures words { res.new ≡ result_by (form_at textbook) (effects_verdict channel.now res.old) channel.now res.old }
 {
-    let h = judge_effects(channel, res);
-    let v = h.verdict;
-    if !v.is_accepted() {
-        return v;
-    }
-    let d = h.dim;
-    let rows = stride(d, !textbook);
-    let cols = stride(d, textbook);
-    write_effects(channel, d, h.count, rows, cols, res);
-    v
+    let h = judge_effects(channel, res)?;
+    let rows = stride(h.dim, !textbook);
+    let cols = stride(h.dim, textbook);
+    write_effects(channel, h.dim, h.count, rows, cols, res);
+    Ok(())
 }
 
 // The transposed effect of each store's block, d² entries each, in the channel's own order: entry (r, c) sums block entry (o·d + r, o·d + c)

@@ -4,11 +4,10 @@ use mathlib.Core.Bool.{true}
 use mathlib.Core.List.{List, [], ◌∷◌}
 use Prim.Native.Nat.{ℕ, zero, suc, ◌+◌, ◌*◌, ◌-◌, ◌^◌, ◌≤◌, ◌<◌}
 use native.Mathlib.Nat.{le_refl, add-zero, add-suc, zero-div, zero-mul}
-use native.Mathlib.Decide.{dec_lt}
 use native.Mathlib.Omega.{arith}
 use lib.Bits.{bit_or, or_zero_r}
-use lib.ListN.{length, get_or, set}
-use lib.Seq.{sets, set-get_or}
+use lib.ListN.{get_or, set}
+use lib.Seq.{set-get_or}
 use lib.IntN.{ℤ, pos}
 use lib.Signed.{shr_z}
 use mir.Syntax.{w64}
@@ -17,7 +16,6 @@ use Rattle.algebra.specs.Words.{fill_words, blocks}
 use Rattle.algebra.proofs.Blocks.{Writing, begin, long, rest, Same, block_in_lem, blocks-same, blocks_more}
 use Rattle.exact.specs.Exact.{is_zero}
 use Rattle.share.specs.Share.{or_words}
-use Rattle.overlaps.specs.Inner.Overlap.{number_in}
 use Rattle.overlaps.proofs.Numbers.{number_same}
 use Rattle.hermitian.specs.Inner.Sparse.{diagonal, Row, Sparse}
 

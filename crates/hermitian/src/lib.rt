@@ -16,7 +16,7 @@ ghost use Rattle.overlaps.specs.Inner.Overlap.{number_in};
 ghost use Rattle.hermitian.specs.Inner.Sparse.{diagonal, mirrored_at, Half, Column, Row, Sparse};
 
 use channel::layout::ENTRY;
-use exact::numerators::{common_zeros, least};
+use exact::numerators::common_zeros;
 use exact::ranges::all_zero;
 use overlaps::{read_number, write_number};
 use share::{or_more, shift_words};
@@ -48,14 +48,12 @@ fn mirror_column(s: &mut [i64], out: usize, w: usize, r: usize)
     if is_zero_row(s, out, w, r) {
         return;
     }
-    let mut c = 0;
-    while c < r {
+    for c in 0..r {
         write_conj(
             s,
             out + (c * w + r) * ENTRY,
             out + r * w * ENTRY + c * ENTRY,
         );
-        c += 1;
     }
 }
 
@@ -64,10 +62,8 @@ pub fn mirror(s: &mut [i64], out: usize, w: usize)
     requires { Half s.old out w }
     ensures { s.new ≡ with_numerators s.old out (w * w) (mirrored_at s.old out w) }
 {
-    let mut r = 0;
-    while r < w {
+    for r in 0..w {
         mirror_column(s, out, w, r);
-        r += 1;
     }
 }
 
@@ -90,10 +86,8 @@ fn or_rows(s: &[i64], at: usize, w: usize) -> i64
     ensures fit { (i : ℕ) → i < w * w * 4 → SFits w64 (get_or s.now (at + i) (pos 0)) }
 {
     let mut g = 0i64;
-    let mut r = 0;
-    while r < w {
+    for r in 0..w {
         g = or_row(s, at, w, r, g);
-        r += 1;
     }
     g
 }
@@ -114,10 +108,8 @@ fn shift_rows(s: &mut [i64], at: usize, w: usize, t: u32)
     requires { Sparse s.old at w × (t ≤ 63) }
     ensures { s.new ≡ fill_words s.old at (w * w * 4) (λ (i : ℕ). shr_z (get_or s.old (at + i) (pos 0)) (2 ^ t)) }
 {
-    let mut r = 0;
-    while r < w {
+    for r in 0..w {
         shift_row(s, at, w, r, t);
-        r += 1;
     }
 }
 
@@ -128,7 +120,7 @@ pub fn share_block(s: &mut [i64], at: usize, w: usize, e: u32) -> u32
     ensures numerators { s.new ≡ with_numerators s.old at (w * w) (shared_from s.old at (w * w) e).num }
 {
     let g = or_rows(s, at, w);
-    let t = least(common_zeros(g, 0, 0, 0), e);
+    let t = common_zeros(g, 0, 0, 0).min(e);
     shift_rows(s, at, w, t);
     e - t
 }

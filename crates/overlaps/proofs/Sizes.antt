@@ -1,18 +1,15 @@
 -- Sizes of factors over one power of two, and of their products; a zero adds nothing.
-use mathlib.Core.Path.{◌≡◌, sym, ap, ◌∙◌, subst}
-use mathlib.Core.Bool.{true}
 use mathlib.Core.List.{List}
-use Prim.Native.Nat.{ℕ, ◌+◌, ◌*◌, ◌-◌, ◌^◌, ◌≤◌}
+use Prim.Native.Nat.{ℕ, ◌+◌, ◌*◌, ◌^◌, ◌≤◌}
 use native.Mathlib.Nat.{le_trans, le_of_eq}
 use native.Mathlib.Omega.{arith}
 use lib.Dec.{lit≤}
 use lib.IntN.{ℤ}
-use lib.Pow.{pow_mono}
 use Rattle.algebra.specs.Quadratic.{conjugate}
 use Rattle.algebra.specs.Dyadic.{frac}
 use Rattle.algebra.proofs.Parts.{abs_neg}
 use Rattle.exact.specs.Exact.{Number, numbers, root2, narrow_exponent, narrow_numerator, max_numerator}
-use Rattle.exact.specs.Inner.Sizes.{Within, room_numerator, room_exponent}
+use Rattle.exact.specs.Inner.Sizes.{Within, room_numerator}
 use Rattle.exact.proofs.Align.{widen, power-within, raised, product-within, small}
 use Rattle.cells.specs.Cells.{cell_at}
 use Rattle.overlaps.specs.Inner.Overlap.{raised_at, Raised}

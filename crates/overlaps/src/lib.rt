@@ -16,11 +16,7 @@ pub fn read_number(s: &[i64], at: usize) -> [i64; 4]
     requires { at + 4 ≤ length s.now }
     ensures { result ≡ list_of (number_in s.now at) }
 {
-    let a = s[at];
-    let b = s[at + 1];
-    let c = s[at + 2];
-    let d = s[at + 3];
-    [a, b, c, d]
+    [s[at], s[at + 1], s[at + 2], s[at + 3]]
 }
 
 // Write numerators to `at`.
@@ -28,14 +24,10 @@ pub fn write_number(s: &mut [i64], at: usize, x: [i64; 4])
     requires { at + 4 ≤ length s.old }
     ensures { s.new ≡ sets s.old at (list_of (number_of x)) }
 {
-    let a = x[0];
-    let b = x[1];
-    let c = x[2];
-    let d = x[3];
-    s[at] = a;
-    s[at + 1] = b;
-    s[at + 2] = c;
-    s[at + 3] = d;
+    s[at] = x[0];
+    s[at + 1] = x[1];
+    s[at + 2] = x[2];
+    s[at + 3] = x[3];
 }
 
 // The numerators of the scalar at q, over 2^e.
@@ -44,11 +36,10 @@ fn read_scaled(s: &[i64], q: usize, e: u32) -> [i64; 4]
     ensures { result ≡ list_of (raised_at e s.now q) }
 {
     let v = read_cell(s, q);
-    let n = v.n;
-    scaled4(n, e - v.e)
+    scaled4(v.n, e - v.e)
 }
 
-// Add x times the conjugate of the scalar at q of `work`, over 2^e, to the numerators at `at` of `result`; a zero is passed over.
+// Add x times the conjugate of the scalar at q of `work`, over 2^e, to the numerators at `at` of `res`; a zero is passed over.
 fn add_number(res: &mut [i64], at: usize, x: [i64; 4], work: &[i64], q: usize, e: u32)
     requires { Adding res.old at (number_of x) work.now q e }
     ensures { res.new ≡ sets res.old at (list_of (added res.old at (number_of x) e work.now q)) }
@@ -56,14 +47,12 @@ fn add_number(res: &mut [i64], at: usize, x: [i64; 4], work: &[i64], q: usize, e
     if zero_at(work, q) {
         return;
     }
-    let y = read_scaled(work, q, e);
-    let p = conj_product(x, y);
-    let acc = read_number(res, at);
-    let v = sum4(acc, p);
+    let p = conj_product(x, read_scaled(work, q, e));
+    let v = sum4(read_number(res, at), p);
     write_number(res, at, v);
 }
 
-// Add the scalar at p of `work` times the conjugates of the n scalars from k on, over 2^e, to the n numbers from `to` on of `result`; a zero is passed over.
+// Add the scalar at p of `work` times the conjugates of the n scalars from k on, over 2^e, to the n numbers from `to` on of `res`; a zero is passed over.
 fn add_row(res: &mut [i64], to: usize, work: &[i64], p: usize, k: usize, n: usize, e: u32)
     requires { Row res.old to work.now p k n e }
     ensures { res.new ≡ with_numerators res.old to n (row_added res.old to work.now p k e) }
@@ -72,22 +61,18 @@ fn add_row(res: &mut [i64], to: usize, work: &[i64], p: usize, k: usize, n: usiz
         return;
     }
     let x = read_scaled(work, p, e);
-    let mut c = 0;
-    while c < n {
+    for c in 0..n {
         add_number(res, to + c * ENTRY, x, work, k + c * CELL, e);
-        c += 1;
     }
 }
 
-// Add entry r times the conjugate of entry c of the w scalars from k on of `work`, over 2^e, to entry (r, c) of the block at `out` of `result`, on and above the diagonal.
+// Add entry r times the conjugate of entry c of the w scalars from k on of `work`, over 2^e, to entry (r, c) of the block at `out` of `res`, on and above the diagonal.
 pub fn add_upper(res: &mut [i64], out: usize, work: &[i64], k: usize, w: usize, e: u32)
     requires { Upper res.old out work.now k w e }
     ensures { res.new ≡ with_numerators res.old out (w * w) (upper_added res.old out work.now k w e) }
 {
-    let mut r = 0;
-    while r < w {
+    for r in 0..w {
         let p = k + r * CELL;
         add_row(res, out + (r * w + r) * ENTRY, work, p, p, w - r, e);
-        r += 1;
     }
 }

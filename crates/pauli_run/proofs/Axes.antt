@@ -1,18 +1,17 @@
 -- A row of p·1 + q·A times a matrix is a sum of two of its rows, where the axis A has a mask form.
-use mathlib.Core.Path.{◌≡◌, refl, sym, ap, ap₂, ◌∙◌}
+use mathlib.Core.Path.{◌≡◌, sym, ap, ap₂, ◌∙◌}
 use mathlib.Core.Logic.{◌≢◌}
 use mathlib.Core.Bool.{true}
-use Prim.Native.Nat.{ℕ, ◌+◌, ◌*◌, ◌^◌, ◌≤◌, ◌<◌}
-use native.Mathlib.Omega.{arith}
-use lib.Bits.{bit_and, bit_xor, xor_lt}
-use Rattle.algebra.specs.Sum.{sum, times, δ}
+use Prim.Native.Nat.{ℕ, ◌^◌, ◌≤◌, ◌<◌}
+use lib.Bits.{bit_xor, xor_lt}
+use Rattle.algebra.specs.Sum.{times, δ}
 use Rattle.algebra.proofs.Semi.{zero-mul, add-mul}
 use Rattle.algebra.proofs.Sum.{sum_same, sum_one, sum-add}
 use Rattle.algebra.proofs.Adjoint.{δ-same, δ-apart}
 use Rattle.exact.specs.Exact.{Exact, exact, is_lowest}
 use Rattle.exact.proofs.Exact.{exacts, one-by}
 use Rattle.gate.specs.Embedding.{Matrix, Equal}
-use Rattle.pauli_nodes.specs.Inner.Masks.{Mask, parity, mask_matrix}
+use Rattle.pauli_nodes.specs.Inner.Masks.{Mask, mask_matrix}
 use Rattle.pauli_nodes.specs.Inner.Laws.{InRange}
 use Rattle.pauli_nodes.proofs.Computed.{small, xor_back}
 use Rattle.pauli_nodes.proofs.Products.{mask-own, mask-other}

@@ -28,9 +28,10 @@ use Rattle.pauli_nodes.specs.Inner.Masks.{Mask}
 use Rattle.pauli_words.specs.Words.{operation_of, operation_formed}
 use Rattle.pauli_program.specs.Operators.{Coefficients, turn_by, onto}
 use Rattle.pauli_steps.specs.Inner.Rows.{pair_of, axis_row}
-use Rattle.pauli_steps.specs.Inner.Step.{Step, step_words}
+use Rattle.branches.specs.Inner.Step.{Step, operator_number, step_words}
+use Rattle.branches.proofs.Steps.{bit_is}
 use Rattle.pauli_steps.proofs.Tables.{Small, turn_small, onto-small}
-use Rattle.pauli_run.specs.Inner.Operators.{coefficients_of, shift_of, bit_of, mask_of, rows_words, with_rows, stepped}
+use Rattle.pauli_run.specs.Inner.Operators.{chosen, coefficients_of, shift_of, bit_of, mask_of, rows_words, with_rows, stepped}
 use Rattle.pauli_run.specs.Inner.Run.{Operating}
 use Rattle.pauli_run.proofs.Paths.{Seen}
 
@@ -196,12 +197,15 @@ module _ {l : List ℤ} {ms : List ℕ} {g : Gate} {made slots from to d count :
   words_are : k ≡ with_rows l slots d (mask_of ms g) (operation_of g)
   words_are = f ∙ ap (λ (m : Mask). with_rows l slots d m (operation_of g)) e
 
-  pub operating_ready : Step k m.x slots shift ops from to d count
+  pub operating_ready : Step k m.x slots (d * row_size) 2 (operator_number shift 1) ops from to d count
   operating_ready =
-      subst (λ (k : List ℤ). Step k m.x slots shift ops from to d count) (sym words_are)
-      (subst (λ (m : Mask). Step (with_rows l slots d (mask_of ms g) (operation_of g)) m.x slots shift ops from to d count) (sym e)
-      (subst₂ (λ (shift ops : ℕ). Step (with_rows l slots d (mask_of ms g) (operation_of g)) (mask_of ms g).x slots shift ops from to d count) (sym s) (sym q) p.ready))
+      subst (λ (v : ℕ → ℕ). Step k m.x slots (d * row_size) 2 v ops from to d count) (sym (bit_is shift))
+      (subst (λ (k : List ℤ). Step k m.x slots (d * row_size) 2 (chosen shift) ops from to d count) (sym words_are)
+      (subst (λ (m : Mask). Step (with_rows l slots d (mask_of ms g) (operation_of g)) m.x slots (d * row_size) 2 (chosen shift) ops from to d count) (sym e)
+      (subst₂ (λ (shift ops : ℕ). Step (with_rows l slots d (mask_of ms g) (operation_of g)) (mask_of ms g).x slots (d * row_size) 2 (chosen shift) ops from to d count) (sym s) (sym q) p.ready)))
 
-  pub operating_done : {bit : ℕ} → bit ≡ bit_of (operation_of g) → {b : List ℤ} → b ≡ blocks (branch_size d) k to (count * ops) (step_words k m.x slots shift ops from d bit)
+  pub operating_done : {bit : ℕ} → bit ≡ bit_of (operation_of g) → {b : List ℤ} → b ≡ blocks (branch_size d) k to (count * ops) (step_words k m.x slots (d * row_size) (operator_number shift 1) ops from d bit)
       → b ≡ stepped l slots d (mask_of ms g) made from to count (operation_of g)
-  operating_done h r = r ∙ (λ i. blocks (branch_size d) (words_are i) to (count * q i) (step_words (words_are i) (e i).x slots (s i) (q i) from d (h i)))
+  operating_done {bit} h r =
+      r ∙ ap (λ (v : ℕ → ℕ). blocks (branch_size d) k to (count * ops) (step_words k m.x slots (d * row_size) v ops from d bit)) (bit_is shift)
+      ∙ (λ i. blocks (branch_size d) (words_are i) to (count * q i) (step_words (words_are i) (e i).x slots (d * row_size) (chosen (s i)) (q i) from d (h i)))

@@ -1,24 +1,21 @@
 -- The paths of a program by their numbers: the outcomes of path j are the bits of j, the last one lowest; and which operator made it.
-use mathlib.Core.Path.{◌≡◌, refl, sym, ap, ap₂, ◌∙◌, subst}
-use mathlib.Core.Bool.{Bool, true, false, cond}
+use mathlib.Core.Path.{◌≡◌, refl, sym, ap, ◌∙◌, subst}
 use mathlib.Core.List.{List, [], ◌∷◌, ◌++◌, map, foldl}
-use Prim.Native.Nat.{ℕ, zero, suc, ◌+◌, ◌*◌, ◌-◌, ◌/◌, ◌%◌, ◌^◌, ◌≤◌, ◌<◌}
+use Prim.Native.Nat.{ℕ, zero, suc, ◌+◌, ◌*◌, ◌-◌, ◌/◌, ◌%◌, ◌^◌, ◌<◌}
 use native.Mathlib.Nat.{div-add-mod', div-lt_iff_lt-mul, mod-lt, div-one, div-div-eq-div-mul, pow-suc, mul_comm}
 use native.Mathlib.Decide.{dec_lt}
 use native.Mathlib.Omega.{arith}
-use lib.Dec.{eqb}
 use lib.Pow.{pow_pos}
 use lib.ListN.{length, get_or, length-append, get_or-append}
 use lib.Seq.{get_or-append-add}
 use Rattle.algebra.specs.Lists.{total}
 use Rattle.algebra.proofs.Lists.{concat_at}
-use Rattle.kraus.specs.Branch.{Branch, apply}
+use Rattle.kraus.specs.Branch.{apply}
 use Rattle.pauli_nodes.specs.Nodes.{Node}
 use Rattle.pauli_nodes.specs.Operations.{Operation, rotate, rotate_if, measure, splits}
 use Rattle.pauli_program.specs.Program.{Path, follow, ways, operation_step}
 use Rattle.pauli_program.proofs.Counting.{follow-length, step-length}
-use Rattle.pauli_steps.specs.Inner.Step.{chosen}
-use Rattle.pauli_run.specs.Inner.Operators.{operator_of, shift_of}
+use Rattle.pauli_run.specs.Inner.Operators.{chosen, operator_of, shift_of}
 
 -- the last s bits of j, the highest first
 abbrev pub outcomes_of : ℕ → ℕ → List ℕ

@@ -1,8 +1,8 @@
 -- A program run operation by operation: what holds of the buffer after i operations, what the next one may ask, and what it leaves.
 use mathlib.Core.Path.{◌≡◌, refl, sym, ap, ap₂, ◌∙◌, subst}
-use mathlib.Core.Bool.{Bool, true, cond}
+use mathlib.Core.Bool.{true, cond}
 use mathlib.Core.Logic.{◌⊎◌, inl, inr, ⊎_elim}
-use mathlib.Core.List.{List, [], ◌∷◌, ◌++◌, map, foldl, foldl-append}
+use mathlib.Core.List.{List, [], ◌∷◌, ◌++◌, map, foldl-append}
 use Prim.Native.Nat.{ℕ, zero, suc, ◌+◌, ◌*◌, ◌-◌, ◌/◌, ◌%◌, ◌^◌, ◌≤◌, ◌<◌}
 use native.Mathlib.Nat.{mul-le-mul, le_refl, le_of_eq, zero-add, div-lt_iff_lt-mul, mod-lt}
 use native.Mathlib.Numerals.{add-one}
@@ -25,7 +25,7 @@ use Rattle.algebra.proofs.Blocks.{Writing, wrote, kept, long, block_in_lem, sets
 use Rattle.exact.specs.Exact.{Exact, exact, is_lowest, max_exponent, narrow_exponent}
 use Rattle.exact.specs.Inner.Sizes.{Coords}
 use Rattle.exact.proofs.Sizes.{well_lowest}
-use Rattle.cells.specs.Cells.{cell_at, exponent_at, cells, cell_size}
+use Rattle.cells.specs.Cells.{cell_at, exponent_at, cell_size}
 use Rattle.cells.proofs.Cell.{length-cells, cells_same, block-cell, block-word, exponent_is}
 use Rattle.matrix.specs.Inner.Factors.{Factor}
 use Rattle.matrix.proofs.Terms.{row_lt, column_lt}
@@ -37,27 +37,26 @@ use Rattle.kraus.specs.Dense.{cell}
 use Rattle.kraus.specs.Branch.{Store, Branch, apply, start, write}
 use Rattle.kraus.proofs.Counting.{marked-bits}
 use Rattle.kraus.proofs.Limits.{Kraus, Enough, kraus_exponent}
-use Rattle.store.specs.Inner.Held.{Bits, StoreAt}
+use Rattle.store.specs.Inner.Held.{Bits}
 use Rattle.branches.specs.Inner.Store.{store_words, outcome_pair}
-use Rattle.branches.specs.Inner.Bank.{matrix_size, branch_size, branch_words, bank_words, identity_branch, Holds, row_size}
-use Rattle.branches.specs.Inner.Step.{row_sum}
+use Rattle.branches.specs.Inner.Bank.{branch_size, branch_words, bank_words, identity_branch, Holds, row_size}
+use Rattle.branches.specs.Inner.Step.{row_sum, step_words}
 use Rattle.branches.proofs.Banks.{length-branch, length-bank, held_same, held_blocks, bank-read, bank-low, bank_high, store_at, read_factor, table-cells}
 use Rattle.branches.proofs.Stores.{store-written}
 use Rattle.branches.proofs.Steps.{length-product}
 use Rattle.pauli_nodes.specs.Nodes.{Node, axis_matrix}
 use Rattle.pauli_nodes.specs.Operations.{Operation, rotate, rotate_if, measure, axis, bits, splits}
-use Rattle.pauli_nodes.specs.Inner.Masks.{Mask, parity, mask_matrix, node_mask, axis_mask}
+use Rattle.pauli_nodes.specs.Inner.Masks.{Mask, parity, mask_matrix, node_mask}
 use Rattle.pauli_nodes.specs.Inner.Laws.{InRange}
 use Rattle.pauli_nodes.proofs.Nodes.{axes_are_masks, masks_in-range}
 use Rattle.pauli_words.specs.Words.{operation_of, operations_of}
 use Rattle.pauli_program.specs.Operators.{mixed}
 use Rattle.pauli_program.specs.Program.{Path, operation_step, paths, program_branches}
-use Rattle.pauli_program.proofs.Counting.{step-length, path_count, program_count, program_marked}
+use Rattle.pauli_program.proofs.Counting.{step-length, program_count, program_marked}
 use Rattle.pauli_program.proofs.Whole.{program_enough}
 use Rattle.pauli_steps.specs.Inner.Rows.{axis_entry, axis_row}
-use Rattle.pauli_steps.specs.Inner.Step.{chosen, step_words}
 use Rattle.pauli_steps.proofs.Tables.{Small}
-use Rattle.pauli_run.specs.Inner.Operators.{coefficients_of, operator_of, shift_of, bit_of, mask_of, rows_words, with_rows, stepped}
+use Rattle.pauli_run.specs.Inner.Operators.{chosen, coefficients_of, operator_of, shift_of, bit_of, mask_of, rows_words, with_rows, stepped}
 use Rattle.pauli_run.specs.Inner.Run.{rows_size, run_size, Fits, Operating, Runs, Ran}
 use Rattle.pauli_run.proofs.Forms.{one_bit, splits_le, coefficients_small, own-lowest, seen_is}
 use Rattle.pauli_run.proofs.Axes.{partner_lt, row_is}
@@ -351,12 +350,15 @@ module _ {l₀ : List ℤ} {ws ms : List ℕ} {σ : Store} {n banks : ℕ} {node
       fits = fits;
       dim = pow_mono {i = n} {j = 5} r.sound.few;
       room = room;
+      shifted = shift_lt;
       ready = record {
         dim = pow_mono {i = n} {j = 5} r.sound.few;
-        shifted = shift_lt;
         below = partner_lt n r.sound.few m range A masked;
         some_op = pow_pos (splits o);
         few_ops = pow_mono {i = splits o} {j = 1} (splits_le o);
+        number = λ j hj. mod-lt (j / 2 ^ shift_of made o) (omega arith);
+        few_held = le_refl 2;
+        wide = le_refl (d * row_size);
         slots_room = omega (arith, long rows, room);
         own = λ v q hv hq. own_factor l slots d m o small room v q hv hq;
         other = λ v q hv hq. other_factor l slots d m o small room v q hv hq;
@@ -398,7 +400,7 @@ module _ {l₀ : List ℤ} {ws ms : List ℕ} {σ : Store} {n banks : ℕ} {node
         read c hc =
             ap (cell_at wide) (place_of (from + b * size) d c q) ∙ (bank-read d bs held_still zb b hb).number (c * d + q) (digits_lt hc hq)
 
-    step_words_lem : (j : ℕ) → j < length bs * ops → step_words wide m.x slots (shift_of made o) ops from d (bit_of o) j ≡ branch_words d (get_or (after (i + 1)) j zb)
+    step_words_lem : (j : ℕ) → j < length bs * ops → step_words wide m.x slots (d * row_size) (chosen (shift_of made o)) ops from d (bit_of o) j ≡ branch_words d (get_or (after (i + 1)) j zb)
     step_words_lem j hj =
         let v = chosen (shift_of made o) j in
         let hv : v < 2 = mod-lt (j / 2 ^ shift_of made o) (omega arith) in
@@ -436,7 +438,7 @@ module _ {l₀ : List ℤ} {ws ms : List ℕ} {σ : Store} {n banks : ℕ} {node
     }
       where
         words_of : ℕ → List ℤ
-        words_of = step_words wide m.x slots (shift_of made o) ops from d (bit_of o)
+        words_of = step_words wide m.x slots (d * row_size) (chosen (shift_of made o)) ops from d (bit_of o)
 
         after-step : Writing size wide to (count * ops) words_of q (count * ops)
         after-step = wrote (λ j. le_of_eq (length-product wide m.x _ _ d (bit_of o) (chosen (shift_of made o) j))) e

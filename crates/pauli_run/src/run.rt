@@ -1,6 +1,7 @@
 // A program's operations, run one after the other on the branches.
-ghost use Rattle.std.specs.Prelude.{◌≡◌, true, List, ◌*◌, ◌^◌, ◌<◌};
+ghost use Rattle.std.specs.Prelude.{◌≡◌, true, List, ◌*◌, ◌^◌, ◌<◌, unwrap_or};
 ghost use Rattle.gate.specs.Inner.Words.{gate_of};
+ghost use Rattle.branches.specs.Inner.Store.{no_bit};
 ghost use Rattle.pauli_nodes.specs.Nodes.{Node};
 ghost use Rattle.pauli_nodes.specs.Operations.{splits};
 ghost use Rattle.pauli_words.specs.Words.{operation_of, operation_formed};
@@ -8,10 +9,9 @@ ghost use Rattle.pauli_run.specs.Inner.Operators.{bit_of, shift_of, mask_of, ste
 ghost use Rattle.pauli_run.specs.Inner.Run.{Operating, Runs, RanAll};
 
 use super::operators::write_operators;
-use branches::bank::{branch_size, start_branch};
+use branches::bank::{Operators, ROW, branch_size, start_branch, step};
 use gate::GATE;
 use gate::judge::{GateWords, read_gate};
-use pauli_steps::step::step;
 use pauli_words::masks::turn;
 use pauli_words::operations::{MEASURE_INTO, ROTATE_IF, splits_of};
 
@@ -26,15 +26,16 @@ fn shift_of(w: GateWords, made: u32) -> u32
     0
 }
 
-// A bit that no store has.
-const NO_BIT: u32 = 64;
-
-// The classical bit that an operation writes.
-fn bit_of(w: GateWords) -> u32
+// The classical bit that an operation writes, if it writes one.
+fn bit_of(w: GateWords) -> Option<u32>
     requires { operation_formed (gate_of w) ≡ true }
-    ensures { result ≡ bit_of (operation_of (gate_of w)) }
+    ensures { unwrap_or result no_bit ≡ bit_of (operation_of (gate_of w)) }
 {
-    if w.kind == MEASURE_INTO { w.c } else { NO_BIT }
+    if w.kind == MEASURE_INTO {
+        Some(w.c)
+    } else {
+        None
+    }
 }
 
 // Send the `count` branches at `from` to their products with the operators of an operation; answers how many they are.
@@ -54,11 +55,16 @@ fn step_operation(
 {
     let m = turn(w.b, masks[w.a as usize]);
     write_operators(work, slots, d, w, m);
-    let shift = shift_of(w, made);
+    let operators = Operators {
+        slots,
+        stride: d * ROW,
+        shift: shift_of(w, made),
+        mask: 1,
+    };
     let bit = bit_of(w);
     let ops = (splits_of(w) + 1) as usize;
     let x = (m / 128 % 32) as usize;
-    step(work, x, slots, shift, ops, from, to, d, count, bit);
+    step(work, x, operators, ops, from, to, d, count, bit);
     count * ops
 }
 
@@ -82,14 +88,12 @@ pub fn run_operations(
     let mut from = 0;
     let mut count = 1;
     let mut made = 0;
-    let mut i = 0;
-    while i < total {
+    for i in 0..total {
         let w = read_gate(operations, i * GATE);
         let to = bank - from;
         count = step_operation(work, w, masks, made, slots, from, to, d, count);
         made += splits_of(w);
         from = to;
-        i += 1;
     }
     from
 }

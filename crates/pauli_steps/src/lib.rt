@@ -1,6 +1,5 @@
-// The operations of Pauli programs, on branches in the work words.
+// The operators of Pauli programs by their rows, in the work words.
 #![tactic(auto)]
 
 pub mod coefficients;
 pub mod rows;
-pub mod step;

@@ -36,6 +36,7 @@ fn signed(plus: Scalar, minus: Scalar, z: usize, c: usize) -> Scalar
 }
 
 // Write the two entries of each of d rows to `at` on.
+// Kept: gate::rows::write_rows writes two entries a row as well; one function for both takes a closure for the pair of a row, with a contract over all pairs that it may give, which is no plainer than the two loops.
 pub fn axis_rows(
     buf: &mut [i64],
     at: usize,
@@ -51,13 +52,11 @@ pub fn axis_rows(
 {
     let plus = turn(q, t);
     let minus = turn(q, t + 2);
-    let mut r = 0;
-    while r < d {
+    for r in 0..d {
         let y = signed(plus, minus, z, r ^ x);
         let to = at + r * 2 * CELL;
         let next = at + (r * 2 + 1) * CELL;
         write_cell(buf, to, p);
         write_cell(buf, next, y);
-        r += 1;
     }
 }

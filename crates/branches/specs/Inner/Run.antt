@@ -1,5 +1,5 @@
 -- Circuits run in a work buffer: two banks of `banks` branches each, then two operators; each gate reads one bank and writes the other.
-use Rattle.std.specs.Prelude.{◌≡◌, true, List, ℕ, ◌+◌, ◌*◌, ◌^◌, ◌≤◌, length, get_or, ℤ, pos}
+use Rattle.std.specs.Prelude.{◌≡◌, true, List, ℕ, ◌+◌, ◌*◌, ◌%◌, ◌^◌, ◌≤◌, length, get_or, ℤ, pos}
 use Rattle.algebra.specs.Lists.{every, total}
 use Rattle.algebra.specs.Words.{blocks}
 use Rattle.cells.specs.Cells.{cells}
@@ -31,7 +31,7 @@ with_operators l slots n d g = blocks (branch_size d) l slots (length (operators
 abbrev pub gate_stepped : List ℤ → ℕ → ℕ → ℕ → ℕ → ℕ → ℕ → Gate → List ℤ
 gate_stepped l slots n d from to count g =
     let m = with_operators l slots n d g in
-    blocks (branch_size d) m to (count * length (operators g)) (step_words m (flips n g) slots (length (operators g)) from d (outcome_bit g))
+    blocks (branch_size d) m to (count * length (operators g)) (step_words m (flips n g) slots (branch_size d) (λ (j : ℕ). j % length (operators g)) (length (operators g)) from d (outcome_bit g))
 
 -- a gate that passes the questions, and two slots for the rows of its operators
 pub record Slots (l : List ℤ) (slots n d : ℕ) (g : Gate) : Type 0 where
@@ -45,7 +45,7 @@ pub record Slots (l : List ℤ) (slots n d : ℕ) (g : Gate) : Type 0 where
 pub record GateStep (l : List ℤ) (ws : List ℕ) (at slots n d from to count : ℕ) : Type 0 where
   pub gate_room : at + gate_size ≤ length ws
   pub slots_ready : Slots l slots n d (gate_at ws at)
-  pub ready : Step (with_operators l slots n d (gate_at ws at)) (flips n (gate_at ws at)) slots (length (operators (gate_at ws at))) from to d count
+  pub ready : Step (with_operators l slots n d (gate_at ws at)) (flips n (gate_at ws at)) slots (branch_size d) (length (operators (gate_at ws at))) (λ (j : ℕ). j % length (operators (gate_at ws at))) (length (operators (gate_at ws at))) from to d count
 
 -- ---- all gates
 -- a circuit that passed the questions

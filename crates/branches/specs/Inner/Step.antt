@@ -1,6 +1,6 @@
 -- One gate applied to all branches of a bank, as words.
-use Rattle.std.specs.Prelude.{◌≡◌, true, List, ◌++◌, ℕ, ◌+◌, ◌*◌, ◌/◌, ◌%◌, ◌<◌, ◌≤◌, length, ℤ}
-use Rattle.std.specs.Int.Bits.{bit_xor}
+use Rattle.std.specs.Prelude.{◌≡◌, true, List, ◌++◌, ℕ, ◌+◌, ◌*◌, ◌/◌, ◌%◌, ◌^◌, ◌<◌, ◌≤◌, length, ℤ}
+use Rattle.std.specs.Int.Bits.{bit_and, bit_xor}
 use Rattle.algebra.specs.Sum.{times}
 use Rattle.algebra.specs.Inner.Apart.{Apart}
 use Rattle.exact.specs.Exact.{Exact, exact, is_lowest}
@@ -51,21 +51,27 @@ pub record RowsAt (l : List ℤ) (at n : ℕ) (g : Gate) (j d : ℕ) : Type 0 wh
 abbrev pub product_words : List ℤ → ℕ → ℕ → ℕ → ℕ → ℕ → ℕ → List ℤ
 product_words l m op old d bit v = cells (d * d) (λ (i : ℕ). row_sum l m op old d (i / d) (i % d)) ++ outcome_words l (old + matrix_size d) bit v
 
--- branch j of the step is branch j / ops times operator j % ops
-abbrev pub step_words : List ℤ → ℕ → ℕ → ℕ → ℕ → ℕ → ℕ → ℕ → List ℤ
-step_words l m slots ops from d bit j = product_words l m (slots + j % ops * branch_size d) (from + j / ops * branch_size d) d bit (j % ops)
+-- the number of the operator of product j: of j's bits from `shift` on those that `mask` has
+abbrev pub operator_number : ℕ → ℕ → ℕ → ℕ
+operator_number shift mask j = bit_and (j / 2 ^ shift) mask
 
--- what a step asks: one or two operators by their rows, `count` branches and a bank for their products, apart from each other
-pub record Step (l : List ℤ) (m slots ops from to d count : ℕ) : Type 0 where
+-- operators lie by their rows from slots on, `stride` words apart; branch j of the step is branch j / ops times operator v j
+abbrev pub step_words : List ℤ → ℕ → ℕ → ℕ → (ℕ → ℕ) → ℕ → ℕ → ℕ → ℕ → ℕ → List ℤ
+step_words l m slots stride v ops from d bit j = product_words l m (slots + v j * stride) (from + j / ops * branch_size d) d bit (v j)
+
+-- what a step asks: one or two such operators, `count` branches and a bank for their products, `ops` for each, apart from each other
+pub record Step (l : List ℤ) (m slots stride held : ℕ) (v : ℕ → ℕ) (ops from to d count : ℕ) : Type 0 where
   pub dim : d ≤ 32
   pub below : (r : ℕ) → r < d → bit_xor r m < d
   pub some_op : 1 ≤ ops
   pub few_ops : ops ≤ 2
-  pub wide : d * row_size ≤ branch_size d
-  pub slots_room : slots + ops * branch_size d ≤ length l
-  pub own : (v r : ℕ) → v < ops → r < d → Factor l (slots + v * branch_size d + r * row_size)
-  pub other : (v r : ℕ) → v < ops → r < d → Factor l (slots + v * branch_size d + r * row_size + cell_size)
-  pub slots_apart : Apart slots (ops * branch_size d) to (count * ops * branch_size d)
+  pub number : (j : ℕ) → j < count * ops → v j < held
+  pub few_held : held ≤ 2
+  pub wide : d * row_size ≤ stride
+  pub slots_room : slots + held * stride ≤ length l
+  pub own : (v r : ℕ) → v < held → r < d → Factor l (slots + v * stride + r * row_size)
+  pub other : (v r : ℕ) → v < held → r < d → Factor l (slots + v * stride + r * row_size + cell_size)
+  pub slots_apart : Apart slots (held * stride) to (count * ops * branch_size d)
   pub from_room : from + count * branch_size d ≤ length l
   pub to_room : to + count * ops * branch_size d ≤ length l
   pub from_apart : Apart from (count * branch_size d) to (count * ops * branch_size d)

@@ -1,4 +1,4 @@
--- `collect::deliver` meets its contract.
+-- `deliver` meets its contract.
 use Rattle.collect.proofs.Delivering.{collected-records, relinked_records, channel_delivered}
 use Rattle.collect.proofs.deliver.Goals as goal
 

@@ -117,13 +117,6 @@ pub record Branch (l : List ℤ) (at d j : ℕ) : Type 0 where
 abbrev pub Branches : List ℤ → ℕ → ℕ → ℕ → Type 0
 Branches l at d b = (j : ℕ) → j ≤ b → Branch l at d j
 
--- r is the first number from b on, and before n, that passes; n where none does
-pub record Found (p : ℕ → Bool) (b n r : ℕ) : Type 0 where
-  pub low : b ≤ r
-  pub high : r ≤ n
-  pub passed : (i : ℕ) → b ≤ i → i < r → p i ≡ false
-  pub here : r < n → p r ≡ true
-
 -- what a bank of n branches has to be: its entries are factors, and the sums of their overlaps stay small
 pub record Bank (l : List ℤ) (at d n : ℕ) : Type 0 where
   pub dim : d ≤ 16

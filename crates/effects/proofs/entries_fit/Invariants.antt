@@ -1,7 +1,7 @@
 -- `entries_fit` meets its contract.
 use mathlib.Core.Path.{◌≡◌}
 use mathlib.Core.Bool.{true}
-use Prim.Native.Nat.{ℕ, ◌*◌, ◌-◌, ◌≤◌}
+use Prim.Native.Nat.{ℕ}
 use Rattle.algebra.specs.Lists.{all_below}
 use Rattle.exact.specs.Exact.{within, max_numerator}
 use Rattle.channel.specs.Shared.{scaled}
@@ -9,7 +9,4 @@ use Rattle.effects.specs.Effects.{effect_at}
 use Rattle.effects.proofs.entries_fit.Given as goal
 
 abbrev pub invariant-loop-i : goal.invariant-loop-i
-invariant-loop-i l = (l.i ≤ l.d * l.d) × (all_below l.i (λ (k : ℕ). within max_numerator (scaled l.e (effect_at l.s l.at l.d k))) ≡ true)
-
-abbrev pub decreases-loop-i : goal.decreases-loop-i
-decreases-loop-i l = l.d * l.d - l.i
+invariant-loop-i l = all_below l.i (λ (k : ℕ). within max_numerator (scaled l.e (effect_at l.s l.at l.d k))) ≡ true

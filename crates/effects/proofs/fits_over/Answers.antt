@@ -1,5 +1,5 @@
 -- `fits_over` meets its contract: the bound is shifted, not the numerators.
-use mathlib.Core.Path.{◌≡◌, refl, ap, ◌∙◌}
+use mathlib.Core.Path.{◌≡◌, ap, ◌∙◌}
 use Prim.Native.Nat.{ℕ, ◌-◌, ◌/◌, ◌^◌}
 use native.Mathlib.Nat.{div-le_self, lt_of_le_of_lt}
 use lib.Dec.{lit<}
@@ -15,9 +15,6 @@ use Rattle.effects.proofs.fits_over.Goals as goal
 -- `MAX_NUMERATOR >> d`
 shifted : (d : ℕ) → to_z w64 (max_numerator / 2 ^ d) ≡ pos (max_numerator / 2 ^ d)
 shifted d = to_z_pos w64 (lt_of_le_of_lt (div-le_self max_numerator (2 ^ d)) (lit< tt))
-
-pub are_within-requires : goal.are_within-requires
-are_within-requires c = let s = c.args in rw (shifted (s.e - s.x.e)) refl
 
 pub returns : goal.returns
 returns c =

@@ -14,16 +14,8 @@ use Rattle.channel.specs.Recast.{relink}
 use Rattle.store.proofs.Words.{Casts, read, fits-abs}
 use Rattle.effects.proofs.Summing.{dim_square}
 use Rattle.effects.proofs.Linking.{zero_word, link_start, relink-at, record_less, link_less}
-use Rattle.effects.proofs.relinked.Lts as lts
-use Rattle.effects.proofs.relinked.Reads as reads
-use Rattle.effects.proofs.relinked.Tie as tie
 use Rattle.effects.proofs.relinked.Goals as goal
-
-abbrev Else-z-eq0 : Type 0
-Else-z-eq0 = lts.Else1 tie.the-claims reads.Pre reads.Post
-
-abbrev After-record_size : Type 0
-After-record_size = lts.After-record_size2 tie.the-claims reads.Pre reads.Post
+use Rattle.effects.proofs.relinked.Goals.{Else-z-eq0, After-record_size}
 
 starts : (c : Else-z-eq0) → T (non_neg c.args.z) × (header_size ≤ nat_abs c.args.z)
 starts c = link_start c.args.d c.args.z c.ranges.z c.requires c.if-z-eq0.false

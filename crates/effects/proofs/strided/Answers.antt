@@ -4,12 +4,8 @@ use native.Mathlib.Omega.{arith}
 use Rattle.effects.specs.Inner.Strides.{strided}
 use Rattle.effects.proofs.Summing.{dim_square}
 use Rattle.effects.proofs.Strides.{strided_below}
-use Rattle.effects.proofs.strided.Lts as lts
-use Rattle.effects.proofs.strided.Reads as reads
 use Rattle.effects.proofs.strided.Goals as goal
-
-abbrev Start : Type 0
-Start = lts.Start reads.Pre reads.Post
+use Rattle.effects.proofs.strided.Goals.{Start}
 
 small : (c : Start) → strided c.args.d c.args.rows c.args.cols c.args.i ≤ 256
 small c =

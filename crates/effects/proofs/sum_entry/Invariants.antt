@@ -1,11 +1,7 @@
 -- `sum_entry` meets its contract.
-use Prim.Native.Nat.{◌-◌}
 use Rattle.effects.specs.Effects.{term}
 use Rattle.effects.proofs.Summing.{Summed}
 use Rattle.effects.proofs.sum_entry.Given as goal
 
 abbrev pub invariant-loop-o : goal.invariant-loop-o
-invariant-loop-o l = Summed (term l.s l.at l.d l.i) l.d l.o l.acc
-
-abbrev pub decreases-loop-o : goal.decreases-loop-o
-decreases-loop-o l = l.d - l.o
+invariant-loop-o l = Summed (term l.s l.at l.d l.i) l.o l.acc

@@ -4,12 +4,8 @@ use native.Mathlib.Omega.{arith}
 use lib.Arith.{digits_lt}
 use Rattle.channel.specs.Layout.{side, effect_place}
 use Rattle.effects.proofs.Summing.{place_below, dim_square, dim_fourth}
-use Rattle.effects.proofs.term_place.Lts as lts
-use Rattle.effects.proofs.term_place.Reads as reads
 use Rattle.effects.proofs.term_place.Goals as goal
-
-abbrev Start : Type 0
-Start = lts.Start reads.Pre reads.Post
+use Rattle.effects.proofs.term_place.Goals.{Start}
 
 row : (c : Start) → c.args.o * c.args.d + c.args.r < c.args.d * c.args.d
 row c = digits_lt c.requires.1.1.1 c.requires.1.0

@@ -1,13 +1,10 @@
 -- `terms_fit` meets its contract.
 use mathlib.Core.Path.{◌≡◌}
 use mathlib.Core.Bool.{true}
-use Prim.Native.Nat.{ℕ, ◌*◌, ◌-◌, ◌≤◌}
+use Prim.Native.Nat.{ℕ}
 use Rattle.algebra.specs.Lists.{all_below}
 use Rattle.effects.specs.Effects.{term, partials_fit}
 use Rattle.effects.proofs.terms_fit.Given as goal
 
 abbrev pub invariant-loop-i : goal.invariant-loop-i
-invariant-loop-i l = (l.i ≤ l.d * l.d) × (all_below l.i (λ (k : ℕ). partials_fit l.d (term l.s l.at l.d k)) ≡ true)
-
-abbrev pub decreases-loop-i : goal.decreases-loop-i
-decreases-loop-i l = l.d * l.d - l.i
+invariant-loop-i l = all_below l.i (λ (k : ℕ). partials_fit l.d (term l.s l.at l.d k)) ≡ true

@@ -15,16 +15,8 @@ use Rattle.channel.specs.Layout.{effects, block_words}
 use Rattle.effects.specs.Inner.Strides.{strided_at}
 use Rattle.effects.proofs.Entries.{terms_fit_lem, exponent_small, numbers-block}
 use Rattle.effects.proofs.Strides.{strided-words}
-use Rattle.effects.proofs.write_block.Lts as lts
-use Rattle.effects.proofs.write_block.Reads as reads
-use Rattle.effects.proofs.write_block.Tie as tie
 use Rattle.effects.proofs.write_block.Goals as goal
-
-abbrev After-effect_exponent-e : Type 0
-After-effect_exponent-e = lts.After-effect_exponent tie.the-claims reads.Pre reads.Post
-
-abbrev Start : Type 0
-Start = lts.Start tie.the-claims reads.Pre reads.Post
+use Rattle.effects.proofs.write_block.Goals.{After-effect_exponent-e, Start}
 
 -- the exponent as a word
 module _ (c : After-effect_exponent-e) where

@@ -1,5 +1,5 @@
 -- `write_entries` meets its contract.
-use Prim.Native.Nat.{ℕ, ◌*◌, ◌-◌}
+use Prim.Native.Nat.{ℕ, ◌*◌}
 use Rattle.algebra.proofs.Blocks.{Writing}
 use Rattle.exact.specs.Exact.{list_of}
 use Rattle.channel.specs.Shared.{scaled}
@@ -8,6 +8,3 @@ use Rattle.effects.proofs.write_entries.Given as goal
 
 abbrev pub invariant-loop-i : goal.invariant-loop-i
 invariant-loop-i l = Writing 4 l.initial.res l.out (l.d * l.d) (λ (k : ℕ). list_of (scaled l.e (strided_at l.rows l.cols l.s l.at l.d k))) l.res l.i
-
-abbrev pub decreases-loop-i : goal.decreases-loop-i
-decreases-loop-i l = l.d * l.d - l.i

@@ -13,13 +13,8 @@ use Rattle.effects.specs.Inner.Readable.{Readable}
 use Rattle.effects.specs.Inner.Strides.{strided_at}
 use Rattle.effects.proofs.Summing.{dim_square}
 use Rattle.effects.proofs.Records.{record_length}
-use Rattle.effects.proofs.write_records.Lts as lts
-use Rattle.effects.proofs.write_records.Reads as reads
-use Rattle.effects.proofs.write_records.Tie as tie
 use Rattle.effects.proofs.write_records.Goals as goal
-
-abbrev In-loop-j : Type 0
-In-loop-j = lts.In-loop tie.the-claims reads.Pre reads.Post goal.the-invariant-loop-j goal.the-decreases-loop-j
+use Rattle.effects.proofs.write_records.Goals.{In-loop-j}
 
 module _ (c : In-loop-j) where
   abbrev j : ℕ
@@ -82,12 +77,6 @@ write_record-requires c =
       },
       room_for c.before,
     )
-
-pub overflow_add-j-in-loop-j-2 : goal.overflow_add-j-in-loop-j-2
-overflow_add-j-in-loop-j-2 c = omega arith
-
-pub loop-j-smaller : goal.loop-j-smaller
-loop-j-smaller c = omega arith
 
 pub loop-j-preserved : goal.loop-j-preserved
 loop-j-preserved c =

@@ -1,5 +1,5 @@
 -- `write_records` meets its contract.
-use Prim.Native.Nat.{ℕ, ◌-◌}
+use Prim.Native.Nat.{ℕ}
 use Rattle.algebra.proofs.Blocks.{Writing}
 use Rattle.channel.specs.Layout.{channels, effects, header_size, record_size, record_at}
 use Rattle.effects.specs.Effects.{effect_record}
@@ -9,6 +9,3 @@ use Rattle.effects.proofs.write_records.Given as goal
 abbrev pub invariant-loop-j : goal.invariant-loop-j
 invariant-loop-j l =
     Writing (record_size (effects l.d)) l.initial.res header_size l.n (λ (k : ℕ). effect_record (strided_at l.rows l.cols) l.s l.d (record_at (channels l.d) k)) l.res l.j
-
-abbrev pub decreases-loop-j : goal.decreases-loop-j
-decreases-loop-j l = l.n - l.j

@@ -1,6 +1,6 @@
 -- `or_rows` meets its contract: what is gathered so far is that of r rows.
 use mathlib.Core.Path.{◌≡◌}
-use Prim.Native.Nat.{ℕ, ◌+◌, ◌*◌, ◌-◌, ◌≤◌, ◌<◌}
+use Prim.Native.Nat.{ℕ, ◌+◌, ◌*◌, ◌≤◌, ◌<◌}
 use lib.ListN.{get_or}
 use lib.IntN.{pos}
 use mir.Syntax.{w64}
@@ -10,6 +10,3 @@ use Rattle.hermitian.proofs.or_rows.Given as goal
 
 abbrev pub invariant-loop-r : goal.invariant-loop-r
 invariant-loop-r l = (l.r ≤ l.w) × ((of_z w64 l.g ≡ or_words l.s l.at (l.r * l.w * 4)) × ((i : ℕ) → i < l.r * l.w * 4 → SFits w64 (get_or l.s (l.at + i) (pos 0))))
-
-abbrev pub decreases-loop-r : goal.decreases-loop-r
-decreases-loop-r l = l.w - l.r

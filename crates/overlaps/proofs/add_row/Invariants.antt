@@ -1,5 +1,5 @@
 -- `add_row` meets its contract.
-use Prim.Native.Nat.{ℕ, ◌-◌}
+use Prim.Native.Nat.{ℕ}
 use Rattle.algebra.proofs.Blocks.{Writing}
 use Rattle.exact.specs.Exact.{list_of}
 use Rattle.overlaps.specs.Inner.Overlap.{row_added}
@@ -7,6 +7,3 @@ use Rattle.overlaps.proofs.add_row.Given as goal
 
 abbrev pub invariant-loop-c : goal.invariant-loop-c
 invariant-loop-c l = Writing 4 l.initial.res l.to l.n (λ (i : ℕ). list_of (row_added l.initial.res l.to l.work l.p l.k l.e i)) l.res l.c
-
-abbrev pub decreases-loop-c : goal.decreases-loop-c
-decreases-loop-c l = l.n - l.c

@@ -1,11 +1,8 @@
 -- `add_upper` meets its contract.
-use Prim.Native.Nat.{◌-◌, ◌≤◌}
+use Prim.Native.Nat.{◌≤◌}
 use Rattle.overlaps.specs.Inner.Overlap.{upper_added}
 use Rattle.overlaps.proofs.Rows.{Rows}
 use Rattle.overlaps.proofs.add_upper.Given as goal
 
 abbrev pub invariant-loop-r : goal.invariant-loop-r
 invariant-loop-r l = (l.r ≤ l.w) × Rows l.initial.res l.out l.w (upper_added l.initial.res l.out l.work l.k l.w l.e) l.res l.r
-
-abbrev pub decreases-loop-r : goal.decreases-loop-r
-decreases-loop-r l = l.w - l.r

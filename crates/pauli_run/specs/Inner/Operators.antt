@@ -1,18 +1,18 @@
 -- The two operators of an operation, 0 and 1: of the two outcomes of a measure, or of a rotation after each; and the words of a step.
-use Rattle.std.specs.Prelude.{cond, List, ℕ, ◌+◌, ◌*◌, ◌-◌, ◌^◌, eqb, get_or, ℤ}
+use Rattle.std.specs.Prelude.{cond, List, ℕ, ◌*◌, ◌-◌, ◌/◌, ◌%◌, ◌^◌, eqb, get_or, ℤ}
 use Rattle.algebra.specs.Words.{blocks}
 use Rattle.cells.specs.Cells.{cells}
 use Rattle.gate.specs.Gate.{Gate}
 use Rattle.kraus.specs.Branch.{KrausOperator, write}
 use Rattle.branches.specs.Inner.Store.{no_bit}
 use Rattle.branches.specs.Inner.Bank.{branch_size, row_size}
+use Rattle.branches.specs.Inner.Step.{step_words}
 use Rattle.pauli_nodes.specs.Nodes.{Node, axis_matrix}
 use Rattle.pauli_nodes.specs.Operations.{Operation, rotate, rotate_if, measure, axis, bits, splits}
 use Rattle.pauli_nodes.specs.Inner.Masks.{Mask, turn_mask}
 use Rattle.pauli_words.specs.Inner.Masks.{unpacked}
 use Rattle.pauli_program.specs.Operators.{Coefficients, mixed, turn_by, onto}
 use Rattle.pauli_steps.specs.Inner.Rows.{axis_row}
-use Rattle.pauli_steps.specs.Inner.Step.{step_words}
 
 abbrev pub coefficients_of : Operation → ℕ → Coefficients
 coefficients_of (rotate a k) v = turn_by k
@@ -27,6 +27,10 @@ abbrev pub shift_of : ℕ → Operation → ℕ
 shift_of made (rotate a k) = 0
 shift_of made (rotate_if a k j) = made - 1 - j
 shift_of made (measure a bs) = 0
+
+-- the number of the operator of product j: that bit of j
+abbrev pub chosen : ℕ → ℕ → ℕ
+chosen shift j = j / 2 ^ shift % 2
 
 -- the classical bit that it writes
 abbrev pub bit_of : Operation → ℕ
@@ -48,4 +52,4 @@ with_rows l slots d m o = blocks (d * row_size) l slots 2 (rows_words d m o)
 abbrev pub stepped : List ℤ → ℕ → ℕ → Mask → ℕ → ℕ → ℕ → ℕ → Operation → List ℤ
 stepped l slots d m made from to count o =
     let k = with_rows l slots d m o in
-    blocks (branch_size d) k to (count * 2 ^ splits o) (step_words k m.x slots (shift_of made o) (2 ^ splits o) from d (bit_of o))
+    blocks (branch_size d) k to (count * 2 ^ splits o) (step_words k m.x slots (d * row_size) (chosen (shift_of made o)) (2 ^ splits o) from d (bit_of o))

@@ -5,14 +5,14 @@ use Rattle.gate.specs.Gate.{Gate, gate_at, gate_size, max_weight}
 use Rattle.kraus.specs.Branch.{Store}
 use Rattle.store.specs.Inner.Held.{Bits}
 use Rattle.branches.specs.Inner.Bank.{branch_size, bank_words, Holds, row_size}
+use Rattle.branches.specs.Inner.Step.{Step}
 use Rattle.pauli_nodes.specs.Nodes.{Node}
-use Rattle.pauli_nodes.specs.Operations.{Operation, axis, bits, splits, weight}
+use Rattle.pauli_nodes.specs.Operations.{axis, bits, splits, weight}
 use Rattle.pauli_nodes.specs.Inner.Masks.{axis_mask}
 use Rattle.pauli_words.specs.Words.{operation_of, operation_formed, operations_of}
 use Rattle.pauli_program.specs.Program.{program_branches}
 use Rattle.pauli_program.specs.Claims.{Sound}
-use Rattle.pauli_steps.specs.Inner.Step.{Step}
-use Rattle.pauli_run.specs.Inner.Operators.{shift_of, mask_of, with_rows}
+use Rattle.pauli_run.specs.Inner.Operators.{shift_of, chosen, mask_of, with_rows}
 
 -- the rows of two operators, where there is an operation
 abbrev pub rows_size : ℕ → ℕ → ℕ
@@ -35,7 +35,8 @@ pub record Operating (l : List ℤ) (ms : List ℕ) (g : Gate) (made slots from 
   pub fits : Fits ms made g
   pub dim : d ≤ 32
   pub room : slots + 2 * (d * row_size) ≤ length l
-  pub ready : Step (with_rows l slots d (mask_of ms g) (operation_of g)) (mask_of ms g).x slots (shift_of made (operation_of g)) (2 ^ splits (operation_of g)) from to d count
+  pub shifted : shift_of made (operation_of g) < 64
+  pub ready : Step (with_rows l slots d (mask_of ms g) (operation_of g)) (mask_of ms g).x slots (d * row_size) 2 (chosen (shift_of made (operation_of g))) (2 ^ splits (operation_of g)) from to d count
 
 -- ---- all operations
 -- a program with these nodes that passed the questions

@@ -1,36 +1,18 @@
 -- `apply_rows` meets its contract.
 use mathlib.Core.Path.{◌≡◌, sym, ap, ◌∙◌, subst}
 use Prim.Native.Nat.{ℕ, ◌+◌, ◌*◌, ◌≤◌, ◌<◌}
-use native.Mathlib.Nat.{mul-le-mul, le_refl}
 use native.Mathlib.Omega.{arith}
 use lib.ListN.{length}
 use Rattle.branches.specs.Inner.Bank.{row_size}
 use Rattle.exact.specs.Exact.{narrow_exponent}
-use Rattle.algebra.proofs.Blocks.{done, long, block_in_lem}
+use Rattle.algebra.proofs.Blocks.{long}
 use Rattle.exact.specs.Inner.Sizes.{Coords}
 use Rattle.scalar.specs.Calls.{value}
 use Rattle.cells.specs.Cells.{cell_at, cell_size}
 use Rattle.cells.proofs.Cell.{cell_same, exponent_same}
 use Rattle.branches.proofs.Products.{Applied, none_applied, own_same, other-same, scaling, applied_more}
-use Rattle.branches.proofs.apply.apply_rows.Lts as lts
-use Rattle.branches.proofs.apply.apply_rows.Reads as reads
-use Rattle.branches.proofs.apply.apply_rows.Tie as tie
 use Rattle.branches.proofs.apply.apply_rows.Goals as goal
-
-abbrev After-partner_row-s : Type 0
-After-partner_row-s = lts.After-partner_row tie.the-claims reads.Pre reads.Post goal.the-invariant-loop-r goal.the-decreases-loop-r
-
-abbrev In-loop-r : Type 0
-In-loop-r = lts.In-loop tie.the-claims reads.Pre reads.Post goal.the-invariant-loop-r goal.the-decreases-loop-r
-
-abbrev Start : Type 0
-Start = lts.Start tie.the-claims reads.Pre reads.Post goal.the-invariant-loop-r goal.the-decreases-loop-r
-
-abbrev After-read_cell-y : Type 0
-After-read_cell-y = lts.After-read_cell2 tie.the-claims reads.Pre reads.Post goal.the-invariant-loop-r goal.the-decreases-loop-r
-
-abbrev After-read_cell-x : Type 0
-After-read_cell-x = lts.After-read_cell tie.the-claims reads.Pre reads.Post goal.the-invariant-loop-r goal.the-decreases-loop-r
+use Rattle.branches.proofs.apply.apply_rows.Goals.{After-partner_row-s, In-loop-r, Start, After-read_cell-y, After-read_cell-x}
 
 pub loop-r-init : goal.loop-r-init
 loop-r-init c = let a = c.args in none_applied a.work.now a.m a.op a.old a.new a.d
@@ -49,17 +31,11 @@ module _ (u : After-partner_row-s) where
   taken : r < s.args.d
   taken = t.loop-r-test.true
 
-  row_in : (k : ℕ) → k < s.args.d → s.args.old + k * s.args.d * cell_size + s.args.d * cell_size ≤ length s.args.work.now
-  row_in k h = omega (arith, s.requires.old_room, block_in_lem h s.args.d)
-
   abbrev other : ℕ
   other = u.partner_row-s.result
 
   other_lt : other < s.args.d
   other_lt = subst (λ (k : ℕ). k < s.args.d) (sym u.partner_row-s.ensures) (s.requires.below r taken)
-
-  new_in : s.args.new + r * s.args.d * cell_size + s.args.d * cell_size ≤ length s.args.work.now
-  new_in = omega (arith, s.requires.new_room, block_in_lem taken s.args.d)
 
   entries_in : s.args.op + r * row_size + row_size ≤ length s.args.work.now
   entries_in = omega (arith, s.requires.op_room, taken)
@@ -79,48 +55,12 @@ partner_row-s-requires c =
     let first = p.below 0 (omega (arith, h)) in
     (omega (arith, h, d), omega (arith, first, d))
 
-pub overflow_mul-a : goal.overflow_mul-a
-overflow_mul-a c = omega (arith, entries_in c)
-
-pub overflow_add-a : goal.overflow_add-a
-overflow_add-a c = omega (arith, entries_in c)
-
-pub overflow_add-b : goal.overflow_add-b
-overflow_add-b c = omega (arith, entries_in c)
-
 pub read_cell-x-requires : goal.read_cell-x-requires
 read_cell-x-requires c = (omega (arith, entries_in c, same_size c), exponent_same (own_same (s c).requires (taken c) (inv c)) ∙ ((s c).requires.own (r c) (taken c)).exponent)
 
 pub read_cell-y-requires : goal.read_cell-y-requires
 read_cell-y-requires c =
     (omega (arith, entries_in c.before, same_size c.before), exponent_same (other-same (s c.before).requires (taken c.before) (inv c.before)) ∙ ((s c.before).requires.other (r c.before) (taken c.before)).exponent)
-
-pub overflow_mul-p : goal.overflow_mul-p
-overflow_mul-p c = omega (arith, row_in c.before.before (r c.before.before) (taken c.before.before))
-
-pub overflow_mul-p-in-loop-r : goal.overflow_mul-p-in-loop-r
-overflow_mul-p-in-loop-r c = omega (arith, row_in c.before.before (r c.before.before) (taken c.before.before))
-
-pub overflow_add-p : goal.overflow_add-p
-overflow_add-p c = omega (arith, row_in c.before.before (r c.before.before) (taken c.before.before))
-
-pub overflow_mul-q : goal.overflow_mul-q
-overflow_mul-q c = omega (arith, row_in c.before.before (other c.before.before) (other_lt c.before.before))
-
-pub overflow_mul-q-in-loop-r : goal.overflow_mul-q-in-loop-r
-overflow_mul-q-in-loop-r c = omega (arith, row_in c.before.before (other c.before.before) (other_lt c.before.before))
-
-pub overflow_add-q : goal.overflow_add-q
-overflow_add-q c = omega (arith, row_in c.before.before (other c.before.before) (other_lt c.before.before))
-
-pub overflow_mul-to : goal.overflow_mul-to
-overflow_mul-to c = omega (arith, new_in c.before.before)
-
-pub overflow_mul-to-in-loop-r : goal.overflow_mul-to-in-loop-r
-overflow_mul-to-in-loop-r c = omega (arith, new_in c.before.before)
-
-pub overflow_add-to : goal.overflow_add-to
-overflow_add-to c = omega (arith, new_in c.before.before)
 
 -- the two entries that were read
 module _ (y : After-read_cell-y) where
@@ -145,19 +85,7 @@ combine_rows-requires c =
       scaling p h (inv u) (other u) (other_lt u) (subst (Coords 1 narrow_exponent) (sym (partner_is c.before)) (p.other (r u) h).coords),
     )
 
-pub overflow_add-r : goal.overflow_add-r
-overflow_add-r c = omega arith
-
-pub loop-r-smaller : goal.loop-r-smaller
-loop-r-smaller c = omega arith
-
 pub loop-r-preserved : goal.loop-r-preserved
 loop-r-preserved c =
     let u = at c.before.before.before in
     applied_more (s u).requires (taken u) (inv u) (own_is c.before.before.before) (partner_is c.before.before.before) u.partner_row-s.ensures c.combine_rows.ensures
-
-pub shape_of-work : goal.shape_of-work
-shape_of-work c = long c.loop-r.invariant
-
-pub returns : goal.returns
-returns c = done c.loop-r.invariant (mul-le-mul c.loop-r-test.false (le_refl c.args.d))

@@ -1,10 +1,6 @@
 -- `apply_rows` meets its contract.
-use Prim.Native.Nat.{◌-◌}
 use Rattle.branches.proofs.Products.{Applied}
 use Rattle.branches.proofs.apply.apply_rows.Given as goal
 
 abbrev pub invariant-loop-r : goal.invariant-loop-r
 invariant-loop-r l = Applied l.initial.work l.m l.op l.old l.new l.d l.work l.r
-
-abbrev pub decreases-loop-r : goal.decreases-loop-r
-decreases-loop-r l = l.d - l.r

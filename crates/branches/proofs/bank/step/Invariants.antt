@@ -1,12 +1,13 @@
 -- `step` meets its contract.
-use Prim.Native.Nat.{◌*◌, ◌-◌}
+use Prim.Native.Nat.{◌*◌}
 use Rattle.algebra.proofs.Blocks.{Writing}
+use Rattle.std.specs.Prelude.{unwrap_or}
+use Rattle.branches.specs.Inner.Store.{no_bit}
 use Rattle.branches.specs.Inner.Bank.{branch_size}
-use Rattle.branches.specs.Inner.Step.{step_words}
+use Rattle.branches.specs.Inner.Step.{operator_number, step_words}
 use Rattle.branches.proofs.bank.step.Given as goal
 
 abbrev pub invariant-loop-j : goal.invariant-loop-j
-invariant-loop-j l = Writing (branch_size l.d) l.initial.work l.to (l.count * l.ops) (step_words l.initial.work l.m l.slots l.ops l.from l.d l.bit) l.work l.j
-
-abbrev pub decreases-loop-j : goal.decreases-loop-j
-decreases-loop-j l = l.count * l.ops - l.j
+invariant-loop-j l =
+    let o = l.operators in
+    Writing (branch_size l.d) l.initial.work l.to (l.count * l.ops) (step_words l.initial.work l.m o.slots o.stride (operator_number o.shift o.mask) l.ops l.from l.d (unwrap_or l.bit no_bit)) l.work l.j

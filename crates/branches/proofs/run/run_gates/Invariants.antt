@@ -1,12 +1,6 @@
 -- `run_gates` meets its contract.
-use Prim.Native.Nat.{◌-◌, ◌/◌}
-use lib.ListN.{length}
-use Rattle.gate.specs.Gate.{gate_size}
 use Rattle.branches.proofs.Runs.{Running}
 use Rattle.branches.proofs.run.run_gates.Given as goal
 
 abbrev pub invariant-loop-i : goal.invariant-loop-i
 invariant-loop-i l = Running l.initial.work l.gates l.store l.n l.d l.banks l.work l.from l.count l.i
-
-abbrev pub decreases-loop-i : goal.decreases-loop-i
-decreases-loop-i l = length l.gates / gate_size - l.i

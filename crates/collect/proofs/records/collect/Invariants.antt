@@ -1,10 +1,6 @@
--- `collect::records::collect` meets its contract.
-use Prim.Native.Nat.{◌-◌}
+-- `collect` meets its contract.
 use Rattle.collect.proofs.Recording.{Collected}
 use Rattle.collect.proofs.records.collect.Given as goal
 
 abbrev pub invariant-loop-b : goal.invariant-loop-b
 invariant-loop-b l = Collected l.initial.res l.work l.at l.d l.count l.res l.n l.b
-
-abbrev pub decreases-loop-b : goal.decreases-loop-b
-decreases-loop-b l = l.count - l.b

@@ -8,21 +8,9 @@ use Rattle.pauli_words.specs.Inner.Masks.{unpacked}
 use Rattle.pauli_run.proofs.Forms.{coefficients_small, other-small, rows_written}
 use Rattle.pauli_run.proofs.operators.write_operators.Goals as goal
 
-pub coefficients-a-requires : goal.coefficients-a-requires
-coefficients-a-requires c = c.requires.0
-
-pub coefficients-b-requires : goal.coefficients-b-requires
-coefficients-b-requires c = c.requires.0
-
 pub axis_rows-requires : goal.axis_rows-requires
 axis_rows-requires c =
     ((mod-lt (c.args.m / 4) (omega arith), mod-lt c.args.m (omega arith)), (omega (arith, c.requires.1.1), other-small c.coefficients-a.ensures (coefficients_small (gate_of c.args.w) c.requires.0 0)))
-
-pub overflow_mul-second : goal.overflow_mul-second
-overflow_mul-second c = omega (arith, c.requires.1.0)
-
-pub overflow_add-second : goal.overflow_add-second
-overflow_add-second c = omega (arith, c.requires.1.1)
 
 pub axis_rows-requires-2 : goal.axis_rows-requires-2
 axis_rows-requires-2 c =

@@ -1,8 +1,5 @@
 -- `run_operations` meets its contract.
 use mathlib.Core.List.{List}
-use Prim.Native.Nat.{◌-◌, ◌/◌}
-use lib.ListN.{length}
-use Rattle.gate.specs.Gate.{gate_size}
 use Rattle.pauli_nodes.specs.Nodes.{Node}
 use Rattle.pauli_run.specs.Inner.Run.{Runs}
 use Rattle.pauli_run.proofs.Running.{Running}
@@ -11,6 +8,3 @@ use Rattle.pauli_run.proofs.run.run_operations.Given as goal
 abbrev pub invariant-loop-i : goal.invariant-loop-i
 invariant-loop-i l =
     (nodes : List Node) → Runs l.initial.work l.operations l.masks l.store l.n l.d l.banks nodes → Running l.initial.work l.operations l.store l.n l.d l.banks nodes l.work l.from l.count l.made l.i
-
-abbrev pub decreases-loop-i : goal.decreases-loop-i
-decreases-loop-i l = length l.operations / gate_size - l.i

@@ -3,9 +3,6 @@ use native.Mathlib.Omega.{arith}
 use Rattle.pauli_steps.proofs.Tables.{pair-at, seven}
 use Rattle.pauli_steps.proofs.coefficients.turning.Goals as goal
 
-pub returns-in-0 : goal.returns-in-0
-returns-in-0 c = pair-at 0 (omega arith) c.in-0.is
-
 pub returns-in-1 : goal.returns-in-1
 returns-in-1 c = pair-at 1 (omega arith) c.in-1.is
 

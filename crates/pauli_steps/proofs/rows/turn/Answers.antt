@@ -9,9 +9,6 @@ use Rattle.scalar.specs.Calls.{value, scalar_of}
 use Rattle.pauli_steps.proofs.Tables.{power_small, turned_is}
 use Rattle.pauli_steps.proofs.rows.turn.Goals as goal
 
-pub overflow_mul-t : goal.overflow_mul-t
-overflow_mul-t c = omega (arith, c.requires.0)
-
 pub times-requires : goal.times-requires
 times-requires c = (c.requires.1, subst (λ (w : Scalar). Coords 1 narrow_exponent (value w)) (sym c.power-w.ensures) (power_small (2 * c.args.t)))
 
