@@ -3,19 +3,17 @@ use mathlib.Core.Path.{◌≡◌, refl, sym, ap, ◌∙◌}
 use mathlib.Core.Logic.{◌≢◌}
 use mathlib.Core.Bool.{Bool, true, false, cond, not, ◌&&◌, ◌||◌, true≢false}
 use mathlib.Core.List.{List, [], ◌∷◌, ◌++◌, append_assoc}
-use Prim.Native.Nat.{ℕ, zero, suc, ◌+◌, ◌-◌, ◌*◌, ◌≤◌, ◌<◌}
+use Prim.Native.Nat.{ℕ, zero, suc, ◌+◌, ◌-◌, ◌≤◌, ◌<◌}
 use native.Mathlib.Nat.{add-zero, not-suc-le-zero}
 use native.Mathlib.Decide.{ℕ_discrete}
 use native.Mathlib.Omega.{arith}
-use lib.Dec.{eqb, leb, ltb}
+use lib.Dec.{eqb, ltb}
 use lib.ListN.{length, get_or, set, replicate, length-append, length-set, get_or-append}
 use lib.Seq.{set-append_left, get_or-set_same, get_or-set_other, ext_get_or}
 use lib.IntN.{ℤ, pos, nat_abs}
-use borrow.Author.Tests.{ltb-true, lt-ltb, eqb-true, eq-eqb, ne_eqb}
+use borrow.Author.Tests.{ltb-true, lt-ltb, eq-eqb, ne_eqb}
 use Rattle.algebra.specs.Lists.{some, every, total, marks}
 use Rattle.algebra.proofs.Tests.{and_split}
-use Rattle.algebra.proofs.Lists.{some_append}
-use Rattle.channel.specs.Layout.{word}
 use Rattle.gate.specs.Gate.{Gate, measure, elem, bits, weight, splits}
 use Rattle.circuit.specs.Footprint.{writes}
 use Rattle.circuit.specs.Inner.Footprint.{newly}

@@ -1,4 +1,5 @@
 -- The words of a gate list: their length, where each gate stands, and what the edits make of them.
+use Rattle.std.specs.Prelude.{is_ok}
 use mathlib.Core.Path.{◌≡◌, refl, sym, ap, ◌∙◌, subst}
 use mathlib.Core.Bool.{Bool, true, false, cond, not, ◌&&◌, ◌||◌, true≢false}
 use mathlib.Core.List.{List, [], ◌∷◌, ◌++◌, append_assoc, append-nil}
@@ -18,7 +19,6 @@ use Rattle.algebra.proofs.Lists.{concat_length}
 use Rattle.algebra.proofs.Perm.{concat_append}
 use Rattle.store.specs.Store.{max_word}
 use Rattle.channel.specs.Layout.{word}
-use Rattle.verdict.specs.Verdict.{accepted}
 use Rattle.verdict.specs.Questions.{first_no}
 use Rattle.verdict.proofs.Questions.{all_yes}
 use Rattle.gate.specs.declared.judge.Asking.TheVariants.{Channel}
@@ -228,8 +228,8 @@ module _ (n m : ℕ) (few_qubits : n ≤ max_qubits) (few_bits : m ≤ max_bits)
       go true e = sym (every-bit (λ (b : ℕ). ltb b max_bits) g e) ∙ lt-ltb g.b max_bits (le_trans (bit_in e) few_bits)
       go false e = sym (every-none (λ (b : ℕ). ltb b max_bits) g e)
 
-  pub asked-yes : (i : ℕ) → accepted (first_no (gate_questions (Channel m) n i g)) ≡ true
-  asked-yes i = all_yes (gate_questions (Channel m) n i g) (refl, (refl, (refl, tt))) ∙ go (formed g) (placed n m g) (supported g) v
+  pub asked-yes : (i : ℕ) → is_ok (first_no (gate_questions (Channel m) n i g)) ≡ true
+  asked-yes i = all_yes tt (gate_questions (Channel m) n i g) ∙ go (formed g) (placed n m g) (supported g) v
     where
       go : (a b c : Bool) → (a && (b && c)) ≡ true → (a && (b && (c && true))) ≡ true
       go true true true e = refl
@@ -280,7 +280,7 @@ module _ (n m : ℕ) (few_qubits : n ≤ max_qubits) (few_bits : m ≤ max_bits)
     unfolding takeable
     takeable-kept =
         let up = ap (λ (k : List ℤ). all_up_to k (gate_place (length xs)) gate_size max_word) cut ∙ words_up n m gs xs g (places ys spare) words_small in
-        let asked = (λ i. accepted (first_no (gate_questions (Channel (nat_abs (bits-count n m gs spare i))) (nat_abs (first_count n m gs spare i)) (length xs) (gate_in_lem i)))) ∙ asked-yes (length xs) in
+        let asked = (λ i. is_ok (first_no (gate_questions (Channel (nat_abs (bits-count n m gs spare i))) (nat_abs (first_count n m gs spare i)) (length xs) (gate_in_lem i)))) ∙ asked-yes (length xs) in
         λ i. up i && (asked i && (ap (covers l) gate_in_lem ∙ covers-all) i)
 
 -- ---- the edits

@@ -1,8 +1,9 @@
 -- Sound counts are small, and stay small as they are moved; the bits of a gate that has passed its questions have counts.
-use mathlib.Core.Path.{◌≡◌, refl, sym, ap, ◌∙◌}
+use Rattle.std.specs.Prelude.{is_ok}
+use mathlib.Core.Path.{◌≡◌, refl, sym, ap, ◌∙◌, subst}
 use mathlib.Core.Bool.{Bool, true, false, cond, ◌&&◌, ◌||◌, true≢false}
 use mathlib.Core.List.{List, [], ◌∷◌}
-use Prim.Native.Nat.{ℕ, zero, suc, ◌+◌, ◌-◌, ◌*◌, ◌/◌, ◌≤◌, ◌<◌, min}
+use Prim.Native.Nat.{ℕ, zero, suc, ◌+◌, ◌-◌, ◌/◌, ◌≤◌, ◌<◌}
 use native.Mathlib.Nat.{le_trans, min-le_left, min-le_right}
 use native.Mathlib.Decide.{dec_lt, ℕ_discrete}
 use native.Mathlib.Omega.{arith}
@@ -17,12 +18,9 @@ use Rattle.algebra.proofs.Tests.{and_split, all-at}
 use Rattle.algebra.proofs.Signed.{word_is}
 use Rattle.channel.specs.Layout.{word}
 use Rattle.store.specs.Store.{max_word}
-use Rattle.verdict.specs.Verdict.{accepted}
 use Rattle.verdict.specs.Questions.{first_no}
 use Rattle.verdict.proofs.Questions.{all_yes}
-use Rattle.gate.specs.declared.judge.Asking.TheVariants.{Channel}
-use Rattle.gate.specs.Gate.{Gate, gate_size, measure, bits, weight, splits, qubits, distinct, formed, placed, supported}
-use Rattle.gate.specs.Questions.{gate_questions}
+use Rattle.gate.specs.Gate.{Gate, gate_size, measure, bits, weight, splits, qubits, distinct, formed, placed}
 use Rattle.circuit.proofs.Counts.{splits-one, weight-one}
 use Rattle.kept_circuit.specs.Kept.{qubits_place, bits_place, gates_place, weight_place, splits_place, written_place, measures_place, max_qubits, max_bits, max_gates, head_size, gate_place, count_at, qubits_of, bits_of, gates_of, room, all_up_to, sound}
 use Rattle.kept_circuit.specs.Edits.{moved, move_at, mark, mark_all, counted, ask_gate, gate_in, covers, takeable}
@@ -210,9 +208,9 @@ module _ {l : List ℤ} (s : Sound l) where
   place-free i h = omega (arith, le_trans h (min-le_right max_gates ((length l - head_size) / gate_size)), s.long)
 
   -- the bits of a gate that has passed its questions have counts
-  pub bits-counted : (i : ℕ) (g : Gate) → accepted (first_no (ask_gate l i g)) ≡ true → every (λ (b : ℕ). ltb b max_bits) (bits g) ≡ true
+  pub bits-counted : (i : ℕ) (g : Gate) → is_ok (first_no (ask_gate l i g)) ≡ true → every (λ (b : ℕ). ltb b max_bits) (bits g) ≡ true
   bits-counted i g e =
-      let all = sym (all_yes (ask_gate l i g) (refl, (refl, (refl, tt)))) ∙ e in
+      let all = sym (all_yes tt (ask_gate l i g)) ∙ e in
       let p = (and_split (placed (qubits_of l) (bits_of l) g) _ (and_split (formed g) _ all).1).0 in
       let d = (and_split (every (λ (q : ℕ). ltb q (qubits_of l)) (qubits g)) _ p).1 in
       more (bits g) (and_split (distinct (qubits g)) (every (λ (b : ℕ). ltb b (bits_of l)) (bits g)) d).1
@@ -231,12 +229,41 @@ module _ {l : List ℤ} (s : Sound l) where
 -- what a gate that can be taken out has passed
 pub record Takes (l : List ℤ) (i : ℕ) : Type 0 where
   pub words_up : all_up_to l (gate_place i) gate_size max_word ≡ true
-  pub asked : accepted (first_no (ask_gate l i (gate_in l i))) ≡ true
+  pub asked : is_ok (first_no (ask_gate l i (gate_in l i))) ≡ true
   pub covered : covers l (gate_in l i) ≡ true
 
 pub takes_is : (l : List ℤ) (i : ℕ) → takeable l i ≡ true → Takes l i
 unfolding takeable
 takes_is l i e =
     let a = and_split (all_up_to l (gate_place i) gate_size max_word) _ e in
-    let b = and_split (accepted (first_no (ask_gate l i (gate_in l i)))) _ a.1 in
+    let b = and_split (is_ok (first_no (ask_gate l i (gate_in l i)))) _ a.1 in
     record { words_up = a.0; asked = b.0; covered = b.1 }
+
+-- sound counts are there, and small
+module _ (l : List ℤ) (k : ℕ) (e : sound l ≡ true) (h : k < head_size) where
+  pub counts_there : (k < length l) × (word l k ≡ pos (nat_abs (word l k)))
+  counts_there = let s = sound_is l e in (omega (arith, s.long), count_is s k h)
+
+  pub counts_small : nat_abs (word l k) ≤ max_gates
+  counts_small = (within_is (sound-within (sound_is l e)) k h).1
+
+-- words from `at` on that are numbers up to a bound, word j of them
+module _ (l : List ℤ) (at n top j : ℕ) (e : all_up_to l at n top ≡ true) (h : at ≤ j) (k : j < at + n) where
+  up_is : (word l j ≡ pos (nat_abs (word l j))) × (nat_abs (word l j) ≤ top)
+  up_is =
+      let there : at + (j - at) ≡ j = omega arith in
+      word_is top (word l j) (ap (λ (i : ℕ). up_to top (word l i)) (sym there) ∙ up_at l at n top e (j - at) (omega arith))
+
+  pub up_there : word l j ≡ pos (nat_abs (word l j))
+  up_there = up_is.0
+
+  pub up_small : nat_abs (word l j) ≤ top
+  up_small = up_is.1
+
+-- counts after a move
+module _ {l m : List ℤ} {t : ℕ} (w : Within l t) (more : Bool) (at d : ℕ) (h : at < head_size) (u : d ≤ 1) (e : m ≡ move_at more l at d) where
+  pub within_after : Within m (t + 1)
+  within_after = subst (λ (l : List ℤ). Within l (t + 1)) (sym e) (within_move w more at d h u)
+
+pub within_there : {l : List ℤ} {t : ℕ} → Within l t → (k : ℕ) → k < head_size → (k < length l) × (word l k ≡ pos (nat_abs (word l k)))
+within_there w k h = (omega (arith, w.long), (within_is w k h).0)

@@ -1,11 +1,10 @@
 -- Start, append, remove last and replace: the questions of each, and the words that it leaves. A refusal leaves them as they were.
-use Rattle.std.specs.Prelude.{Bool, true, false, cond, not, ◌&&◌, ◌||◌, List, [], ◌∷◌, ◌++◌, ℕ, ◌+◌, ◌-◌, eqb, leb, ltb, length, set, ℤ, pos}
+use Rattle.std.specs.Prelude.{Bool, true, false, cond, not, ◌&&◌, ◌||◌, List, [], ◌∷◌, ◌++◌, ℕ, ◌+◌, ◌-◌, eqb, leb, ltb, length, set, ℤ, pos, is_ok}
 use Rattle.std.proofs.lemmas.List.Edits.{sets}
 use Rattle.algebra.specs.Lists.{every}
 use Rattle.store.specs.Store.{max_word}
-use Rattle.verdict.specs.declared.Verdict.{Verdict}
-use Rattle.verdict.specs.declared.Verdict.TheVariants.{OverLimit, ShortBuffer, NoPlace, NoGate, BadCounts}
-use Rattle.verdict.specs.Verdict.{accepted}
+use Rattle.verdict.specs.Questions.{Verdict}
+use Rattle.verdict.specs.declared.Refusal.TheVariants.{OverLimit, ShortBuffer, NoPlace, NoGate, BadCounts}
 use Rattle.verdict.specs.Questions.{Question, question, first_no}
 use Rattle.gate.specs.declared.judge.Asking.TheVariants.{Channel}
 use Rattle.gate.specs.Gate.{Gate, gate, gate_size, bits, weight, splits}
@@ -43,7 +42,7 @@ abbrev pub start_verdict : ℕ → ℕ → List ℤ → Verdict
 start_verdict n m l = first_no (question 8 (leb n max_qubits && leb m max_bits) OverLimit ∷ question 10 (leb head_size (length l)) ShortBuffer ∷ [])
 
 abbrev pub started : ℕ → ℕ → List ℤ → List ℤ
-started n m l = cond (accepted (start_verdict n m l)) (kept_words n m [] (length l - head_size)) l
+started n m l = cond (is_ok (start_verdict n m l)) (kept_words n m [] (length l - head_size)) l
 
 -- questions 4 to 6 of a gate at position i
 abbrev pub ask_gate : List ℤ → ℕ → Gate → List Question
@@ -54,7 +53,7 @@ abbrev pub append_verdict : List ℤ → Gate → Verdict
 append_verdict l g = first_no (question 25 (sound l) BadCounts ∷ question 20 (ltb (gates_of l) (room (length l))) NoPlace ∷ ask_gate l (gates_of l) g)
 
 abbrev pub appended : List ℤ → Gate → List ℤ
-appended l g = cond (accepted (append_verdict l g)) (put (counted true l g) (gates_of l) g) l
+appended l g = cond (is_ok (append_verdict l g)) (put (counted true l g) (gates_of l) g) l
 
 -- ---- taking out the gate at position i
 abbrev pub gate_in : List ℤ → ℕ → Gate
@@ -70,7 +69,7 @@ covers l g = leb (weight g) (count_at l weight_place) && (leb (splits g) (count_
 
 -- its words are a gate that passes questions 4 to 6, and the counts cover it
 unfoldable pub takeable : List ℤ → ℕ → Bool
-takeable l i = all_up_to l (gate_place i) gate_size max_word && (accepted (first_no (ask_gate l i (gate_in l i))) && covers l (gate_in l i))
+takeable l i = all_up_to l (gate_place i) gate_size max_word && (is_ok (first_no (ask_gate l i (gate_in l i))) && covers l (gate_in l i))
 
 -- 25, of the gate where there is one, then 21
 abbrev pub take_questions : List ℤ → ℕ → List Question
@@ -88,11 +87,11 @@ abbrev pub remove_verdict : List ℤ → Verdict
 remove_verdict l = first_no (take_questions l (last_of l))
 
 abbrev pub removed : List ℤ → List ℤ
-removed l = cond (accepted (remove_verdict l)) (put (counted false l (gate_in l (last_of l))) (last_of l) no_gate) l
+removed l = cond (is_ok (remove_verdict l)) (put (counted false l (gate_in l (last_of l))) (last_of l) no_gate) l
 
 -- ---- replace: gate g at position i
 abbrev pub replace_verdict : List ℤ → ℕ → Gate → Verdict
 replace_verdict l i g = first_no (take_questions l i ++ ask_gate l i g)
 
 abbrev pub replaced : List ℤ → ℕ → Gate → List ℤ
-replaced l i g = cond (accepted (replace_verdict l i g)) (put (counted true (counted false l (gate_in l i)) g) i g) l
+replaced l i g = cond (is_ok (replace_verdict l i g)) (put (counted true (counted false l (gate_in l i)) g) i g) l

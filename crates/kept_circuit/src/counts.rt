@@ -1,8 +1,8 @@
 // The counts: whether they may be those of a circuit, and a gate more or less in them.
 ghost use Rattle.std.specs.Prelude.{◌≡◌, true, ℕ, ◌+◌, ◌^◌, ◌≤◌, ◌<◌, ltb, length};
+ghost use Rattle.std.specs.List.{list_all};
 ghost use Rattle.algebra.specs.Lists.{every};
 ghost use Rattle.algebra.specs.Words.{up_to};
-ghost use Rattle.channel.specs.Layout.{word};
 ghost use Rattle.gate.specs.Gate.{bits};
 ghost use Rattle.gate.specs.Inner.Words.{gate_of};
 ghost use Rattle.kept_circuit.specs.Kept.{max_bits, head_size, room, all_up_to, sound};
@@ -35,13 +35,11 @@ pub const MEASURES: usize = 6;
 // The words of the counts.
 pub const HEAD: usize = 70;
 
-// Whether word `at` is a number from 0 to top.
-fn is_up_to(words: &[i64], at: usize, top: u64) -> bool
-    requires { at < length words.now }
-    ensures { result ≡ up_to top (word words.now at) }
+// Whether each word is a number from 0 to top.
+fn each_up_to(words: &[i64], top: u64) -> bool
+    ensures { result ≡ list_all (up_to top) words.now }
 {
-    let x = words[at];
-    up_to(top, x)
+    words.iter().all(|&x| up_to(top, x))
 }
 
 // Whether n words from `at` on are numbers from 0 to top.
@@ -49,15 +47,7 @@ pub fn are_up_to(words: &[i64], at: usize, n: usize, top: u64) -> bool
     requires { at + n ≤ length words.now }
     ensures { result ≡ all_up_to words.now at n top }
 {
-    let mut k = 0;
-    while k < n {
-        if is_up_to(words, at + k, top) {
-            k += 1;
-        } else {
-            return false;
-        }
-    }
-    true
+    each_up_to(&words[at..at + n], top)
 }
 
 // The most gates that words of this length have places for and the limits allow.
@@ -65,57 +55,42 @@ pub fn room_in(size: usize) -> u64
     requires { head_size ≤ size }
     ensures { result ≡ room size }
 {
-    let count = (size - HEAD) / GATE;
-    let places = count as u64;
-    if MAX_OPERATIONS <= places {
-        MAX_OPERATIONS
-    } else {
-        places
-    }
+    MAX_OPERATIONS.min(((size - HEAD) / GATE) as u64)
 }
 
 // Whether the counts may be those of a circuit.
+#[tactic(auto, unfolding(crate::specs::Kept::sound))]
 pub fn is_sound(words: &[i64]) -> bool
     ensures { result ≡ sound words.now }
 {
     if words.len() < HEAD {
         return false;
     }
-    let room = room_in(words.len());
-    let a = is_up_to(words, QUBITS, MAX_QUBITS);
-    let b = is_up_to(words, BITS, MAX_CLASSICAL_BITS);
-    let c = is_up_to(words, GATES, room);
-    if a & (b & c) {
-        let count = follow(words, GATES);
-        return are_up_to(words, WEIGHT, HEAD - WEIGHT, count as u64);
-    }
-    false
+    up_to(MAX_QUBITS, words[QUBITS])
+        && up_to(MAX_CLASSICAL_BITS, words[BITS])
+        && up_to(room_in(words.len()), words[GATES])
+        && are_up_to(words, WEIGHT, HEAD - WEIGHT, follow(words, GATES) as u64)
 }
 
 fn moved(x: usize, d: usize, more: bool) -> usize
     requires { x + d < 2 ^ 63 }
     ensures { result ≡ moved more x d }
 {
-    if more {
-        return x + d;
-    }
-    if d <= x {
-        return x - d;
-    }
-    0
+    if more { x + d } else { x.saturating_sub(d) }
 }
 
 // Move the count in word `at` by d.
+#[tactic(auto, unfolding(crate::specs::Edits::move_at))]
 fn move_count(words: &mut [i64], at: usize, d: usize, more: bool)
     requires { Within words.old 4000 × ((at < head_size) × (d ≤ 1)) }
     ensures { words.new ≡ move_at more words.old at d }
 {
-    let x = follow(words, at);
-    let y = moved(x, d, more);
-    words[at] = y as i64;
+    let count = follow(words, at);
+    words[at] = moved(count, d, more) as i64;
 }
 
 // One measure into bit b more or less.
+#[tactic(auto, unfolding(crate::specs::Edits::mark))]
 fn mark_bit(words: &mut [i64], b: usize, more: bool)
     requires { Within words.old 3000 × (b < max_bits) }
     ensures { words.new ≡ mark more words.old b }
@@ -130,6 +105,7 @@ fn mark_bit(words: &mut [i64], b: usize, more: bool)
 }
 
 // A gate more or less in the counts.
+#[tactic(auto, unfolding(crate::specs::Edits::counted))]
 pub fn count_gate(words: &mut [i64], g: GateWords, more: bool)
     requires { Within words.old 2000 × (every (λ (b : ℕ). ltb b max_bits) (bits (gate_of g)) ≡ true) }
     ensures { words.new ≡ counted more words.old (gate_of g) }

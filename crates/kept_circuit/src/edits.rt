@@ -1,8 +1,8 @@
 // Start, append, remove last and replace.
-ghost use Rattle.std.specs.Prelude.{◌≡◌, true, false, ℕ, ◌+◌, ◌-◌, ◌≤◌, ◌<◌, ltb, length};
+ghost use Rattle.std.specs.Prelude.{◌≡◌, true, false, ℕ, ◌+◌, ◌≤◌, ◌<◌, ltb, length};
 ghost use Rattle.algebra.specs.Lists.{every};
 ghost use Rattle.verdict.specs.Questions.{first_no};
-ghost use Rattle.gate.specs.Gate.{gate, gate_size, bits};
+ghost use Rattle.gate.specs.Gate.{gate_size, bits};
 ghost use Rattle.gate.specs.Inner.Words.{gate_of};
 ghost use Rattle.kept_circuit.specs.Kept.{max_bits, gate_place, gates_of, sound};
 ghost use Rattle.kept_circuit.specs.Edits.{counted, put, start_verdict, started, append_verdict, appended, gate_in, takeable, take_questions, remove_verdict, removed, replace_verdict, replaced};
@@ -14,28 +14,36 @@ use channel::layout::follow;
 use circuit::limits::{MAX_CLASSICAL_BITS, MAX_QUBITS};
 use gate::GATE;
 use gate::judge::GateWords;
-use matrix::words::clear;
-use verdict::Verdict;
+use verdict::{Refusal, Verdict};
+
+// What stands in a place without a gate.
+const NO_GATE: GateWords = GateWords {
+    kind: 0,
+    a: 0,
+    b: 0,
+    c: 0,
+    k: 0,
+};
 
 // Start empty, with so many qubits and classical bits: every other word is 0.
 pub fn start(qubits: u32, bits: u32, words: &mut [i64]) -> Verdict
     ensures value { result ≡ start_verdict qubits bits words.old }
     ensures words_after { words.new ≡ started qubits bits words.old }
 {
-    if (qubits as u64 <= MAX_QUBITS) & (bits as u64 <= MAX_CLASSICAL_BITS) {
-        if HEAD <= words.len() {
-            let size = words.len();
-            clear(words, 0, size);
-            words[QUBITS] = qubits as i64;
-            words[BITS] = bits as i64;
-            return Verdict::Accepted;
-        }
-        return Verdict::ShortBuffer;
+    if (MAX_QUBITS < qubits as u64) | (MAX_CLASSICAL_BITS < bits as u64) {
+        return Err(Refusal::OverLimit);
     }
-    Verdict::OverLimit
+    if words.len() < HEAD {
+        return Err(Refusal::ShortBuffer);
+    }
+    words.fill(0);
+    words[QUBITS] = qubits as i64;
+    words[BITS] = bits as i64;
+    Ok(())
 }
 
 // Gate g at position i, which is free: into the counts and into its words.
+#[tactic(auto, unfolding(crate::specs::Edits::put))]
 fn put_in(words: &mut [i64], i: usize, g: GateWords)
     requires { Within words.old 2000 × ((gate_place i + gate_size ≤ length words.old) × (every (λ (b : ℕ). ltb b max_bits) (bits (gate_of g)) ≡ true)) }
     ensures { words.new ≡ put (counted true words.old (gate_of g)) i (gate_of g) }
@@ -53,32 +61,21 @@ fn take_out(words: &mut [i64], i: usize)
     count_gate(words, g, false);
 }
 
-fn append_gate(words: &mut [i64], g: GateWords) -> Verdict
+// Append a gate.
+pub fn append(words: &mut [i64], g: GateWords) -> Verdict
     ensures value { result ≡ append_verdict words.old (gate_of g) }
     ensures words_after { words.new ≡ appended words.old (gate_of g) }
 {
     if !is_sound(words) {
-        return Verdict::BadCounts;
+        return Err(Refusal::BadCounts);
     }
     let count = follow(words, GATES);
-    let room = room_in(words.len());
-    if room <= count as u64 {
-        return Verdict::NoPlace;
+    if room_in(words.len()) <= count as u64 {
+        return Err(Refusal::NoPlace);
     }
-    let v = ask_gate(words, count, g);
-    if v.is_accepted() {
-        put_in(words, count, g);
-        return v;
-    }
-    v
-}
-
-// Append the gate of these five words.
-pub fn append(words: &mut [i64], kind: u32, a: u32, b: u32, c: u32, k: u32) -> Verdict
-    ensures value { result ≡ append_verdict words.old (gate kind a b c k) }
-    ensures words_after { words.new ≡ appended words.old (gate kind a b c k) }
-{
-    append_gate(words, GateWords { kind, a, b, c, k })
+    ask_gate(words, count, g)?;
+    put_in(words, count, g);
+    Ok(())
 }
 
 // 25, of the gate at position i where there is one, then 21, of counts that are sound.
@@ -86,20 +83,13 @@ fn judge_taking(words: &[i64], i: usize) -> Verdict
     requires { sound words.now ≡ true }
     ensures { result ≡ first_no (take_questions words.now i) }
 {
-    let count = follow(words, GATES);
-    if i < count {
-        if is_takeable(words, i) {
-            return Verdict::Accepted;
-        }
-        return Verdict::BadCounts;
+    if follow(words, GATES) <= i {
+        return Err(Refusal::NoGate);
     }
-    Verdict::NoGate
-}
-
-fn one_less(count: usize) -> usize
-    ensures { result ≡ count - 1 }
-{
-    if count == 0 { 0 } else { count - 1 }
+    if !is_takeable(words, i) {
+        return Err(Refusal::BadCounts);
+    }
+    Ok(())
 }
 
 // Remove the last gate, and leave zeros in its place.
@@ -108,53 +98,26 @@ pub fn remove_last(words: &mut [i64]) -> Verdict
     ensures words_after { words.new ≡ removed words.old }
 {
     if !is_sound(words) {
-        return Verdict::BadCounts;
+        return Err(Refusal::BadCounts);
     }
-    let count = follow(words, GATES);
-    let i = one_less(count);
-    let v = judge_taking(words, i);
-    if v.is_accepted() {
-        take_out(words, i);
-        write_gate(
-            words,
-            HEAD + i * GATE,
-            GateWords {
-                kind: 0,
-                a: 0,
-                b: 0,
-                c: 0,
-                k: 0,
-            },
-        );
-        return v;
-    }
-    v
+    let i = follow(words, GATES).saturating_sub(1);
+    judge_taking(words, i)?;
+    take_out(words, i);
+    write_gate(words, HEAD + i * GATE, NO_GATE);
+    Ok(())
 }
 
-fn replace_gate(words: &mut [i64], i: usize, g: GateWords) -> Verdict
+// Put a gate in the place of the one at position i.
+pub fn replace(words: &mut [i64], i: usize, g: GateWords) -> Verdict
     ensures value { result ≡ replace_verdict words.old i (gate_of g) }
     ensures words_after { words.new ≡ replaced words.old i (gate_of g) }
 {
     if !is_sound(words) {
-        return Verdict::BadCounts;
+        return Err(Refusal::BadCounts);
     }
-    let v = judge_taking(words, i);
-    if v.is_accepted() {
-        let u = ask_gate(words, i, g);
-        if u.is_accepted() {
-            take_out(words, i);
-            put_in(words, i, g);
-            return u;
-        }
-        return u;
-    }
-    v
-}
-
-// Put the gate of these five words in the place of the one at position i.
-pub fn replace(words: &mut [i64], i: usize, kind: u32, a: u32, b: u32, c: u32, k: u32) -> Verdict
-    ensures value { result ≡ replace_verdict words.old i (gate kind a b c k) }
-    ensures words_after { words.new ≡ replaced words.old i (gate kind a b c k) }
-{
-    replace_gate(words, i, GateWords { kind, a, b, c, k })
+    judge_taking(words, i)?;
+    ask_gate(words, i, g)?;
+    take_out(words, i);
+    put_in(words, i, g);
+    Ok(())
 }

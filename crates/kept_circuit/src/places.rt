@@ -21,17 +21,12 @@ pub fn read_gate(words: &[i64], at: usize) -> GateWords
     requires { (at + gate_size ≤ length words.now) × (all_up_to words.now at gate_size max_word ≡ true) }
     ensures { gate_of result ≡ kept_gate words.now at }
 {
-    let kind = follow(words, at);
-    let a = follow(words, at + 1);
-    let b = follow(words, at + 2);
-    let c = follow(words, at + 3);
-    let k = follow(words, at + 4);
     GateWords {
-        kind: kind as u32,
-        a: a as u32,
-        b: b as u32,
-        c: c as u32,
-        k: k as u32,
+        kind: follow(words, at) as u32,
+        a: follow(words, at + 1) as u32,
+        b: follow(words, at + 2) as u32,
+        c: follow(words, at + 3) as u32,
+        k: follow(words, at + 4) as u32,
     }
 }
 
@@ -48,6 +43,7 @@ pub fn write_gate(words: &mut [i64], at: usize, g: GateWords)
 }
 
 // Whether no count falls below 0 as a measure into bit b goes.
+#[tactic(auto, using(crate::proofs::Sound::counts_small))]
 fn covers_bit(words: &[i64], b: usize) -> bool
     requires { (sound words.now ≡ true) × (b < max_bits) }
     ensures { result ≡ covers_bit words.now b }
@@ -58,24 +54,18 @@ fn covers_bit(words: &[i64], b: usize) -> bool
 }
 
 // Whether no count falls below 0 as the gate goes.
+#[tactic(auto, using(crate::proofs::Sound::counts_small))]
 fn covers_gate(words: &[i64], g: GateWords) -> bool
     requires { (sound words.now ≡ true) × (every (λ (b : ℕ). ltb b max_bits) (bits (gate_of g)) ≡ true) }
     ensures { result ≡ covers words.now (gate_of g) }
 {
-    let weight = g.weight();
-    let splits = g.splits();
-    let heavy = follow(words, WEIGHT);
-    let split = follow(words, SPLITS);
-    if (weight <= heavy as u64) & (splits <= split as u64) {
-        if g.kind == MEASURE {
-            return covers_bit(words, g.b as usize);
-        }
-        return true;
-    }
-    false
+    g.weight() <= follow(words, WEIGHT) as u64
+        && g.splits() <= follow(words, SPLITS) as u64
+        && (g.kind != MEASURE || covers_bit(words, g.b as usize))
 }
 
 // Questions 4 to 6 of a gate at position i.
+#[tactic(auto, using(crate::proofs::Sound::counts_small))]
 pub fn ask_gate(words: &[i64], i: usize, g: GateWords) -> Verdict
     requires { sound words.now ≡ true }
     ensures { result ≡ first_no (ask_gate words.now i (gate_of g)) }
@@ -86,17 +76,15 @@ pub fn ask_gate(words: &[i64], i: usize, g: GateWords) -> Verdict
 }
 
 // Whether the gate at position i passes questions 4 to 6 and the counts cover it.
+#[tactic(auto, unfolding(crate::specs::Edits::takeable))]
 pub fn is_takeable(words: &[i64], i: usize) -> bool
     requires { (sound words.now ≡ true) × (i < gates_of words.now) }
     ensures { result ≡ takeable words.now i }
 {
     let at = HEAD + i * GATE;
-    if are_up_to(words, at, GATE, MAX_WORD) {
-        let g = read_gate(words, at);
-        let v = ask_gate(words, i, g);
-        if v.is_accepted() {
-            return covers_gate(words, g);
-        }
+    if !are_up_to(words, at, GATE, MAX_WORD) {
+        return false;
     }
-    false
+    let g = read_gate(words, at);
+    ask_gate(words, i, g).is_ok() && covers_gate(words, g)
 }

@@ -17,7 +17,7 @@ use Rattle.channel.specs.Layout.{word}
 use Rattle.gate.specs.Gate.{Gate, gate_size}
 use Rattle.gate.specs.Inner.Entries.{valid}
 use Rattle.qasm.specs.Writing.{words}
-use Rattle.kept_circuit.specs.Kept.{max_qubits, max_bits, head_size, gate_words, places, kept_words, count_at, gates_of, all_up_to}
+use Rattle.kept_circuit.specs.Kept.{max_qubits, max_bits, head_size, gate_words, places, kept_words, count_at, all_up_to}
 use Rattle.kept_circuit.specs.Edits.{no_gate}
 use Rattle.kept_circuit.proofs.Head.{headed, headed_append, length-headed}
 use Rattle.kept_circuit.proofs.Listed.{kept_is, up_by, gates-count, words_small}

@@ -1,7 +1,7 @@
 -- Words made by start and by accepted edits are those of a gate list: the edits keep that, 25 never occurs, and the verdict is that of counting afresh.
-use Rattle.std.specs.Prelude.{◌≡◌, ◌≢◌, true, List, [], ◌∷◌, ◌++◌, ℕ, ◌≤◌, length, ℤ}
-use Rattle.verdict.specs.declared.Verdict.TheVariants.{Accepted, NoGate}
-use Rattle.verdict.specs.Verdict.{verdict_number, accepted}
+use Rattle.std.specs.Prelude.{◌≡◌, ◌≢◌, true, List, [], ◌∷◌, ◌++◌, ℕ, ◌≤◌, length, ℤ, is_ok, Ok}
+use Rattle.verdict.specs.declared.Refusal.TheVariants.{NoGate}
+use Rattle.verdict.specs.Verdict.{verdict_number}
 use Rattle.verdict.specs.Questions.{first_no}
 use Rattle.gate.specs.declared.judge.Asking.TheVariants.{Channel}
 use Rattle.gate.specs.Gate.{Gate, gates_of}
@@ -16,21 +16,21 @@ pub record Keeps (n m : ℕ) (gs : List Gate) (l : List ℤ) : Type 0 where
   pub few_qubits : n ≤ max_qubits
   pub few_bits : m ≤ max_bits
   pub few_gates : length gs ≤ max_gates
-  pub passed : accepted (first_no (gates_questions (Channel m) n 0 gs)) ≡ true
+  pub passed : is_ok (first_no (gates_questions (Channel m) n 0 gs)) ≡ true
   pub spare : ℕ
   pub words : l ≡ kept_words n m gs spare
 
 -- start makes such words, of no gate
 abbrev pub Starts : Type 0
-Starts = (n m : ℕ) (l : List ℤ) → accepted (start_verdict n m l) ≡ true → Keeps n m [] (started n m l)
+Starts = (n m : ℕ) (l : List ℤ) → is_ok (start_verdict n m l) ≡ true → Keeps n m [] (started n m l)
 
 -- and with such words:
 module _ (n m : ℕ) (gs : List Gate) (l : List ℤ) where
   pub record Edits : Type 0 where
     -- what is accepted keeps them: a gate more at the end, the last one less, one in the place of another
-    pub append : (g : Gate) → accepted (append_verdict l g) ≡ true → Keeps n m (gs ++ (g ∷ [])) (appended l g)
-    pub remove : (hs : List Gate) (g : Gate) → gs ≡ hs ++ (g ∷ []) → (remove_verdict l ≡ Accepted) × Keeps n m hs (removed l)
-    pub replace : (xs ys : List Gate) (g h : Gate) → gs ≡ xs ++ (g ∷ ys) → accepted (replace_verdict l (length xs) h) ≡ true → Keeps n m (xs ++ (h ∷ ys)) (replaced l (length xs) h)
+    pub append : (g : Gate) → is_ok (append_verdict l g) ≡ true → Keeps n m (gs ++ (g ∷ [])) (appended l g)
+    pub remove : (hs : List Gate) (g : Gate) → gs ≡ hs ++ (g ∷ []) → (remove_verdict l ≡ (Ok tt)) × Keeps n m hs (removed l)
+    pub replace : (xs ys : List Gate) (g h : Gate) → gs ≡ xs ++ (g ∷ ys) → is_ok (replace_verdict l (length xs) h) ≡ true → Keeps n m (xs ++ (h ∷ ys)) (replaced l (length xs) h)
     -- 25 never occurs
     pub append_sound : (g : Gate) → verdict_number (append_verdict l g) ≢ 25
     pub remove_sound : verdict_number (remove_verdict l) ≢ 25

@@ -1,10 +1,9 @@
 -- The questions of circuit_channel, answered from the counts of a kept circuit; and its gates copied out.
-use Rattle.std.specs.Prelude.{cond, ◌&&◌, List, [], ◌∷◌, map, ℕ, ◌*◌, leb, length, take, drop, ℤ, nat_abs}
+use Rattle.std.specs.Prelude.{cond, ◌&&◌, List, [], ◌∷◌, map, ℕ, ◌*◌, leb, length, take, drop, ℤ, nat_abs, is_ok}
 use Rattle.std.proofs.lemmas.List.Edits.{sets}
 use Rattle.store.specs.Store.{max_word}
-use Rattle.verdict.specs.declared.Verdict.{Verdict}
-use Rattle.verdict.specs.declared.Verdict.TheVariants.{OverLimit, OverCeiling, ShortBuffer, BadCounts}
-use Rattle.verdict.specs.Verdict.{accepted}
+use Rattle.verdict.specs.Questions.{Verdict}
+use Rattle.verdict.specs.declared.Refusal.TheVariants.{OverLimit, OverCeiling, ShortBuffer, BadCounts}
 use Rattle.verdict.specs.Questions.{Question, question, first_no}
 use Rattle.gate.specs.Gate.{gate_size}
 use Rattle.circuit.specs.declared.limits.Limits.{Limits}
@@ -40,4 +39,4 @@ abbrev pub copy_verdict : List ℤ → List ℕ → Verdict
 copy_verdict l out = first_no (question 25 (sound l && all_up_to l head_size (copy_size l) max_word) BadCounts ∷ question 10 (leb (copy_size l) (length out)) ShortBuffer ∷ [])
 
 abbrev pub copied_to : List ℤ → List ℕ → List ℕ
-copied_to l out = cond (accepted (copy_verdict l out)) (sets out 0 (copied l)) out
+copied_to l out = cond (is_ok (copy_verdict l out)) (sets out 0 (copied l)) out

@@ -16,44 +16,38 @@ use kept_circuit::counts::{
     BITS, GATES, HEAD, QUBITS, SPLITS, WEIGHT, WRITTEN, are_up_to, is_sound,
 };
 use store::MAX_WORD;
-use verdict::Verdict;
+use verdict::{Refusal, Verdict};
 
 // What the counts say that the gates ask for.
 fn footprint_of(words: &[i64]) -> Footprint
     requires { sound words.now ≡ true }
     ensures { result ≡ kept_footprint words.now }
 {
-    let gates = follow(words, GATES);
-    let splits = follow(words, SPLITS);
-    let written = follow(words, WRITTEN);
-    let weight = follow(words, WEIGHT);
     Footprint {
-        gates: gates as u64,
-        splits: splits as u64,
-        written: written as u64,
-        weight: weight as u64,
+        gates: follow(words, GATES) as u64,
+        splits: follow(words, SPLITS) as u64,
+        written: follow(words, WRITTEN) as u64,
+        weight: follow(words, WEIGHT) as u64,
     }
 }
 
-// All ten questions; `result` and `work` are the lengths of the buffers.
+// All ten questions; `res` and `work` are the lengths of the buffers.
 pub fn judge_kept(words: &[i64], store: &[u8], l: Limits, res: u64, work: u64) -> Verdict
     ensures { result ≡ kept_verdict words.now store.now l res work }
 {
-    if is_sound(words) {
-        let f = footprint_of(words);
-        let matrix = l.are_matrix_limits_low();
-        let branch = l.are_branch_limits_low();
-        if matrix & branch {
-            if f.gates <= l.max_operations {
-                let qubits = follow(words, QUBITS);
-                let bits = follow(words, BITS);
-                return judge_numbers(f, qubits as u32, bits as u32, store, l, res, work);
-            }
-            return Verdict::OverLimit;
-        }
-        return Verdict::OverCeiling;
+    if !is_sound(words) {
+        return Err(Refusal::BadCounts);
     }
-    Verdict::BadCounts
+    if !(l.are_matrix_limits_low() & l.are_branch_limits_low()) {
+        return Err(Refusal::OverCeiling);
+    }
+    let f = footprint_of(words);
+    if l.max_operations < f.gates {
+        return Err(Refusal::OverLimit);
+    }
+    let qubits = follow(words, QUBITS) as u32;
+    let bits = follow(words, BITS) as u32;
+    judge_numbers(f, qubits, bits, store, l, res, work)
 }
 
 // The words of n / 5 gates, as circuit_channel takes them.
@@ -61,11 +55,8 @@ fn copy_words(words: &[i64], n: usize, out: &mut [u32])
     requires { (n ≡ copy_size words.now) × ((head_size + n ≤ length words.now) × ((all_up_to words.now head_size n max_word ≡ true) × (n ≤ length out.old))) }
     ensures { out.new ≡ sets out.old 0 (copied words.now) }
 {
-    let mut k = 0;
-    while k < n {
-        let x = follow(words, HEAD + k);
-        out[k] = x as u32;
-        k += 1;
+    for k in 0..n {
+        out[k] = follow(words, HEAD + k) as u32;
     }
 }
 
@@ -74,16 +65,16 @@ pub fn copy_gates(words: &[i64], out: &mut [u32]) -> Verdict
     ensures value { result ≡ copy_verdict words.now out.old }
     ensures out_after { out.new ≡ copied_to words.now out.old }
 {
-    if is_sound(words) {
-        let count = follow(words, GATES);
-        let n = count * GATE;
-        if are_up_to(words, HEAD, n, MAX_WORD) {
-            if n <= out.len() {
-                copy_words(words, n, out);
-                return Verdict::Accepted;
-            }
-            return Verdict::ShortBuffer;
-        }
+    if !is_sound(words) {
+        return Err(Refusal::BadCounts);
     }
-    Verdict::BadCounts
+    let n = follow(words, GATES) * GATE;
+    if !are_up_to(words, HEAD, n, MAX_WORD) {
+        return Err(Refusal::BadCounts);
+    }
+    if out.len() < n {
+        return Err(Refusal::ShortBuffer);
+    }
+    copy_words(words, n, out);
+    Ok(())
 }

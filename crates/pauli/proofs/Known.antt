@@ -1,4 +1,5 @@
 -- What acceptance says of a program holds.
+use Rattle.std.specs.Prelude.{is_ok}
 use mathlib.Core.Path.{◌≡◌, refl, sym, ◌∙◌, subst}
 use mathlib.Core.Bool.{Bool, true, ◌&&◌}
 use mathlib.Core.List.{List, [], ◌∷◌, ◌++◌}
@@ -12,9 +13,8 @@ use borrow.Author.Tests.{leb-true}
 use Rattle.algebra.specs.Lists.{All, every}
 use Rattle.algebra.proofs.Tests.{and_split}
 use Rattle.algebra.proofs.Lists.{all_imp, all_map, all_append}
-use Rattle.verdict.specs.Verdict.{accepted}
 use Rattle.verdict.specs.Questions.{first_no}
-use Rattle.verdict.proofs.Questions.{yes, Refuses, every_append, all_yes}
+use Rattle.verdict.proofs.Questions.{yes, every_append, all_yes}
 use Rattle.store.specs.Store.{store_fits}
 use Rattle.store.proofs.Bytes.{fits_word}
 use Rattle.gate.specs.Gate.{Gate, gate_size, gates_of, max_weight}
@@ -33,7 +33,7 @@ use Rattle.pauli_judge.specs.declared.footprint.ProgramFootprint.{ProgramFootpri
 use Rattle.pauli_judge.specs.Footprint.{named, program_footprint}
 use Rattle.pauli_judge.specs.Sizes.{program_cells}
 use Rattle.pauli_judge.specs.Questions.{max_listed, few_operations, program_within, program_room, program_word_questions, program_number_questions, pauli_questions}
-use Rattle.pauli_judge.proofs.Accepted.{nodes_refuse, operations_refuse, nodes-placed, axes_fit, words_refuse, words_known}
+use Rattle.pauli_judge.proofs.Accepted.{nodes-placed, axes_fit, words_known}
 use Rattle.pauli_program.specs.Claims.{Eighths}
 use Rattle.pauli_run.proofs.Forms.{rotates, rotates_if}
 use Rattle.pauli.specs.Call.{accepts}
@@ -64,7 +64,7 @@ operations_formed fits m made i (g ∷ gs) e =
 -- what the questions of the words answered
 pub record Listed (n m : ℕ) (ns os : List ℕ) : Type 0 where
   pub few : length ns / gate_size ≤ max_listed
-  pub nodes_yes : accepted (first_no (nodes_questions n 0 (gates_of ns))) ≡ true
+  pub nodes_yes : is_ok (first_no (nodes_questions n 0 (gates_of ns))) ≡ true
   pub operations_yes : every yes (operations_questions (axis_fits n (nodes_of ns)) m 0 0 (gates_of os)) ≡ true
   pub named_few : named n (operations_of os) ≤ max_nodes
 
@@ -75,9 +75,8 @@ module _ (n m : ℕ) (σ : List ℕ) (l : Limits) (ns os : List ℕ) (result wor
   abbrev sizes : Sizes
   sizes = sizes_of f.counts n
 
-  pub program_accepts : accepted (first_no (pauli_questions n m σ l ns os result work)) ≡ every yes (pauli_questions n m σ l ns os result work)
-  program_accepts = all_yes (pauli_questions n m σ l ns os result work)
-      (all_append Refuses (program_word_questions n m l ns os) (program_number_questions f n m σ l result work) (words_refuse n m l ns os) (refl, (refl, (refl, (refl, tt)))))
+  pub program_accepts : is_ok (first_no (pauli_questions n m σ l ns os result work)) ≡ every yes (pauli_questions n m σ l ns os result work)
+  program_accepts = all_yes tt (pauli_questions n m σ l ns os result work)
 
   known : every yes (pauli_questions n m σ l ns os result work) ≡ true → Known n m σ ns os result work × Listed n m ns os
   known all =
@@ -91,8 +90,8 @@ module _ (n m : ℕ) (σ : List ℕ) (l : Limits) (ns os : List ℕ) (result wor
       let lists = and_split (every yes nodes) (every yes operations) (sym (every_append nodes operations) ∙ q3.1) in
       let few = and_split (leb (length os / gate_size + 2 * n) l.max_operations) _ q3.0 in
       let few2 = and_split (leb n ceilings.max_qubits) _ few.1 in
-      let nodes_yes = all_yes nodes (nodes_refuse n 0 (gates_of ns)) ∙ lists.0 in
-      let fit = axes_fit (axis_fits n (nodes_of ns)) m 0 0 (gates_of os) (all_yes operations (operations_refuse (axis_fits n (nodes_of ns)) m 0 0 (gates_of os)) ∙ lists.1) in
+      let nodes_yes = all_yes tt nodes ∙ lists.0 in
+      let fit = axes_fit (axis_fits n (nodes_of ns)) m 0 0 (gates_of os) (all_yes tt operations ∙ lists.1) in
       let q7 = and_split (store_fits m σ) _ parts.1 in
       let q8 = and_split (program_within f n m l) _ q7.1 in
       let q9 = and_split (leb f.counts.weight max_weight) _ q8.1 in
@@ -131,7 +130,7 @@ module _ (n m : ℕ) (σ : List ℕ) (l : Limits) (ns os : List ℕ) (result wor
           few = leb-true (length ns / gate_size) max_listed few2.1;
           nodes_yes = nodes_yes;
           operations_yes = lists.1;
-          named_few = (words_known n m l ns os (all_yes (program_word_questions n m l ns os) (words_refuse n m l ns os) ∙ parts.0)).nodes_few;
+          named_few = (words_known n m l ns os (all_yes tt (program_word_questions n m l ns os) ∙ parts.0)).nodes_few;
         },
       )
 

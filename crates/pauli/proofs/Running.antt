@@ -1,4 +1,5 @@
 -- An accepted call: what is asked of its run, of its delivery and of its buffers, and what they leave.
+use Rattle.std.specs.Prelude.{is_ok}
 use mathlib.Core.Path.{◌≡◌, sym, ap, ◌∙◌, subst, subst₂}
 use mathlib.Core.Bool.{true, false}
 use mathlib.Core.List.{List, []}
@@ -13,7 +14,6 @@ use Rattle.algebra.specs.Lists.{All, total}
 use Rattle.algebra.specs.Words.{fill_words}
 use Rattle.algebra.proofs.Blocks.{written_over}
 use Rattle.cells.specs.Cells.{cell_size}
-use Rattle.verdict.specs.Verdict.{accepted}
 use Rattle.verdict.specs.Questions.{first_no}
 use Rattle.gate.specs.Gate.{gate_size, gate_at, gates_of}
 use Rattle.gate.proofs.Listed.{gates-length}
@@ -114,7 +114,7 @@ module _ {n m : ℕ} {σ ns os : List ℕ} {r w : List ℤ} (a : Accepted n m σ
   pub few-nodes : number_of n (length ns / gate_size) ≤ max_nodes
   few-nodes = omega (arith, listed.few, known.qubit_count)
 
-  pub nodes-accepted : accepted (first_no (nodes_questions n 0 (gates_of ns))) ≡ true
+  pub nodes-accepted : is_ok (first_no (nodes_questions n 0 (gates_of ns))) ≡ true
   nodes-accepted = listed.nodes_yes
 
   fits : run_size (length os / gate_size) (2 ^ n) (2 ^ total splits us) ≤ worked n m os

@@ -1,7 +1,6 @@
 -- A call of pauli_channel: its verdict, and what it leaves in the two buffers.
-use Rattle.std.specs.Prelude.{Bool, cond, List, ℕ, length, replicate, ℤ, pos}
-use Rattle.verdict.specs.declared.Verdict.{Verdict}
-use Rattle.verdict.specs.Verdict.{accepted}
+use Rattle.std.specs.Prelude.{Bool, cond, List, ℕ, length, replicate, ℤ, pos, is_ok}
+use Rattle.verdict.specs.Questions.{Verdict}
 use Rattle.verdict.specs.Questions.{Question}
 use Rattle.circuit.specs.declared.limits.Limits.{Limits}
 use Rattle.circuit.specs.Questions.{sizes_of}
@@ -25,7 +24,7 @@ module _ (n m : ℕ) (σ : List ℕ) (l : Limits) (ns os : List ℕ) (r w : List
   verdict_of = pauli_verdict n m σ l ns os (length r) (length w)
 
   abbrev pub accepts : Bool
-  accepts = accepted verdict_of
+  accepts = is_ok verdict_of
 
   -- accepted: the words of the channel, then what the buffer held; refused: as it was
   abbrev pub result_after : List ℤ

@@ -13,7 +13,7 @@ use circuit::sizes::power;
 use collect::deliver;
 use matrix::words::clear;
 use pauli_judge::footprint::ProgramFootprint;
-use pauli_judge::questions::judge_program;
+use pauli_judge::questions::judge_runnable;
 use pauli_judge::sizes::work_words;
 use pauli_run::run::run_operations;
 use pauli_words::MAX_NODES;
@@ -34,7 +34,8 @@ fn run_program(
     ensures { Ran work.old work.new operations.now store.now qubits d banks result (nodes_of nodes.now) }
 {
     let mut masks = [0u32; MAX_NODES];
-    judge_nodes(nodes, qubits, &mut masks);
+    // The nodes are accepted: only their mask forms are wanted here.
+    let _ = judge_nodes(nodes, qubits, &mut masks);
     run_operations(work, operations, &masks, store, qubits, d, banks)
 }
 
@@ -79,15 +80,16 @@ pub fn pauli_channel(
     ensures res_after { res.new ≡ result_after qubits bits store.now limits nodes.now operations.now res.old work.old }
     ensures work_after { work.new ≡ work_after qubits bits store.now limits nodes.now operations.now res.old work.old }
 {
-    let r = res.len();
-    let w = work.len();
-    let j = judge_program(
-        qubits, bits, store, nodes, operations, limits, r as u64, w as u64,
-    );
-    let v = j.verdict;
-    if v.is_accepted() {
-        let f = j.footprint;
-        run_and_deliver(f, qubits, bits, store, nodes, operations, res, work);
-    }
-    v
+    let f = judge_runnable(
+        qubits,
+        bits,
+        store,
+        nodes,
+        operations,
+        limits,
+        res.len() as u64,
+        work.len() as u64,
+    )?;
+    run_and_deliver(f, qubits, bits, store, nodes, operations, res, work);
+    Ok(())
 }

@@ -1,4 +1,5 @@
 -- The test of an axis by the mask forms in the array is that of the definition.
+use Rattle.std.specs.Prelude.{is_ok}
 use mathlib.Core.Path.{◌≡◌, refl, sym, ap, ◌∙◌}
 use mathlib.Core.Bool.{Bool, true, false, ◌&&◌}
 use mathlib.Core.List.{List}
@@ -7,8 +8,7 @@ use lib.Dec.{ltb}
 use lib.ListN.{length, get_or, length-map}
 use borrow.Author.Tests.{ltb-true}
 use Rattle.algebra.specs.Lists.{All}
-use Rattle.verdict.specs.declared.Verdict.{Verdict}
-use Rattle.verdict.specs.Verdict.{accepted}
+use Rattle.verdict.specs.Questions.{Verdict}
 use Rattle.verdict.specs.Questions.{first_no}
 use Rattle.gate.specs.Gate.{gate_size, gates_of}
 use Rattle.gate.proofs.Listed.{gates-length}
@@ -33,9 +33,9 @@ module _ (n : ℕ) (few : n ≤ 5) (nodes : List Node) (on : All (Placed n) node
       go false e = refl
 
 -- of nodes that were accepted
-pub fits-same : (n : ℕ) → n ≤ 5 → (ns ms : List ℕ) {v : Verdict} → v ≡ first_no (nodes_questions n 0 (gates_of ns)) → accepted v ≡ true
+pub fits-same : (n : ℕ) → n ≤ 5 → (ns ms : List ℕ) {v : Verdict} → v ≡ first_no (nodes_questions n 0 (gates_of ns)) → is_ok v ≡ true
     → masks_in ms (number_of n (length ns / gate_size)) ≡ node_masks n (nodes_of ns) → mask_fits ms (number_of n (length ns / gate_size)) ≡ axis_fits n (nodes_of ns)
 fits-same n few ns ms h good held =
     let e : length ns / gate_size ≡ length (nodes_of ns) = sym (length-map (gates_of ns) node_of ∙ gates-length ns 0 (length ns / gate_size)) in
     ap (λ (k : ℕ). mask_fits ms (number_of n k)) e
-    ∙ (λ i a. axis_told n few (nodes_of ns) (nodes-placed n 0 (gates_of ns) (sym (ap accepted h) ∙ good)) ms (ap (λ (k : ℕ). masks_in ms (number_of n k)) (sym e) ∙ held) a i)
+    ∙ (λ i a. axis_told n few (nodes_of ns) (nodes-placed n 0 (gates_of ns) (sym (ap is_ok h) ∙ good)) ms (ap (λ (k : ℕ). masks_in ms (number_of n k)) (sym e) ∙ held) a i)

@@ -69,20 +69,6 @@ module _ (ws : List ℕ) where
     pub written : t + marks m writes (left i) ≡ marks m writes (operations_of ws)
     pub heavy : w + total weight (left i) ≡ total weight (operations_of ws)
 
-  pub counted_none : (n m : ℕ) → Counted n m 0 0 0 0 0
-  counted_none n m =
-      let e : count - 0 ≡ count = omega arith in
-      let z : (k : ℕ) → 0 + k ≡ k = λ k. omega arith in
-      let y : (k : ℕ) → max 0 k ≡ k = λ k. omega arith in
-      record {
-        below = omega arith;
-        few = omega arith;
-        naming = y _ ∙ rw e;
-        splitting = z _ ∙ rw e;
-        written = z _ ∙ rw e;
-        heavy = z _ ∙ rw e;
-      }
-
   add-front : (a b c d e : ℕ) → a + b ≡ c → b ≡ d + e → a + d + e ≡ c
   add-front a b c d e p q = omega arith
 

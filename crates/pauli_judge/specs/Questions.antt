@@ -1,8 +1,8 @@
 -- The questions of pauli_channel, a list: the first that is answered by no decides.
 use Rattle.std.specs.Prelude.{Bool, ◌&&◌, List, [], ◌∷◌, ◌++◌, ℕ, ◌+◌, ◌*◌, ◌/◌, ◌%◌, eqb, leb, length}
 use Rattle.store.specs.Store.{store_fits}
-use Rattle.verdict.specs.declared.Verdict.{Verdict}
-use Rattle.verdict.specs.declared.Verdict.TheVariants.{OverLimit, BadStore, MalformedAt, OverCeiling, TooHeavy, ShortBuffer}
+use Rattle.verdict.specs.Questions.{Verdict}
+use Rattle.verdict.specs.declared.Refusal.TheVariants.{OverLimit, BadStore, MalformedAt, OverCeiling, TooHeavy, ShortBuffer}
 use Rattle.verdict.specs.Questions.{Question, question, first_no}
 use Rattle.gate.specs.Gate.{gate_size, gates_of, max_weight}
 use Rattle.circuit.specs.declared.limits.Limits.{Limits}

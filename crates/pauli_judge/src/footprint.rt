@@ -1,5 +1,5 @@
 // What a Pauli program asks for, in one pass over the words of its operations.
-ghost use Rattle.std.specs.Prelude.{◌≡◌, ℕ, suc, ◌+◌, ◌*◌, ◌-◌, ◌/◌, ◌≤◌, max, cond, eqb, length};
+ghost use Rattle.std.specs.Prelude.{◌≡◌, ℕ, suc, ◌+◌, ◌*◌, ◌-◌, ◌/◌, ◌≤◌, cond, eqb, length};
 ghost use Rattle.algebra.specs.Lists.{some};
 ghost use Rattle.gate.specs.Gate.{Gate, gate_size, gates_from, gates_of};
 ghost use Rattle.gate.specs.Inner.Words.{gate_of};
@@ -19,12 +19,6 @@ pub struct ProgramFootprint {
     pub nodes: u64,
     // operations with the output frame's, measurements, distinct bits measured into, weight
     pub counts: Footprint,
-}
-
-fn larger(a: u64, b: u64) -> u64
-    ensures { result ≡ max a b }
-{
-    if a <= b { b } else { a }
 }
 
 // The weight of a rotation by k eighths.
@@ -61,14 +55,11 @@ fn writes_bit(w: GateWords, bit: u32) -> bool
 fn is_written(words: &[u32], from: usize, bit: u32) -> bool
     ensures { result ≡ some (λ (g : Gate). writes (operation_of g) bit) (gates_from words.now from (length words.now / gate_size - from)) }
 {
-    let count = words.len() / GATE;
-    let mut i = from;
-    while i < count {
+    for i in from..words.len() / GATE {
         let w = read_gate(words, i * GATE);
         if writes_bit(w, bit) {
             return true;
         }
-        i += 1;
     }
     false
 }
@@ -77,16 +68,11 @@ fn is_written(words: &[u32], from: usize, bit: u32) -> bool
 fn newly_written(words: &[u32], from: usize, w: GateWords, bits: u32) -> u64
     ensures { result ≡ newly bits (gate_of w) (gates_from words.now from (length words.now / gate_size - from)) }
 {
-    let bit = w.c;
-    if w.kind == MEASURE_INTO {
-        if bit < bits {
-            if is_written(words, from, bit) {
-                return 0;
-            }
-            return 1;
-        }
+    if w.kind == MEASURE_INTO && w.c < bits && !is_written(words, from, w.c) {
+        1
+    } else {
+        0
     }
-    0
 }
 
 // What the output frame names: nodes 1 to 2n.
@@ -105,24 +91,21 @@ impl ProgramFootprint {
         let mut splits: u64 = 0;
         let mut written: u64 = 0;
         let mut weight: u64 = 0;
-        let mut i = 0;
-        while i < count {
+        for i in 0..count {
             let w = read_gate(words, i * GATE);
-            i += 1;
-            nodes = larger(nodes, w.a as u64 + 1);
+            nodes = nodes.max(w.a as u64 + 1);
             splits += splits_of(w) as u64;
-            written += newly_written(words, i, w, bits);
+            written += newly_written(words, i + 1, w, bits);
             weight += weight_of(w);
         }
-        let counts = Footprint {
-            gates: count as u64 + 2 * (n as u64),
-            splits: splits,
-            written: written,
-            weight: weight,
-        };
         ProgramFootprint {
-            nodes: larger(nodes, frame_nodes(n)),
-            counts: counts,
+            nodes: nodes.max(frame_nodes(n)),
+            counts: Footprint {
+                gates: count as u64 + 2 * (n as u64),
+                splits,
+                written,
+                weight,
+            },
         }
     }
 }

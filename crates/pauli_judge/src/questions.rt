@@ -1,7 +1,6 @@
 // The questions of pauli_channel, in order.
 ghost use Rattle.std.specs.Prelude.{◌≡◌, true, ◌&&◌, ◌++◌, ◌/◌, ◌≤◌, length};
-ghost use Rattle.verdict.specs.Verdict.{accepted};
-ghost use Rattle.verdict.specs.Questions.{first_no};
+ghost use Rattle.verdict.specs.Questions.{first_no, granted};
 ghost use Rattle.gate.specs.Gate.{gate_size, gates_of};
 ghost use Rattle.circuit.specs.Limits.{matrix_ceilings, branch_ceilings};
 ghost use Rattle.circuit.specs.Inner.Small.{max_qubits, max_gates};
@@ -9,11 +8,10 @@ ghost use Rattle.pauli_words.specs.Words.{nodes_of, operations_of};
 ghost use Rattle.pauli_words.specs.Questions.{axis_fits, nodes_questions, operations_questions};
 ghost use Rattle.pauli_words.specs.Inner.Masks.{max_nodes};
 ghost use Rattle.pauli_judge.specs.Footprint.{program_footprint};
-ghost use Rattle.pauli_judge.specs.Questions.{max_listed, few_operations, program_word_questions, program_number_questions, pauli_verdict};
+ghost use Rattle.pauli_judge.specs.Questions.{max_listed, few_operations, program_word_questions, program_number_questions, pauli_questions, pauli_verdict};
 
 use crate::footprint::ProgramFootprint;
 use crate::sizes::{has_room, is_within};
-use circuit::footprint::Footprint;
 use circuit::limits::Limits;
 use circuit::sizes::{MAX_SPLITS, Sizes};
 use gate::GATE;
@@ -21,7 +19,7 @@ use pauli_words::MAX_NODES;
 use pauli_words::nodes::judge_nodes;
 use pauli_words::operations::judge_operations;
 use store::is_store;
-use verdict::Verdict;
+use verdict::{Refusal, Verdict};
 
 const MAX_LISTED: usize = 1024;
 
@@ -35,12 +33,9 @@ fn judge_lists(n: u32, bits: u32, nodes: &[u32], operations: &[u32]) -> Verdict
     ensures { result ≡ first_no (nodes_questions n 0 (gates_of nodes.now) ++ operations_questions (axis_fits n (nodes_of nodes.now)) bits 0 0 (gates_of operations.now)) }
 {
     let mut masks = [0u32; MAX_NODES];
-    let v = judge_nodes(nodes, n, &mut masks);
-    if v.is_accepted() {
-        let count = 1 + 2 * n + (nodes.len() / GATE) as u32;
-        return judge_operations(operations, bits, &masks, count);
-    }
-    v
+    judge_nodes(nodes, n, &mut masks)?;
+    let count = 1 + 2 * n + (nodes.len() / GATE) as u32;
+    judge_operations(operations, bits, &masks, count)
 }
 
 // Question 3.
@@ -55,21 +50,19 @@ fn are_few(n: u32, l: Limits, nodes: &[u32], operations: &[u32]) -> bool
 fn judge_words(n: u32, bits: u32, l: Limits, nodes: &[u32], operations: &[u32]) -> Verdict
     ensures { result ≡ first_no (program_word_questions n bits l nodes.now operations.now) }
 {
-    let matrix = l.are_matrix_limits_low();
-    let branch = l.are_branch_limits_low();
-    if matrix & branch {
-        if nodes.len() % GATE == 0 {
-            if operations.len() % GATE == 0 {
-                if are_few(n, l, nodes, operations) {
-                    return judge_lists(n, bits, nodes, operations);
-                }
-                return Verdict::OverLimit;
-            }
-            return Verdict::MalformedAt(0);
-        }
-        return Verdict::MalformedAt(0);
+    if !(l.are_matrix_limits_low() && l.are_branch_limits_low()) {
+        return Err(Refusal::OverCeiling);
     }
-    Verdict::OverCeiling
+    if nodes.len() % GATE != 0 {
+        return Err(Refusal::MalformedAt(0));
+    }
+    if operations.len() % GATE != 0 {
+        return Err(Refusal::MalformedAt(0));
+    }
+    if !are_few(n, l, nodes, operations) {
+        return Err(Refusal::OverLimit);
+    }
+    judge_lists(n, bits, nodes, operations)
 }
 
 // Questions 7 to 10, of limits that are low and of words that are within them.
@@ -86,35 +79,29 @@ fn judge_numbers(
     ensures { result ≡ first_no (program_number_questions f n bits store.now l res work) }
 {
     let counts = f.counts;
-    if is_store(store, bits) {
-        if (bits as u64 <= l.max_classical_bits)
-            & ((n as u64 <= l.max_qubits) & (counts.splits <= MAX_SPLITS))
-        {
-            let s = Sizes::of(counts, n);
-            if is_within(s, f.nodes, counts.gates, l) {
-                if counts.weight <= MAX_WEIGHT {
-                    if has_room(s, f.nodes, res, work) {
-                        return Verdict::Accepted;
-                    }
-                    return Verdict::ShortBuffer;
-                }
-                return Verdict::TooHeavy;
-            }
-        }
-        return Verdict::OverLimit;
+    if !is_store(store, bits) {
+        return Err(Refusal::BadStore);
     }
-    Verdict::BadStore
+    if (bits as u64 > l.max_classical_bits)
+        | ((n as u64 > l.max_qubits) | (counts.splits > MAX_SPLITS))
+    {
+        return Err(Refusal::OverLimit);
+    }
+    let s = Sizes::of(counts, n);
+    if !is_within(s, f.nodes, counts.gates, l) {
+        return Err(Refusal::OverLimit);
+    }
+    if counts.weight > MAX_WEIGHT {
+        return Err(Refusal::TooHeavy);
+    }
+    if !has_room(s, f.nodes, res, work) {
+        return Err(Refusal::ShortBuffer);
+    }
+    Ok(())
 }
 
-// What pauli_channel learns of a program: the verdict and, where that accepts, what the program asks for.
-#[derive(Clone, Copy)]
-pub struct JudgedProgram {
-    pub verdict: Verdict,
-    pub footprint: ProgramFootprint,
-}
-
-// All questions; `result` and `work` are the lengths of the buffers.
-pub fn judge_program(
+// All questions, and what a program that passes asks for; `res` and `work` are the lengths of the buffers.
+pub fn judge_runnable(
     n: u32,
     bits: u32,
     store: &[u8],
@@ -123,23 +110,13 @@ pub fn judge_program(
     l: Limits,
     res: u64,
     work: u64,
-) -> JudgedProgram
-    ensures verdict_value { result.verdict ≡ pauli_verdict n bits store.now l nodes.now operations.now res work }
-    ensures footprint_value { result.footprint ≡ program_footprint n bits (operations_of operations.now) }
+) -> Result<ProgramFootprint, Refusal>
+    ensures { result ≡ granted (program_footprint n bits (operations_of operations.now)) (pauli_questions n bits store.now l nodes.now operations.now res work) }
 {
+    judge_words(n, bits, l, nodes, operations)?;
     let f = ProgramFootprint::of(operations, n, bits);
-    let v = judge_words(n, bits, l, nodes, operations);
-    if v.is_accepted() {
-        let u = judge_numbers(f, n, bits, store, l, res, work);
-        return JudgedProgram {
-            verdict: u,
-            footprint: f,
-        };
-    }
-    JudgedProgram {
-        verdict: v,
-        footprint: f,
-    }
+    judge_numbers(f, n, bits, store, l, res, work)?;
+    Ok(f)
 }
 
 // The verdict alone.
@@ -155,6 +132,6 @@ pub fn judge_pauli(
 ) -> Verdict
     ensures { result ≡ pauli_verdict n bits store.now l nodes.now operations.now res work }
 {
-    let j = judge_program(n, bits, store, nodes, operations, l, res, work);
-    j.verdict
+    judge_runnable(n, bits, store, nodes, operations, l, res, work)?;
+    Ok(())
 }

@@ -1,38 +1,25 @@
 -- The questions of the nodes, and of the operations: what the first of a list decides, and what it leaves to the rest.
+use Rattle.std.specs.Prelude.{is_ok, Ok}
 use mathlib.Core.Path.{◌≡◌, refl, sym, ap, ◌∙◌, subst}
 use mathlib.Core.Bool.{Bool, true, false}
 use mathlib.Core.List.{List, [], ◌∷◌, ◌++◌, map}
-use Prim.Native.Nat.{ℕ, zero, suc, ◌+◌, ◌-◌, ◌*◌, ◌/◌, ◌≤◌, ◌<◌}
+use Prim.Native.Nat.{ℕ, suc, ◌+◌, ◌-◌, ◌*◌, ◌/◌, ◌≤◌, ◌<◌}
 use native.Mathlib.Omega.{arith}
 use native.Mathlib.Numerals.{add-one}
 use lib.ListN.{length, set}
-use Rattle.algebra.specs.Lists.{All}
-use Rattle.verdict.specs.declared.Verdict.{Verdict}
-use Rattle.verdict.specs.declared.Verdict.TheVariants.{Accepted}
-use Rattle.verdict.specs.Verdict.{accepted}
+use Rattle.verdict.specs.Questions.{Verdict}
 use Rattle.verdict.specs.Questions.{Question, first_no}
-use Rattle.verdict.proofs.Questions.{Refuses, after-yes, after_no}
+use Rattle.verdict.proofs.Questions.{after-yes, after_no}
 use Rattle.gate.specs.Gate.{Gate, gate_size, gate_at, gates_from, gates_of}
 use Rattle.gate.proofs.Listed.{gates-more, gates-none}
 use Rattle.pauli_nodes.specs.Nodes.{Reference, basis_from, in_order}
-use Rattle.pauli_nodes.specs.Operations.{Operation, rotate, rotate_if, measure, splits}
-use Rattle.pauli_nodes.specs.Inner.Masks.{Mask, identity_mask, mask_after, node_masks}
+use Rattle.pauli_nodes.specs.Operations.{splits}
+use Rattle.pauli_nodes.specs.Inner.Masks.{identity_mask, mask_after, node_masks}
 use Rattle.pauli_nodes.proofs.Numbers.{in_turn}
 use Rattle.pauli_words.specs.Words.{node_of, nodes_of, operation_of}
-use Rattle.pauli_words.specs.Questions.{number_of, node_questions, nodes_questions, operand_questions, operation_questions, operations_questions}
+use Rattle.pauli_words.specs.Questions.{number_of, node_questions, nodes_questions, operation_questions, operations_questions}
 use Rattle.pauli_words.specs.Inner.Masks.{unpacked, masks_in, basis_masks}
 use Rattle.pauli_words.proofs.Held.{Laid, laid_next}
-
-pub node_refuses : (n i : ℕ) (w : Gate) → All Refuses (node_questions n i w)
-node_refuses n i w = (refl, (refl, tt))
-
-operand-refuses : (m made i : ℕ) (o : Operation) → All Refuses (operand_questions m made i o)
-operand-refuses m made i (rotate a k) = tt
-operand-refuses m made i (rotate_if a k o) = (refl, tt)
-operand-refuses m made i (measure a bs) = (refl, tt)
-
-pub operation_refuses : (fits : Reference → Bool) (m made i : ℕ) (w : Gate) → All Refuses (operation_questions fits m made i w)
-operation_refuses fits m made i w = (refl, (refl, operand-refuses m made i (operation_of w)))
 
 module _ (ws : List ℕ) where
   abbrev count : ℕ
@@ -66,20 +53,20 @@ module _ (ws : List ℕ) where
       split : nodes_questions n i (rest i) ≡ node_questions n i w ++ nodes_questions n (i + 1) (rest (i + 1))
       split = ap (nodes_questions n i) more ∙ ap (λ (j : ℕ). node_questions n i w ++ nodes_questions n j (rest (i + 1))) (sym (add-one i))
 
-      pub node_decides : accepted v ≡ false → v ≡ first_no (nodes_questions n 0 (gates_of ws))
-      node_decides f = after_no (node_questions n i w) (nodes_questions n (i + 1) (rest (i + 1))) (node_refuses n i w) h f ∙ ap first_no (sym split) ∙ sym p.decided
+      pub node_decides : is_ok v ≡ false → v ≡ first_no (nodes_questions n 0 (gates_of ws))
+      node_decides f = after_no (node_questions n i w) (nodes_questions n (i + 1) (rest (i + 1))) h f ∙ ap first_no (sym split) ∙ sym p.decided
 
-      pub node_passes : accepted v ≡ true → (x : ℕ) → number_of n i < length ms → unpacked x ≡ mask_after n (masks_in ms (number_of n i)) (node_of w) → Passed (set ms (number_of n i) x) (i + 1)
+      pub node_passes : is_ok v ≡ true → (x : ℕ) → number_of n i < length ms → unpacked x ≡ mask_after n (masks_in ms (number_of n i)) (node_of w) → Passed (set ms (number_of n i) x) (i + 1)
       node_passes f x long m =
           let k : suc (number_of n i) ≡ number_of n (i + 1) = omega arith in
           let start : Laid n ms (number_of n i) (node_of w ∷ map node_of (rest (i + 1))) (node_masks n (nodes_of ws)) =
           subst (λ (gs : List Gate). Laid n ms (number_of n i) (map node_of gs) (node_masks n (nodes_of ws))) more p.laid in
           record {
-            decided = p.decided ∙ ap first_no split ∙ sym (after-yes (node_questions n i w) (nodes_questions n (i + 1) (rest (i + 1))) (node_refuses n i w) h f refl);
+            decided = p.decided ∙ ap first_no split ∙ sym (after-yes (node_questions n i w) (nodes_questions n (i + 1) (rest (i + 1))) h f refl);
             laid = subst (λ (j : ℕ). Laid n (set ms (number_of n i) x) j (map node_of (rest (i + 1))) (node_masks n (nodes_of ws))) k (laid_next n start x long m);
           }
 
-    pub passed_all : {ms : List ℕ} {i : ℕ} → Passed ms i → length ws / gate_size ≤ i → Accepted ≡ first_no (nodes_questions n 0 (gates_of ws))
+    pub passed_all : {ms : List ℕ} {i : ℕ} → Passed ms i → length ws / gate_size ≤ i → (Ok tt) ≡ first_no (nodes_questions n 0 (gates_of ws))
     passed_all {ms} {i} p l = sym (p.decided ∙ ap (λ (gs : List Gate). first_no (nodes_questions n i gs)) (gates-none ws count i l))
 
     pub laid_whole : {ms : List ℕ} {i : ℕ} → Passed ms i → length ws / gate_size ≤ i → i ≤ length ws / gate_size
@@ -99,11 +86,11 @@ module _ (ws : List ℕ) where
           ap (operations_questions fits m made i) (gates-more ws count i l ∙ ap (λ (g : Gate). g ∷ rest (i + 1)) (sym e))
           ∙ (λ j. operation_questions fits m made i w ++ operations_questions fits m (made + sym t j) (sym (add-one i) j) (rest (i + 1)))
 
-      pub operation_decides : accepted v ≡ false → v ≡ first_no (from made i)
-      operation_decides f = after_no (operation_questions fits m made i w) (from (made + splits (operation_of w)) (i + 1)) (operation_refuses fits m made i w) h f ∙ ap first_no (sym (parted refl))
+      pub operation_decides : is_ok v ≡ false → v ≡ first_no (from made i)
+      operation_decides f = after_no (operation_questions fits m made i w) (from (made + splits (operation_of w)) (i + 1)) h f ∙ ap first_no (sym (parted refl))
 
-      pub operation_passes : accepted v ≡ true → {s : ℕ} → s ≡ splits (operation_of w) → first_no (from made i) ≡ first_no (from (made + s) (i + 1))
-      operation_passes f {s} t = ap first_no (parted t) ∙ sym (after-yes (operation_questions fits m made i w) (from (made + s) (i + 1)) (operation_refuses fits m made i w) h f refl)
+      pub operation_passes : is_ok v ≡ true → {s : ℕ} → s ≡ splits (operation_of w) → first_no (from made i) ≡ first_no (from (made + s) (i + 1))
+      operation_passes f {s} t = ap first_no (parted t) ∙ sym (after-yes (operation_questions fits m made i w) (from (made + s) (i + 1)) h f refl)
 
-    pub none_left : (made i : ℕ) → length ws / gate_size ≤ i → first_no (from made i) ≡ Accepted
+    pub none_left : (made i : ℕ) → length ws / gate_size ≤ i → first_no (from made i) ≡ (Ok tt)
     none_left made i l = ap (λ (gs : List Gate). first_no (operations_questions fits m made i gs)) (gates-none ws count i l)

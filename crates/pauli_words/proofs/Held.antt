@@ -1,12 +1,12 @@
 -- Mask forms in an array: one more put behind those of the nodes before it, one read, and those of the basis.
 use mathlib.Core.Path.{◌≡◌, sym, ap, ap₂, ◌∙◌, subst}
 use mathlib.Core.List.{List, [], ◌∷◌, ◌++◌, map, map-append}
-use Prim.Native.Nat.{ℕ, zero, suc, ◌+◌, ◌-◌, ◌*◌, ◌^◌, ◌≤◌, ◌<◌}
+use Prim.Native.Nat.{ℕ, suc, ◌+◌, ◌-◌, ◌*◌, ◌^◌, ◌≤◌, ◌<◌}
 use native.Mathlib.Omega.{arith}
 use lib.ListN.{length, get_or, set, take, length-set, get_or-map}
 use lib.Seq.{take-suc-set, get_or-take}
-use Rattle.pauli_nodes.specs.Nodes.{Reference, reference, Node, single, product, basis_from, in_order}
-use Rattle.pauli_nodes.specs.Inner.Masks.{Mask, identity_mask, pauli_mask, turn_mask, times_mask, ref_mask, mask_after}
+use Rattle.pauli_nodes.specs.Nodes.{reference, Node, single, basis_from, in_order}
+use Rattle.pauli_nodes.specs.Inner.Masks.{Mask, identity_mask, pauli_mask, turn_mask, ref_mask, mask_after}
 use Rattle.pauli_words.specs.Questions.{number_of}
 use Rattle.pauli_words.specs.Inner.Masks.{unpacked, masks_in, basis_masks}
 

@@ -1,7 +1,7 @@
 -- The questions of the nodes and of the operations of a Pauli program on n qubits, in order.
 use Rattle.std.specs.Prelude.{Bool, ◌&&◌, List, [], ◌∷◌, ◌++◌, ℕ, suc, ◌+◌, ◌*◌, ltb, length}
 use Rattle.algebra.specs.Lists.{every}
-use Rattle.verdict.specs.declared.Verdict.TheVariants.{OperandAt, MalformedAt, BadNodeAt, BadAxisAt, NoOutcomeAt}
+use Rattle.verdict.specs.declared.Refusal.TheVariants.{OperandAt, MalformedAt, BadNodeAt, BadAxisAt, NoOutcomeAt}
 use Rattle.verdict.specs.Questions.{Question, question}
 use Rattle.gate.specs.Gate.{Gate}
 use Rattle.pauli_nodes.specs.Nodes.{Reference, Node, single, product, hermitian, axis_matrix}

@@ -62,9 +62,5 @@ pub fn is_axis(masks: &[u32], count: u32, node: u32, turns: u32) -> bool
     requires { count ≤ length masks.now }
     ensures { result ≡ mask_fits masks.now count (reference node turns) }
 {
-    if node < count {
-        let m = turn(turns, masks[node as usize]);
-        return is_hermitian(m);
-    }
-    false
+    node < count && is_hermitian(turn(turns, masks[node as usize]))
 }

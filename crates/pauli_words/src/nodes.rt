@@ -1,6 +1,5 @@
 // The listed nodes, judged in order, and the mask forms of all nodes.
-ghost use Rattle.std.specs.Prelude.{◌≡◌, true, ◌+◌, ◌*◌, ◌/◌, ◌≤◌, ◌<◌, ◌^◌, ◌-◌, length};
-ghost use Rattle.verdict.specs.Verdict.{accepted};
+ghost use Rattle.std.specs.Prelude.{◌≡◌, true, ◌+◌, ◌*◌, ◌/◌, ◌≤◌, ◌<◌, ◌^◌, ◌-◌, length, is_ok};
 ghost use Rattle.verdict.specs.Questions.{first_no};
 ghost use Rattle.gate.specs.Gate.{gate_size, gates_of};
 ghost use Rattle.gate.specs.Inner.Words.{gate_of};
@@ -13,7 +12,7 @@ use crate::TIMES;
 use crate::masks::{single, times, turn};
 use gate::GATE;
 use gate::judge::{GateWords, read_gate};
-use verdict::Verdict;
+use verdict::{Refusal, Verdict};
 
 fn is_formed(w: GateWords) -> bool
     ensures { result ≡ node_formed (gate_of w) }
@@ -38,13 +37,13 @@ fn judge_node(w: GateWords, i: usize, n: u32, number: u32) -> Verdict
     requires { number ≡ number_of n i }
     ensures { result ≡ first_no (node_questions n i (gate_of w)) }
 {
-    if is_formed(w) {
-        if is_sound(w, n, number) {
-            return Verdict::Accepted;
-        }
-        return Verdict::BadNodeAt(i);
+    if !is_formed(w) {
+        return Err(Refusal::MalformedAt(i));
     }
-    Verdict::MalformedAt(i)
+    if !is_sound(w, n, number) {
+        return Err(Refusal::BadNodeAt(i));
+    }
+    Ok(())
 }
 
 // The weight of qubit q in a row number.
@@ -74,13 +73,11 @@ fn fill_basis(n: u32, masks: &mut [u32])
     ensures { masks_in masks.new (number_of n 0) ≡ basis_masks n }
 {
     masks[0] = 0;
-    let mut q = 0;
-    while q < n {
+    for q in 0..n {
         let w = weight_of(n, q);
         let at = 1 + 2 * (q as usize);
         masks[at] = single(w, 1);
         masks[at + 1] = single(w, 3);
-        q += 1;
     }
 }
 
@@ -88,23 +85,15 @@ fn fill_basis(n: u32, masks: &mut [u32])
 pub fn judge_nodes(words: &[u32], n: u32, masks: &mut [u32]) -> Verdict
     requires { (n ≤ 5) × (number_of n (length words.now / gate_size) ≤ length masks.old) × (length masks.old ≤ max_nodes) }
     ensures value { result ≡ first_no (nodes_questions n 0 (gates_of words.now)) }
-    ensures gate_size_after { accepted result ≡ true → masks_in masks.new (number_of n (length words.now / gate_size)) ≡ node_masks n (nodes_of words.now) }
+    ensures gate_size_after { is_ok result ≡ true → masks_in masks.new (number_of n (length words.now / gate_size)) ≡ node_masks n (nodes_of words.now) }
 {
     fill_basis(n, masks);
-    let count = words.len() / GATE;
     let first = 1 + 2 * n;
-    let mut i = 0;
-    while i < count {
+    for i in 0..words.len() / GATE {
         let w = read_gate(words, i * GATE);
         let number = first + i as u32;
-        let v = judge_node(w, i, n, number);
-        if v.is_accepted() {
-            let m = mask_of(w, n, masks, number);
-            masks[number as usize] = m;
-            i += 1;
-        } else {
-            return v;
-        }
+        judge_node(w, i, n, number)?;
+        masks[number as usize] = mask_of(w, n, masks, number);
     }
-    Verdict::Accepted
+    Ok(())
 }

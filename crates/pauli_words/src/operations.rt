@@ -11,7 +11,7 @@ ghost use Rattle.pauli_words.specs.Inner.Masks.{mask_fits};
 use crate::masks::is_axis;
 use gate::GATE;
 use gate::judge::{GateWords, read_gate};
-use verdict::Verdict;
+use verdict::{Refusal, Verdict};
 
 // Kinds.
 pub const ROTATE: u32 = 0;
@@ -40,19 +40,11 @@ fn is_formed(w: GateWords) -> bool
 fn judge_operand(w: GateWords, bits: u32, made: u32, i: usize) -> Verdict
     ensures { result ≡ first_no (operand_questions bits made i (operation_of (gate_of w))) }
 {
-    if w.kind == ROTATE_IF {
-        if w.k < made {
-            return Verdict::Accepted;
-        }
-        return Verdict::NoOutcomeAt(i);
+    match w.kind {
+        ROTATE_IF if w.k >= made => Err(Refusal::NoOutcomeAt(i)),
+        MEASURE_INTO if w.c >= bits => Err(Refusal::OperandAt(i)),
+        _ => Ok(()),
     }
-    if w.kind == MEASURE_INTO {
-        if w.c < bits {
-            return Verdict::Accepted;
-        }
-        return Verdict::OperandAt(i);
-    }
-    Verdict::Accepted
 }
 
 fn judge_operation(
@@ -66,13 +58,13 @@ fn judge_operation(
     requires { count ≤ length masks.now }
     ensures { result ≡ first_no (operation_questions (mask_fits masks.now count) bits made i (gate_of w)) }
 {
-    if is_formed(w) {
-        if is_axis(masks, count, w.a, w.b) {
-            return judge_operand(w, bits, made, i);
-        }
-        return Verdict::BadAxisAt(i);
+    if !is_formed(w) {
+        return Err(Refusal::MalformedAt(i));
     }
-    Verdict::MalformedAt(i)
+    if !is_axis(masks, count, w.a, w.b) {
+        return Err(Refusal::BadAxisAt(i));
+    }
+    judge_operand(w, bits, made, i)
 }
 
 // 1 of a measurement, which makes an outcome and splits each branch.
@@ -86,18 +78,11 @@ pub fn judge_operations(words: &[u32], bits: u32, masks: &[u32], count: u32) -> 
     requires { (count ≤ length masks.now) × (length words.now / gate_size ≤ 1024) }
     ensures { result ≡ first_no (operations_questions (mask_fits masks.now count) bits 0 0 (gates_of words.now)) }
 {
-    let operations = words.len() / GATE;
     let mut made = 0;
-    let mut i = 0;
-    while i < operations {
+    for i in 0..words.len() / GATE {
         let w = read_gate(words, i * GATE);
-        let v = judge_operation(w, masks, count, bits, made, i);
-        if v.is_accepted() {
-            made += splits_of(w);
-            i += 1;
-        } else {
-            return v;
-        }
+        judge_operation(w, masks, count, bits, made, i)?;
+        made += splits_of(w);
     }
-    Verdict::Accepted
+    Ok(())
 }

@@ -1,32 +1,42 @@
--- `pauli_channel` meets its contract.
-use mathlib.Core.Path.{◌≡◌, sym, ap, ◌∙◌}
-use Rattle.verdict.specs.Verdict.{accepted}
-use Rattle.pauli.specs.Call.{accepts}
+-- What is handed over is what the program asks for; a refusal leaves the buffers.
+use Rattle.std.specs.Prelude.{Ok, is_ok}
+use Rattle.std.proofs.Common.{◌≡◌, ℕ, List, length, sym, ap, ◌∙◌}
+use lib.IntN.{ℤ}
+use Rattle.verdict.specs.Questions.{Question}
+use Rattle.verdict.proofs.Questions.{returned, refused_alike, handed, handed_value}
+use Rattle.circuit.specs.declared.limits.Limits.{Limits}
+use Rattle.pauli_words.specs.Words.{operations_of}
+use Rattle.pauli_judge.specs.declared.footprint.ProgramFootprint.{ProgramFootprint}
+use Rattle.pauli_judge.specs.Footprint.{program_footprint}
+use Rattle.pauli.specs.Call.{asked}
 use Rattle.pauli.proofs.Running.{accepted_leaves, refused_leaves}
-use Rattle.pauli.proofs.call.pauli_channel.Lts as lts
-use Rattle.pauli.proofs.call.pauli_channel.Reads as reads
-use Rattle.pauli.proofs.call.pauli_channel.Tie as tie
 use Rattle.pauli.proofs.call.pauli_channel.Goals as goal
 
-abbrev After-is_accepted : Type 0
-After-is_accepted = lts.After-is_accepted tie.the-claims reads.Pre reads.Post tie.handed_clauses
-
--- the test is the acceptance of the call
-tested : (c : After-is_accepted) → let a = c.args in
-    accepts a.qubits a.bits a.store.now a.limits a.nodes.now a.operations.now a.res.now a.work.now ≡ c.is_accepted.result
-tested c = sym (c.is_accepted.ensures ∙ ap accepted c.judge_program-j.ensures.verdict_value)
+-- what the program asks for
+abbrev print : ℕ → ℕ → List ℕ → ProgramFootprint
+print n m os = program_footprint n m (operations_of os)
 
 pub run_and_deliver-requires : goal.run_and_deliver-requires
 run_and_deliver-requires c =
-    (c.judge_program-j.ensures.footprint_value, record { limits = c.args.limits; yes = tested c.before.before.before.before.before ∙ c.if-is_accepted.true })
-
-pub returns-then-is_accepted : goal.returns-then-is_accepted
-returns-then-is_accepted c =
     let a = c.args in
-    let all = accepted_leaves a.qubits a.bits a.store.now a.limits a.nodes.now a.operations.now a.res.now a.work.now (tested c.before.before.before.before.before.before.before.before ∙ c.if-is_accepted.true)
-    c.run_and_deliver.ensures.res_after c.run_and_deliver.ensures.work_after in record { value = c.judge_program-j.ensures.verdict_value; res_after = all.0; work_after = all.1 }
+    let f = print a.qubits a.bits a.operations.now in
+    let qs = asked a.qubits a.bits a.store.now a.limits a.nodes.now a.operations.now a.res.now a.work.now in
+    (handed_value f qs c.in_ok-f.ensures, record { limits = a.limits; yes = sym (ap is_ok (handed f tt qs c.in_ok-f.ensures)) })
 
-pub returns-else-is_accepted : goal.returns-else-is_accepted
-returns-else-is_accepted c =
+pub returns-in_err-f : goal.returns-in_err-f
+returns-in_err-f c =
     let a = c.args in
-    let all = refused_leaves a.qubits a.bits a.store.now a.limits a.nodes.now a.operations.now a.res.now a.work.now (tested c.before.before ∙ c.if-is_accepted.false) in record { value = c.judge_program-j.ensures.verdict_value; res_after = all.0; work_after = all.1 }
+    let f = print a.qubits a.bits a.operations.now in
+    let qs = asked a.qubits a.bits a.store.now a.limits a.nodes.now a.operations.now a.res.now a.work.now in
+    let no = refused_alike f tt qs c.in_err-f.ensures in
+    let left = refused_leaves a.qubits a.bits a.store.now a.limits a.nodes.now a.operations.now a.res.now a.work.now (sym (ap is_ok no)) in
+    record { value = returned _ c.from_residual.ensures.1 ∙ no; res_after = left.0; work_after = left.1 }
+
+pub returns : goal.returns
+returns c =
+    let a = c.args in
+    let f = print a.qubits a.bits a.operations.now in
+    let qs = asked a.qubits a.bits a.store.now a.limits a.nodes.now a.operations.now a.res.now a.work.now in
+    let yes = handed f tt qs c.in_ok-f.ensures in
+    let left = accepted_leaves a.qubits a.bits a.store.now a.limits a.nodes.now a.operations.now a.res.now a.work.now (sym (ap is_ok yes)) c.run_and_deliver.ensures.res_after c.run_and_deliver.ensures.work_after in
+    record { value = yes; res_after = left.0; work_after = left.1 }

@@ -1,4 +1,4 @@
--- The invariant: no operation passed so far writes the bit, so the answer is that of the rest.
+-- No operation passed so far writes the bit, so the answer is that of the rest.
 use mathlib.Core.Path.{◌≡◌}
 use mathlib.Core.Bool.{Bool}
 use mathlib.Core.List.{List}
@@ -15,6 +15,3 @@ had ws bit i = some (λ (g : Gate). writes (operation_of g) bit) (gates_from ws 
 
 abbrev pub invariant-loop-i : goal.invariant-loop-i
 invariant-loop-i l = had l.words l.bit l.from ≡ had l.words l.bit l.i
-
-abbrev pub decreases-loop-i : goal.decreases-loop-i
-decreases-loop-i l = length l.words / gate_size - l.i

@@ -1,38 +1,35 @@
 -- The nodes decide, or the operations by the mask forms that the nodes left.
-use mathlib.Core.Path.{sym, ap, ◌∙◌}
+use mathlib.Core.Path.{refl, ap, ◌∙◌}
 use mathlib.Core.Bool.{Bool}
+use mathlib.Core.List.{List}
+use Prim.Native.Nat.{ℕ}
+use Rattle.std.proofs.lemmas.Result.{err_from_is_err_and}
 use Rattle.verdict.specs.Questions.{Question, first_no}
-use Rattle.verdict.proofs.Questions.{after-yes, after_no}
+use Rattle.verdict.proofs.Questions.{refused, passed}
 use Rattle.gate.specs.Gate.{gates_of}
 use Rattle.pauli_nodes.specs.Nodes.{Reference}
 use Rattle.pauli_words.specs.Words.{nodes_of}
 use Rattle.pauli_words.specs.Questions.{axis_fits, nodes_questions, operations_questions}
-use mathlib.Core.List.{List}
-use Rattle.pauli_judge.proofs.Accepted.{nodes_refuse}
 use Rattle.pauli_judge.proofs.Axes.{fits-same}
-use Rattle.pauli_judge.proofs.questions.judge_lists.Lts as lts
-use Rattle.pauli_judge.proofs.questions.judge_lists.Reads as reads
-use Rattle.pauli_judge.proofs.questions.judge_lists.Tie as tie
 use Rattle.pauli_judge.proofs.questions.judge_lists.Goals as goal
 
-abbrev Start : Type 0
-Start = lts.Start tie.the-claims reads.Pre reads.Post tie.handed_clauses
+-- the questions of the nodes, and of the operations
+abbrev of_nodes : ℕ → List ℕ → List Question
+of_nodes n ns = nodes_questions n 0 (gates_of ns)
 
--- the questions of the operations
-abbrev asked : Start → List Question
-asked s = operations_questions (axis_fits s.args.n (nodes_of s.args.nodes.now)) s.args.bits 0 0 (gates_of s.args.operations.now)
+abbrev of_operations : ℕ → ℕ → List ℕ → List ℕ → List Question
+of_operations n m ns os = operations_questions (axis_fits n (nodes_of ns)) m 0 0 (gates_of os)
 
-pub returns-then-is_accepted : goal.returns-then-is_accepted
-returns-then-is_accepted c =
+pub returns-in_err-judge_nodes : goal.returns-in_err-judge_nodes
+returns-in_err-judge_nodes c =
     let a = c.args in
-    let good = sym c.is_accepted.ensures ∙ c.if-is_accepted.true in
-    after-yes (nodes_questions a.n 0 (gates_of a.nodes.now)) (asked c.before.before.before.before.before.before.before.before.before.before) (nodes_refuse a.n 0 (gates_of a.nodes.now)) c.judge_nodes-v.ensures.value good
-    (c.judge_operations.ensures
-    ∙ ap (λ (fits : Reference → Bool). first_no (operations_questions fits a.bits 0 0 (gates_of a.operations.now)))
-    (fits-same a.n c.requires.0 a.nodes.now c.judge_nodes-v.new.masks c.judge_nodes-v.ensures.value good (c.judge_nodes-v.ensures.gate_size_after good)))
+    let p = err_from_is_err_and c.from_residual.result c.from_residual.ensures.1 in
+    rw (p.1, p.2) (refused tt tt (of_nodes a.n a.nodes.now) (of_operations a.n a.bits a.nodes.now a.operations.now) c.in_err-judge_nodes.ensures.value)
 
 pub returns : goal.returns
 returns c =
     let a = c.args in
-    after_no (nodes_questions a.n 0 (gates_of a.nodes.now)) (asked c.before.before.before.before.before.before.before.before) (nodes_refuse a.n 0 (gates_of a.nodes.now)) c.judge_nodes-v.ensures.value
-    (sym c.is_accepted.ensures ∙ c.if-is_accepted.false)
+    c.judge_operations.ensures
+    ∙ ap (λ (fits : Reference → Bool). first_no (operations_questions fits a.bits 0 0 (gates_of a.operations.now)))
+    (fits-same a.n c.requires.0 a.nodes.now c.judge_nodes.new.masks c.in_ok-judge_nodes.ensures.value refl (c.in_ok-judge_nodes.ensures.gate_size_after refl))
+    ∙ passed tt tt (of_nodes a.n a.nodes.now) (of_operations a.n a.bits a.nodes.now a.operations.now) c.in_ok-judge_nodes.ensures.value

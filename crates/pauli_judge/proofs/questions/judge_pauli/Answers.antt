@@ -1,5 +1,19 @@
--- The verdict of `judge_program`.
+-- The verdict of `judge_runnable`.
+use Rattle.std.proofs.lemmas.Result.{err_from_is_err_and}
+use Rattle.verdict.proofs.Questions.{refused_alike, handed}
+use Rattle.pauli_words.specs.Words.{operations_of}
+use Rattle.pauli_judge.specs.Footprint.{program_footprint}
+use Rattle.pauli_judge.specs.Questions.{pauli_questions}
 use Rattle.pauli_judge.proofs.questions.judge_pauli.Goals as goal
 
+pub returns-in_err-judge_runnable : goal.returns-in_err-judge_runnable
+returns-in_err-judge_runnable c =
+    let a = c.args in
+    let p = err_from_is_err_and c.from_residual.result c.from_residual.ensures.1 in
+    rw (p.1, p.2)
+    (refused_alike (program_footprint a.n a.bits (operations_of a.operations.now)) tt (pauli_questions a.n a.bits a.store.now a.l a.nodes.now a.operations.now a.res a.work) c.in_err-judge_runnable.ensures)
+
 pub returns : goal.returns
-returns c = c.judge_program-j.ensures.verdict_value
+returns c =
+    let a = c.args in
+    handed (program_footprint a.n a.bits (operations_of a.operations.now)) tt (pauli_questions a.n a.bits a.store.now a.l a.nodes.now a.operations.now a.res a.work) c.in_ok-judge_runnable.ensures

@@ -1,12 +1,6 @@
--- The invariant: what is counted so far and the count of the rest make the whole.
-use Prim.Native.Nat.{◌-◌, ◌/◌}
-use lib.ListN.{length}
-use Rattle.gate.specs.Gate.{gate_size}
+-- What is counted so far and the count of the rest make the whole.
 use Rattle.pauli_judge.proofs.Counted.{Counted}
 use Rattle.pauli_judge.proofs.footprint.ProgramFootprint.of.Given as goal
 
 abbrev pub invariant-loop-i : goal.invariant-loop-i
 invariant-loop-i l = Counted l.words l.n l.bits l.i l.nodes l.splits l.written l.weight
-
-abbrev pub decreases-loop-i : goal.decreases-loop-i
-decreases-loop-i l = length l.words / gate_size - l.i
