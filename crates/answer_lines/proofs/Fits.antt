@@ -1,4 +1,5 @@
 -- How long the answers are.
+use Rattle.std.specs.Prelude.{Ok, Err}
 use mathlib.Core.Path.{◌≡◌}
 use mathlib.Core.Bool.{Bool, true, false, not, ◌&&◌}
 use mathlib.Core.List.{List, [], ◌∷◌, ◌++◌}
@@ -11,9 +12,9 @@ use lib.IntN.{ℤ, pos, negsuc, nat_abs}
 use Rattle.algebra.specs.Lists.{All, filter_by, concat_map}
 use Rattle.algebra.proofs.Lists.{filter_all, filter_length}
 use Rattle.exact.specs.Exact.{Number, Exact, max_exponent}
-use Rattle.verdict.specs.declared.Verdict.{Verdict}
-use Rattle.verdict.specs.declared.Verdict.TheVariants.{Accepted, OverLimit, UnsupportedAt, OperandAt, BadStore, MalformedAt, OverCeiling, TooHeavy, ShortBuffer, TooLarge, Malformed}
-use Rattle.verdict.specs.declared.Verdict.TheVariants.{BadLayers, ClashAt, BadText, UnknownNameAt, NotScheduleAt, ZeroBlock, BadNodeAt, BadAxisAt, NoOutcomeAt, NoPlace, NoGate, NotHermitianAt, NotPlainAt, TooManyPairs, BadCounts}
+use Rattle.verdict.specs.Questions.{Verdict}
+use Rattle.verdict.specs.declared.Refusal.TheVariants.{OverLimit, UnsupportedAt, OperandAt, BadStore, MalformedAt, OverCeiling, TooHeavy, ShortBuffer, TooLarge, Malformed}
+use Rattle.verdict.specs.declared.Refusal.TheVariants.{BadLayers, ClashAt, BadText, UnknownNameAt, NotScheduleAt, ZeroBlock, BadNodeAt, BadAxisAt, NoOutcomeAt, NoPlace, NoGate, NotHermitianAt, NotPlainAt, TooManyPairs, BadCounts}
 use Rattle.verdict.specs.Verdict.{verdict_number, verdict_index}
 use Rattle.scalar.specs.declared.Scalar.{Scalar}
 use Rattle.scalar.specs.Calls.{value}
@@ -101,32 +102,32 @@ opening-most Right = record { le = omega arith }
 opening-most Only = record { le = omega arith }
 
 reason-most : (v : Verdict) → AtMost (reason v) 160
-reason-most Accepted = record { le = omega arith }
-reason-most OverLimit = record { le = omega arith }
-reason-most (UnsupportedAt i) = record { le = omega arith }
-reason-most (OperandAt i) = record { le = omega arith }
-reason-most BadStore = record { le = omega arith }
-reason-most (MalformedAt i) = record { le = omega arith }
-reason-most OverCeiling = record { le = omega arith }
-reason-most TooHeavy = record { le = omega arith }
-reason-most ShortBuffer = record { le = omega arith }
-reason-most TooLarge = record { le = omega arith }
-reason-most Malformed = record { le = omega arith }
-reason-most BadLayers = record { le = omega arith }
-reason-most (ClashAt i) = record { le = omega arith }
-reason-most BadText = record { le = omega arith }
-reason-most (UnknownNameAt i) = record { le = omega arith }
-reason-most (NotScheduleAt i) = record { le = omega arith }
-reason-most ZeroBlock = record { le = omega arith }
-reason-most (BadNodeAt i) = record { le = omega arith }
-reason-most (BadAxisAt i) = record { le = omega arith }
-reason-most (NoOutcomeAt i) = record { le = omega arith }
-reason-most NoPlace = record { le = omega arith }
-reason-most NoGate = record { le = omega arith }
-reason-most (NotHermitianAt i) = record { le = omega arith }
-reason-most (NotPlainAt i) = record { le = omega arith }
-reason-most TooManyPairs = record { le = omega arith }
-reason-most BadCounts = record { le = omega arith }
+reason-most (Ok tt) = record { le = omega arith }
+reason-most (Err OverLimit) = record { le = omega arith }
+reason-most (Err (UnsupportedAt i)) = record { le = omega arith }
+reason-most (Err (OperandAt i)) = record { le = omega arith }
+reason-most (Err BadStore) = record { le = omega arith }
+reason-most (Err (MalformedAt i)) = record { le = omega arith }
+reason-most (Err OverCeiling) = record { le = omega arith }
+reason-most (Err TooHeavy) = record { le = omega arith }
+reason-most (Err ShortBuffer) = record { le = omega arith }
+reason-most (Err TooLarge) = record { le = omega arith }
+reason-most (Err Malformed) = record { le = omega arith }
+reason-most (Err BadLayers) = record { le = omega arith }
+reason-most (Err (ClashAt i)) = record { le = omega arith }
+reason-most (Err BadText) = record { le = omega arith }
+reason-most (Err (UnknownNameAt i)) = record { le = omega arith }
+reason-most (Err (NotScheduleAt i)) = record { le = omega arith }
+reason-most (Err ZeroBlock) = record { le = omega arith }
+reason-most (Err (BadNodeAt i)) = record { le = omega arith }
+reason-most (Err (BadAxisAt i)) = record { le = omega arith }
+reason-most (Err (NoOutcomeAt i)) = record { le = omega arith }
+reason-most (Err NoPlace) = record { le = omega arith }
+reason-most (Err NoGate) = record { le = omega arith }
+reason-most (Err (NotHermitianAt i)) = record { le = omega arith }
+reason-most (Err (NotPlainAt i)) = record { le = omega arith }
+reason-most (Err TooManyPairs) = record { le = omega arith }
+reason-most (Err BadCounts) = record { le = omega arith }
 
 single : (xs : List ℕ) → AtMost xs max_line → AtMost (xs ++ []) max_line
 single xs p = plus p (known [])

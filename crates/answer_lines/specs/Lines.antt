@@ -2,7 +2,7 @@
 use Rattle.std.specs.Prelude.{cond, List, [], ◌++◌, ℕ, eqb, length}
 use Prim.Native.String.{String}
 use Rattle.algebra.specs.Lists.{concat_map}
-use Rattle.verdict.specs.declared.Verdict.{Verdict}
+use Rattle.verdict.specs.Questions.{Verdict}
 use Rattle.verdict.specs.Verdict.{verdict_number, verdict_index}
 use Rattle.scalar.specs.declared.Scalar.{Scalar}
 use Rattle.scalar.specs.Calls.{value}
@@ -14,7 +14,7 @@ use Rattle.answers.specs.Utf8.{utf8}
 use Rattle.answers.specs.Numbers.{number_text}
 use Rattle.answers.specs.States.{store_bits, entry_text}
 use Rattle.answers.specs.Reasons.{reason}
-use Rattle.answer_lines.specs.declared.Refusal.{Refusal}
+use Rattle.answer_lines.specs.declared.Fault.{Fault}
 use Rattle.answer_lines.specs.declared.Which.{Which}
 use Rattle.answer_lines.specs.declared.Which.TheVariants.{Left, Right, Only}
 
@@ -68,6 +68,6 @@ abbrev pub room_text : ℕ → ℕ → List ℕ
 room_text gates room = cond (eqb gates 0) [] (decimal gates ++ labelled " gates, and room for " room ++ utf8 "\n")
 
 -- `gate` has the words of the gate at fault, and `room` says for how many gates room is lent
-abbrev pub refused_text : Which → Refusal → List ℕ → ℕ → List ℕ
+abbrev pub refused_text : Which → Fault → List ℕ → ℕ → List ℕ
 refused_text which r gate room =
     first_line which r.verdict r.position ++ place_text r.line r.column gate ++ room_text r.gates room ++ reason r.verdict ++ utf8 "\n"

@@ -16,11 +16,11 @@ use channel::compare::Place;
 use qasm_writer::printer::put_gates;
 use scalar::Scalar;
 use text::page::{put, put_all, put_decimal};
-use verdict::Verdict;
+use verdict::{Verdict, index, number};
 
 // Why a text or its circuit is refused: the byte at fault with its line and column, or the place of the gate at fault; how many gates a text has that has too many. Each is 0 where there is none.
 #[derive(Clone, Copy)]
-pub struct Refusal {
+pub struct Fault {
     pub verdict: Verdict,
     pub position: usize,
     pub line: usize,
@@ -116,8 +116,8 @@ fn put_first(out: &mut [u8], which: Which, v: Verdict, position: usize) -> usize
     ensures { Written (page out.old 0) (first_line which v position) (page out.new result) }
 {
     let a = put_opening(out, which);
-    let b = put_decimal(out, a, v.number() as u64);
-    let c = put_labelled(out, b, b" ", v.index() as u64);
+    let b = put_decimal(out, a, number(&v) as u64);
+    let c = put_labelled(out, b, b" ", index(&v) as u64);
     let d = put_labelled(out, c, b" ", position as u64);
     put(out, d, b'\n')
 }
@@ -155,7 +155,7 @@ fn put_room(out: &mut [u8], at: usize, gates: usize, room: usize) -> usize
 }
 
 // A refusal; `gate` has the words of the gate at fault, if there is one, and `room` says for how many gates room is lent.
-pub fn put_refused(out: &mut [u8], which: Which, r: Refusal, gate: &[u32], room: usize) -> usize
+pub fn put_refused(out: &mut [u8], which: Which, r: Fault, gate: &[u32], room: usize) -> usize
     ensures { Written (page out.old 0) (refused_text which r gate.now room) (page out.new result) }
 {
     let v = r.verdict;

@@ -10,13 +10,13 @@ ghost use Rattle.answers.specs.Inner.Sums.{shown, count_of};
 
 use exact::MAX_EXPONENT;
 use scalar::Scalar;
-use text::page::{magnitude, put, put_all, put_decimal};
+use text::page::{put, put_all, put_decimal};
 
 // A term that is left out.
 fn is_absent(z: i64) -> bool
     ensures { result ≡ is_zero z }
 {
-    magnitude(z) == 0
+    z == 0
 }
 
 fn put_sign(out: &mut [u8], at: usize, first: bool, z: i64) -> usize
@@ -52,7 +52,7 @@ fn put_term(out: &mut [u8], at: usize, first: bool, z: i64, unit: &[u8]) -> usiz
         return at;
     }
     let a = put_sign(out, at, first, z);
-    put_sized(out, a, magnitude(z), unit)
+    put_sized(out, a, z.unsigned_abs(), unit)
 }
 
 // The terms that are not zero, or 0 where there are none.

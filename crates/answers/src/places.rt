@@ -3,7 +3,7 @@ ghost use Rattle.std.specs.Prelude.{◌≡◌, ◌^◌};
 ghost use Rattle.answers.specs.Places.{after, place_of};
 ghost use Rattle.answers.specs.Inner.Lines.{Below};
 
-#[derive(Clone, Copy)]
+#[derive(Clone, Copy, Debug, PartialEq, Eq)]
 pub struct Place {
     pub line: usize,
     pub column: usize,
@@ -33,13 +33,8 @@ pub fn place_of(text: &[u8], position: usize) -> Place
     ensures { result ≡ place_of text.now position }
 {
     let mut p = Place { line: 1, column: 1 };
-    let mut i = 0;
-    while i < text.len() {
-        if position <= i {
-            return p;
-        }
-        p = next(p, text[i]);
-        i += 1;
+    for &b in &text[..position.min(text.len())] {
+        p = next(p, b);
     }
     p
 }

@@ -6,9 +6,6 @@ ghost use Rattle.answers.specs.States.{store_bits, binary, outer, entry_text};
 
 use text::page::{put, put_all};
 
-// The bits of a usize.
-const USIZE_BITS: u32 = 64;
-
 // The bits of a store from bit 0 on, or "-" where there are none.
 pub fn put_store(out: &mut [u8], at: usize, store: u64, m: u32) -> usize
     ensures { Written (page out.old at) (store_bits m store) (page out.new result) }
@@ -18,11 +15,9 @@ pub fn put_store(out: &mut [u8], at: usize, store: u64, m: u32) -> usize
     }
     let mut p = at;
     let mut rest = store;
-    let mut left = m;
-    while 0 < left {
+    for _ in 0..m {
         p = put(out, p, b'0' + (rest % 2) as u8);
-        rest = rest / 2;
-        left -= 1;
+        rest /= 2;
     }
     p
 }
@@ -31,7 +26,7 @@ pub fn put_store(out: &mut [u8], at: usize, store: u64, m: u32) -> usize
 fn high(x: usize, k: u32) -> usize
     ensures { result ≡ x / 2 ^ k }
 {
-    if k < USIZE_BITS {
+    if k < usize::BITS {
         return x >> k;
     }
     0
@@ -41,7 +36,7 @@ fn high(x: usize, k: u32) -> usize
 fn low(x: usize, k: u32) -> usize
     ensures { result ≡ x % 2 ^ k }
 {
-    if k < USIZE_BITS {
+    if k < usize::BITS {
         return x % (1usize << k);
     }
     x
@@ -52,9 +47,7 @@ fn put_binary(out: &mut [u8], at: usize, n: u32, x: usize) -> usize
     ensures { Written (page out.old at) (binary n x) (page out.new result) }
 {
     let mut p = at;
-    let mut k = n;
-    while 0 < k {
-        k -= 1;
+    for k in (0..n).rev() {
         p = put(out, p, b'0' + (high(x, k) % 2) as u8);
     }
     p

@@ -1,8 +1,8 @@
 -- Which numbers and which texts are an input, and what is seen of one from the left.
 use mathlib.Core.Path.{◌≡◌, refl, sym, ap, ◌∙◌}
-use mathlib.Core.Bool.{Bool, true, false, cond, ◌&&◌, ◌||◌, true≢false}
-use mathlib.Core.List.{List, [], ◌∷◌, map}
-use Prim.Native.Nat.{ℕ, suc, ◌+◌, ◌*◌, ◌-◌, ◌<◌, ◌≤◌}
+use mathlib.Core.Bool.{Bool, true, false, cond, ◌&&◌, ◌||◌}
+use mathlib.Core.List.{List}
+use Prim.Native.Nat.{ℕ, suc, ◌+◌, ◌-◌, ◌<◌, ◌≤◌}
 use native.Mathlib.Decide.{dec_lt}
 use native.Mathlib.Numerals.{add-one}
 use native.Mathlib.Omega.{arith}
@@ -12,7 +12,7 @@ use lib.Seq.{sets, sets-eq, length-sets, take_at, drop-cons}
 use borrow.Author.Tests.{leb-true, eqb-true, eqb-false, eq-eqb, ne_eqb, le-leb, lt-leb, lt-ltb, le-ltb}
 use Rattle.algebra.specs.Lists.{every}
 use Rattle.algebra.proofs.Tests.{and_split, and_no, or_right}
-use Rattle.circuit_text.specs.declared.input.Input.{Input}
+use Rattle.std.specs.Prelude.{Option, Some, None}
 use Rattle.circuit_text.specs.declared.input.Circuit.{Circuit}
 use Rattle.circuit_text.specs.declared.input.Seen.{Seen}
 use Rattle.text.specs.Decimal.{value, is_number}
@@ -153,38 +153,38 @@ module _ (ns : List ℕ) (s : Seen) (g : Seeing ns s) where
       same_circuit : ◌≡◌ {A = Circuit} (record { qubits = s.qubits; bits = s.bits; gates = s.gates }) (circuit_in ns)
       same_circuit = λ k. record { qubits = g.qubits (omega arith) k; bits = same_bits_lem k; gates = same-gates k }
 
-    pub seen_input_lem : seen_input s ≡ cond (is_input ns) (Input.Given (circuit_in ns)) Input.Refused
+    pub seen_input_lem : seen_input s ≡ cond (is_input ns) (Some (circuit_in ns)) None
     seen_input_lem = go (dec_lt (2 + s.bits) i)
       where
-        go : Dec (2 + s.bits < i) → seen_input s ≡ cond (is_input ns) (Input.Given (circuit_in ns)) Input.Refused
-        go (yes h) = λ k. cond (same_test h k) (Input.Given (same_circuit h k)) Input.Refused
+        go : Dec (2 + s.bits < i) → seen_input s ≡ cond (is_input ns) (Some (circuit_in ns)) None
+        go (yes h) = λ k. cond (same_test h k) (Some (same_circuit h k)) None
         go (no h) =
             let short : seen_ok s ≡ false =
             and_no (leb s.bits max_bits && leb s.gates max_gates) _ (ap (λ (c : Bool). c && s.bytes) (ne_eqb i (number_count s.bits s.gates) (λ e. omega arith))) in
             let none : is_input ns ≡ false = not_input ns (λ r. omega (arith, r.size, g.bits (omega (arith, r.size)))) in
-            ap (λ (c : Bool). cond c (Input.Given (record { qubits = s.qubits; bits = s.bits; gates = s.gates })) Input.Refused) short
-            ∙ ap (λ (c : Bool). cond c (Input.Given (circuit_in ns)) Input.Refused) (sym none)
+            ap (λ (c : Bool). cond c (Some (record { qubits = s.qubits; bits = s.bits; gates = s.gates })) None) short
+            ∙ ap (λ (c : Bool). cond c (Some (circuit_in ns)) None) (sym none)
 
 -- ---- what an answer says of the test that picks it
-pub given-true : (b : Bool) (x c : Circuit) → cond b (Input.Given x) Input.Refused ≡ Input.Given c → b ≡ true
+pub given-true : (b : Bool) (x c : Circuit) → cond b (Some x) None ≡ Some c → b ≡ true
 given-true true x c e = refl
 given-true false x c e = let z : ◌≡◌ {A = ℕ} 0 1 = cc in absurd (omega arith)
 
-pub given_is : (b : Bool) (x c : Circuit) → cond b (Input.Given x) Input.Refused ≡ Input.Given c → c ≡ x
+pub given_is : (b : Bool) (x c : Circuit) → cond b (Some x) None ≡ Some c → c ≡ x
 given_is true x c e = cc
 given_is false x c e = let z : ◌≡◌ {A = ℕ} 0 1 = cc in absurd (omega arith)
 
-pub refused-false : (b : Bool) (x : Circuit) → cond b (Input.Given x) Input.Refused ≡ Input.Refused → b ≡ false
+pub refused-false : (b : Bool) (x : Circuit) → cond b (Some x) None ≡ None → b ≡ false
 refused-false true x e = let z : ◌≡◌ {A = ℕ} 0 1 = cc in absurd (omega arith)
 refused-false false x e = refl
 
 -- ---- the answer to a text
 module _ (t : List ℕ) where
-  pub refused-text : is_input_text t ≡ false → Input.Refused ≡ input_of t
-  refused-text e = ap (λ (c : Bool). cond c (Input.Given (circuit_in (numbers_of t))) Input.Refused) (sym e)
+  pub refused-text : is_input_text t ≡ false → None ≡ input_of t
+  refused-text e = ap (λ (c : Bool). cond c (Some (circuit_in (numbers_of t))) None) (sym e)
 
-  pub given-text : is_input_text t ≡ true → Input.Given (circuit_in (numbers_of t)) ≡ input_of t
-  given-text e = ap (λ (c : Bool). cond c (Input.Given (circuit_in (numbers_of t))) Input.Refused) (sym e)
+  pub given-text : is_input_text t ≡ true → Some (circuit_in (numbers_of t)) ≡ input_of t
+  given-text e = ap (λ (c : Bool). cond c (Some (circuit_in (numbers_of t))) None) (sym e)
 
   pub kept : (l : List ℕ) → is_input_text t ≡ false → (l ≡ filled t l) × (l ≡ stored t l)
   kept l e = (ap (λ (c : Bool). cond c (sets l 0 (numbers_of t)) l) (sym e), ap (λ (c : Bool). cond c (sets l 0 (store_in (numbers_of t))) l) (sym e))
@@ -201,11 +201,11 @@ unfolding is_input_text
 too_long t h = ap (λ (c : Bool). (c && every is_number (pieces (body t))) && is_input (numbers_of t)) (lt-leb (length t) max_bytes h)
 
 -- e bytes of the text t are its body, in whose pieces r was read
-pub judged : (t : List ℕ) {e : ℕ} {r : Input} → length t ≤ max_bytes → e ≡ body_length t → r ≡ input_in (pieces (take e t)) → r ≡ input_of t
+pub judged : (t : List ℕ) {e : ℕ} {r : Option Circuit} → length t ≤ max_bytes → e ≡ body_length t → r ≡ input_in (pieces (take e t)) → r ≡ input_of t
 unfolding is_input_text
 judged t h f g =
     g ∙ ap (λ (e : ℕ). input_in (pieces (take e t))) f
-    ∙ ap (λ (c : Bool). cond ((c && every is_number (pieces (body t))) && is_input (numbers_of t)) (Input.Given (circuit_in (numbers_of t))) Input.Refused) (sym (le-leb (length t) max_bytes h))
+    ∙ ap (λ (c : Bool). cond ((c && every is_number (pieces (body t))) && is_input (numbers_of t)) (Some (circuit_in (numbers_of t))) None) (sym (le-leb (length t) max_bytes h))
 
 module _ (t : List ℕ) (yes : is_input_text t ≡ true) where
   tested : ((leb (length t) max_bytes && every is_number (pieces (body t))) ≡ true) × (is_input (numbers_of t) ≡ true)

@@ -1,19 +1,19 @@
 -- Texts that are an input, and texts that are none.
-use Rattle.std.specs.Prelude.{◌≡◌, List, [], ◌∷◌, ℕ}
+use Rattle.std.specs.Prelude.{◌≡◌, List, [], ◌∷◌, ℕ, Option, Some, None}
 use Rattle.algebra.specs.Lists.{All}
-use Rattle.circuit_text.specs.declared.input.Input.{Input}
+use Rattle.circuit_text.specs.declared.input.Circuit.{Circuit}
 use Rattle.text.specs.Ascii.{ascii}
 use Rattle.circuit_text.specs.Input.{input_of}
 
 pub record Row : Type 0 where
   pub text : List ℕ
-  pub answer : Input
+  pub answer : Option Circuit
 
 abbrev pub given : List ℕ → ℕ → ℕ → ℕ → Row
-given t n m g = record { text = t; answer = Input.Given (record { qubits = n; bits = m; gates = g }) }
+given t n m g = record { text = t; answer = Some (record { qubits = n; bits = m; gates = g }) }
 
 abbrev pub refused : List ℕ → Row
-refused t = record { text = t; answer = Input.Refused }
+refused t = record { text = t; answer = None }
 
 abbrev pub rows : List Row
 rows =

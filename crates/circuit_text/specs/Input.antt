@@ -1,8 +1,7 @@
 -- The input of the program: n, the bit count, the store (one number a bit), the gate count, then five words a gate.
-use Rattle.std.specs.Prelude.{Bool, cond, ◌&&◌, List, map, ℕ, ◌+◌, ◌*◌, eqb, leb, length, get_or, take, drop}
+use Rattle.std.specs.Prelude.{Bool, cond, ◌&&◌, List, map, ℕ, ◌+◌, ◌*◌, eqb, leb, length, get_or, take, drop, Option, Some, None}
 use Rattle.algebra.specs.Lists.{every, all_below}
 use Rattle.circuit_text.specs.declared.input.Circuit.{Circuit}
-use Rattle.circuit_text.specs.declared.input.Input.{Input}
 use Rattle.gate.specs.Gate.{gate_size}
 use Rattle.text.specs.Decimal.{value, is_number}
 use Rattle.circuit_text.specs.Text.{max_bytes, body, pieces}
@@ -50,5 +49,5 @@ numbers_of t = map value (pieces (body t))
 unfoldable pub is_input_text : List ℕ → Bool
 is_input_text t = (leb (length t) max_bytes && every is_number (pieces (body t))) && is_input (numbers_of t)
 
-abbrev pub input_of : List ℕ → Input
-input_of t = cond (is_input_text t) (Input.Given (circuit_in (numbers_of t))) Input.Refused
+abbrev pub input_of : List ℕ → Option Circuit
+input_of t = cond (is_input_text t) (Some (circuit_in (numbers_of t))) None

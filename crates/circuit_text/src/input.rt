@@ -30,12 +30,6 @@ pub struct Circuit {
     pub gates: usize,
 }
 
-#[derive(Clone, Copy)]
-pub enum Input {
-    Refused,
-    Given(Circuit),
-}
-
 // What the first numbers of an input say, and whether those of its store are bytes.
 #[derive(Clone, Copy)]
 struct Seen {
@@ -44,15 +38,6 @@ struct Seen {
     bits: u32,
     gates: u32,
     bytes: bool,
-}
-
-fn pick(test: bool, yes: u32, no: u32) -> u32
-    ensures { result ≡ cond test yes no }
-{
-    if test {
-        return yes;
-    }
-    no
 }
 
 impl Seen {
@@ -77,24 +62,24 @@ impl Seen {
         let end = 2 + self.bits as usize;
         Seen {
             count: i + 1,
-            qubits: pick(i == 0, v, self.qubits),
-            bits: pick(i == 1, v, self.bits),
-            gates: pick(i == end, v, self.gates),
-            bytes: self.bytes & ((i < 2) | ((end <= i) | (v <= MAX_BYTE))),
+            qubits: if i == 0 { v } else { self.qubits },
+            bits: if i == 1 { v } else { self.bits },
+            gates: if i == end { v } else { self.gates },
+            bytes: self.bytes && (i < 2 || end <= i || v <= MAX_BYTE),
         }
     }
 
     // The circuit that all numbers say.
-    fn input(self) -> Input
+    fn circuit(self) -> Option<Circuit>
         ensures { result ≡ seen_input self }
     {
         let m = self.bits as usize;
         let g = self.gates as usize;
-        let sized = (m <= MAX_BITS) & (g <= MAX_GATES);
-        if !(sized & ((self.count == 3 + m + GATE * g) & self.bytes)) {
-            return Input::Refused;
-        }
-        Input::Given(Circuit {
+        let is_right = m <= MAX_BITS
+            && g <= MAX_GATES
+            && self.count == 3 + m + GATE * g
+            && self.bytes;
+        is_right.then_some(Circuit {
             qubits: self.qubits,
             bits: self.bits,
             gates: g,
@@ -103,22 +88,20 @@ impl Seen {
 }
 
 // The circuit in a text with no newline at its end. Nothing is written before the whole text is read.
-fn judge(text: &[u8]) -> Input
+fn judge(text: &[u8]) -> Option<Circuit>
     requires { length text.now ≤ max_bytes }
     ensures { result ≡ input_in (pieces text.now) }
 {
     let mut at = 0;
     let mut seen = Seen::none();
+    // Kept: a piece's end is found in the text, so that no `for` is plainer.
     while at <= text.len() {
         let e = next_blank(text, at);
-        let number = number_in(&text[at..e]);
-        if !number.ok {
-            return Input::Refused;
-        }
-        seen = seen.with(number.value);
+        let number = number_in(&text[at..e])?;
+        seen = seen.with(number);
         at = e + 1;
     }
-    seen.input()
+    seen.circuit()
 }
 
 // Copies the m bytes of the store.
@@ -126,30 +109,26 @@ fn copy_store(numbers: &[u32], m: usize, store: &mut [u8])
     requires { ((2 + m ≤ length numbers.now) × (m ≤ length store.old)) × (bytes numbers.now m ≡ true) }
     ensures { store.new ≡ sets store.old 0 (take m (drop 2 numbers.now)) }
 {
-    let mut i = 0;
-    while i < m {
+    for i in 0..m {
         store[i] = numbers[2 + i] as u8;
-        i += 1;
     }
 }
 
 // Reads a circuit into as much room as any input needs.
-fn read_circuit(text: &[u8], numbers: &mut [u32], store: &mut [u8]) -> Input
+fn read_circuit(text: &[u8], numbers: &mut [u32], store: &mut [u8]) -> Option<Circuit>
     requires { (max_numbers ≤ length numbers.old) × (max_bits ≤ length store.old) }
     ensures answer { result ≡ input_of text.now }
     ensures numbers { numbers.new ≡ filled text.now numbers.old }
     ensures store { store.new ≡ stored text.now store.old }
 {
     if MAX_BYTES < text.len() {
-        return Input::Refused;
+        return None;
     }
     let e = body_length(text);
-    let Input::Given(circuit) = judge(&text[..e]) else {
-        return Input::Refused;
-    };
+    let circuit = judge(&text[..e])?;
     let count = read_numbers(&text[..e], numbers);
     copy_store(&numbers[..count], circuit.bits as usize, store);
-    Input::Given(circuit)
+    Some(circuit)
 }
 
 // Reads the circuit in a text; its numbers go to `numbers`, and the bytes of its store to `store`. Where the text is refused, both are as they were.
@@ -157,7 +136,7 @@ pub fn read_input(
     text: &[u8],
     numbers: &mut [u32; MAX_NUMBERS],
     store: &mut [u8; MAX_BITS],
-) -> Input
+) -> Option<Circuit>
     ensures answer { result ≡ input_of text.now }
     ensures numbers { numbers.new ≡ filled text.now numbers.old }
     ensures store { store.new ≡ stored text.now store.old }

@@ -12,16 +12,15 @@ use text::number::number_in;
 // Where the first blank from `at` on stands, or the text's end.
 pub fn next_blank(text: &[u8], at: usize) -> usize
     requires { at ≤ length text.now }
-    ensures { result ≡ at + run (drop at text.now) }
+    ensures end { result ≡ at + run (drop at text.now) }
+    ensures inside { (at ≤ result) × (result ≤ length text.now) }
 {
-    let mut i = at;
-    while i < text.len() {
+    for i in at..text.len() {
         if is_blank(text[i]) {
             return i;
         }
-        i += 1;
     }
-    i
+    text.len()
 }
 
 // The length of a text without the newline at its end.
@@ -46,10 +45,10 @@ pub fn read_numbers(text: &[u8], numbers: &mut [u32]) -> usize
 {
     let mut at = 0;
     let mut count = 0;
+    // Kept: a piece's end is found in the text, so that no `for` is plainer.
     while at <= text.len() {
         let e = next_blank(text, at);
-        let number = number_in(&text[at..e]);
-        numbers[count] = number.value;
+        numbers[count] = number_in(&text[at..e]).unwrap();
         count += 1;
         at = e + 1;
     }

@@ -7,13 +7,13 @@ use native.Mathlib.Omega.{arith}
 use lib.ListN.{length, take, drop}
 use lib.Seq.{drop-append_seam, drop-length}
 use Rattle.algebra.specs.Lists.{every}
-use Rattle.verdict.specs.declared.Verdict.{Verdict}
-use Rattle.verdict.specs.declared.Verdict.TheVariants.{BadText}
+use Rattle.verdict.specs.declared.Refusal.{Refusal}
+use Rattle.verdict.specs.declared.Refusal.TheVariants.{BadText}
 use Rattle.text.specs.Ascii.{ascii}
 use Rattle.text.specs.Decimal.{is_digit}
 use Rattle.qasm.specs.Tokens.{same, is_blank, is_comment, opens_word, in_word, in_line, run, sign_more, Token, token, tokens, is_index}
 use Rattle.qasm.specs.Forms.{Piece, fixed, fresh, size, register, index, header, declared, Entry}
-use Rattle.qasm.specs.Reading.{Seen, State, due, fault, fits, taken, unknown, named, opened, may_declare, step, start, Outcome, refused, ended}
+use Rattle.qasm.specs.Reading.{Seen, State, due, fault, fits, taken, unknown, named, opened, may_declare, step, start, refused, ended}
 use Rattle.qasm.specs.Claims.{Gaps, placeless, Placeless, headed, SameTokens}
 use Rattle.qasm.proofs.Lexing.{tokens-inside, run-all, run-whole}
 
@@ -52,7 +52,7 @@ erase (fault v at) = fault v 0
 abbrev step_bytes : State → List ℕ → State
 step_bytes s bs = erase (step s (token 0 bs))
 
-erase-cond : (c : Bool) (next : State) (v : Verdict) (at : ℕ) → erase (cond c next (fault v at)) ≡ erase (cond c next (fault v 0))
+erase-cond : (c : Bool) (next : State) (v : Refusal) (at : ℕ) → erase (cond c next (fault v at)) ≡ erase (cond c next (fault v 0))
 erase-cond true next v at = refl
 erase-cond false next v at = refl
 

@@ -11,7 +11,7 @@ use borrow.Author.Tests.{leb-true, eqb-true}
 use Rattle.algebra.specs.Lists.{All, concat_map}
 use Rattle.algebra.proofs.Tests.{and_split}
 use Rattle.gate.specs.Gate.{gate, measure, reset, formed}
-use Rattle.verdict.specs.declared.Verdict.TheVariants.{BadText}
+use Rattle.verdict.specs.declared.Refusal.TheVariants.{BadText}
 use Rattle.text.specs.Ascii.{ascii}
 use Rattle.text.specs.Decimal.{is_digit, value, max_number, decimal}
 use Rattle.text.proofs.RoundTrip.{round_trip}

@@ -1,4 +1,5 @@
 -- One token: what the code's struct says before and after it is what the definition says.
+use Rattle.std.specs.Prelude.{Result, Ok, Err}
 use mathlib.Core.Path.{◌≡◌, refl, sym, ap, ◌∙◌, subst}
 use mathlib.Core.Bool.{Bool, true, false, cond, not, ◌&&◌, ◌||◌, true≢false}
 use mathlib.Core.List.{List, [], ◌∷◌}
@@ -13,18 +14,20 @@ use lib.Seq.{drop-cons, get_or-take, get_or-drop}
 use borrow.Author.Tests.{leb-true, eq-eqb, ne_eqb}
 use Rattle.algebra.specs.Lists.{All}
 use Rattle.algebra.proofs.Tests.{and_split, holds-true, exhaust}
-use Rattle.verdict.specs.declared.Verdict.{Verdict}
-use Rattle.verdict.specs.declared.Verdict.TheVariants.{BadText, UnknownNameAt}
+use Rattle.verdict.specs.declared.Refusal.{Refusal}
+use Rattle.verdict.specs.declared.Refusal.TheVariants.{BadText, UnknownNameAt}
 use Rattle.gate.specs.Gate.{elem}
 use Rattle.gate.proofs.Gate.{elem_in}
 use Rattle.text.specs.Ascii.{ascii}
 use Rattle.text.specs.Decimal.{value}
+use Rattle.qasm.specs.declared.bytes.Span.{Span}
 use Rattle.qasm.specs.declared.pieces.Progress.{Progress}
+use Rattle.qasm.specs.declared.reader.Fault.{Fault}
 use Rattle.qasm.specs.Tokens.{same, is_small, opens_word, Token, token, is_index}
 use Rattle.qasm.specs.Forms.{Piece}
-use Rattle.qasm.specs.Reading.{Seen, State, due, fault, fits, taken, wrong, unknown, opened, step}
-use Rattle.qasm.specs.Inner.Places.{forms, place_count, gate_place, indexed, word_of, piece_of, due_from, due_at, wrong_by, unknown_name, bad_text}
-use Rattle.qasm.specs.Inner.Progress.{part, Inside, Ready, fits_by, moved, refused, put_word, Held, seen_of, verdict_of, state_of, Sees, May, Stepped}
+use Rattle.qasm.specs.Reading.{Seen, State, due, fault, fits, taken, wrong, unknown, step, fault_at}
+use Rattle.qasm.specs.Inner.Places.{forms, place_count, gate_place, indexed, word_of, piece_of, due_from, due_at, wrong_by}
+use Rattle.qasm.specs.Inner.Progress.{span, part, Inside, Ready, fits_by, moved, put_word, Held, seen_of, Sees, May, Stepped}
 use Rattle.qasm.proofs.Kept.{held_set}
 
 -- ---- places
@@ -73,15 +76,6 @@ module _ (p : ℕ) (h : p < place_count) where
   pub due_none : at_place p ≡ 46 → due_at p ≡ []
   due_none e = from-here ∙ ap (λ (c : Bool). cond c [] (piece_of (at_place p) ∷ due_at (p + 1))) (eq-eqb (at_place p) 46 e)
 
--- ---- refusals
-pub wrong_is : (c : Bool) → verdict_of (cond c unknown_name bad_text) ≡ cond c (UnknownNameAt 0) BadText
-wrong_is true = refl
-wrong_is false = refl
-
-wrong-some : (c : Bool) → eqb (cond c unknown_name bad_text) 0 ≡ false
-wrong-some true = refl
-wrong-some false = refl
-
 -- ---- one piece
 module _ (t : List ℕ) (s : Progress) (begin end : ℕ) (i : Inside (length t) begin end) where
   abbrev bs : List ℕ
@@ -91,7 +85,7 @@ module _ (t : List ℕ) (s : Progress) (begin end : ℕ) (i : Inside (length t) 
   tok = token begin bs
 
   abbrev names : List (List ℕ)
-  names = part t s.q_from s.q_to ∷ part t s.c_from s.c_to ∷ []
+  names = part t s.quantum.start s.quantum.end ∷ part t s.classical.start s.classical.end ∷ []
 
   pub first_is : get_or t begin 0 ≡ get_or bs 0 0
   first_is =
@@ -105,7 +99,7 @@ module _ (t : List ℕ) (s : Progress) (begin end : ℕ) (i : Inside (length t) 
     -- what the code does at the piece b, and what is defined
     pub record Agrees (b : ℕ) : Type 0 where
       pub fitting : fits_by t s b ok begin end ≡ fits (piece_of b) names tok
-      pub refusing : verdict_of (wrong_by (eqb b 113 || eqb b 99) (get_or t begin 0)) ≡ wrong (piece_of b) tok
+      pub refusing : wrong_by (eqb b 113 || eqb b 99) (get_or t begin 0) ≡ wrong (piece_of b) tok
       pub taking : fits (piece_of b) names tok ≡ true → (ws : List ℕ) → seen_of t (moved s b v begin end) (words_by b ws) ≡ taken (piece_of b) (seen_of t s ws) tok
 
     same-value : is_index tok ≡ true → v ≡ value bs
@@ -119,8 +113,8 @@ module _ (t : List ℕ) (s : Progress) (begin end : ℕ) (i : Inside (length t) 
     fresh_is : (is_small (get_or t begin 0) && not (same (get_or names 0 []) bs || same (get_or names 1 []) bs)) ≡ (is_small (get_or bs 0 0) && (not (same (get_or names 0 []) bs) && (not (same (get_or names 1 []) bs) && true)))
     fresh_is = λ j. is_small (first_is j) && unlike (same (get_or names 0 []) bs) (same (get_or names 1 []) bs) j
 
-    name_wrong : verdict_of (wrong_by true (get_or t begin 0)) ≡ unknown tok
-    name_wrong = wrong_is (opens_word (get_or t begin 0)) ∙ ap (λ (b : ℕ). cond (opens_word b) (UnknownNameAt 0) BadText) first_is
+    name_wrong : wrong_by true (get_or t begin 0) ≡ unknown tok
+    name_wrong = ap (λ (b : ℕ). cond (opens_word b) (UnknownNameAt 0) BadText) first_is
 
     number-taken : (f : ℕ → Seen) → is_index tok ≡ true → f v ≡ f (value bs)
     number-taken f e = ap f (same-value e)
@@ -180,31 +174,24 @@ module _ (t : List ℕ) (s : Progress) (begin end : ℕ) (i : Inside (length t) 
     agree = elem_in Agrees codes agree-all
 
 -- ---- states
-pub running_is : (t : List ℕ) (s : Progress) → s.fault ≡ 0 → (ws : List ℕ) → state_of t s ws ≡ due (due_at s.place) (seen_of t s ws)
-running_is t s e ws = ap (λ (n : ℕ). cond (eqb n 0) (due (due_at s.place) (seen_of t s ws)) (fault (verdict_of n) s.position)) e
-
-pub refused_is : (t : List ℕ) (s : Progress) (c : Bool) (at : ℕ) (ws : List ℕ) → fault (verdict_of (cond c unknown_name bad_text)) at ≡ state_of t (refused s (cond c unknown_name bad_text) at) ws
-refused_is t s c at ws =
-    ap (λ (b : Bool). cond b (due (due_at s.place) (seen_of t s ws)) (fault (verdict_of (cond c unknown_name bad_text)) at)) (sym (wrong-some c))
-
 -- the registers' names, as far as they are declared, lie in the text
 moved_ready : (n : ℕ) (s : Progress) (b v begin end : ℕ) → Ready n s → Inside n begin end → s.place + 1 < place_count → (s.place + 1 ≡ gate_place → ⊥) → Ready n (moved s b v begin end)
 moved_ready n s b v begin end r i next apart = record {
   place = next;
-  quantum = within (eqb b 81) r.quantum;
-  «quantum-end» = inside (eqb b 81) r.«quantum-end»;
-  classical = within (eqb b 67) r.classical;
-  «classical-end» = inside (eqb b 67) r.«classical-end»;
+  quantum = within (eqb b 81) s.quantum r.quantum;
+  «quantum-end» = inside (eqb b 81) s.quantum r.«quantum-end»;
+  classical = within (eqb b 67) s.classical r.classical;
+  «classical-end» = inside (eqb b 67) s.classical r.«classical-end»;
   opened = λ h. r.opened (let q = apart in less h);
 }
   where
-    within : (c : Bool) {x y : ℕ} → x ≤ y → cond c begin x ≤ cond c end y
-    within true h = let k = i.some in omega arith
-    within false h = h
+    within : (c : Bool) (x : Span) → x.start ≤ x.end → (cond c (span begin end) x).start ≤ (cond c (span begin end) x).end
+    within true x h = let k = i.some in omega arith
+    within false x h = h
 
-    inside : (c : Bool) {y : ℕ} → y ≤ n → cond c end y ≤ n
-    inside true h = i.within
-    inside false h = h
+    inside : (c : Bool) (x : Span) → x.end ≤ n → (cond c (span begin end) x).end ≤ n
+    inside true x h = i.within
+    inside false x h = h
 
     less : gate_place ≤ s.place + 1 → gate_place ≤ s.place
     less h = by (dec_lt s.place gate_place)
@@ -216,9 +203,6 @@ moved_ready n s b v begin end r i next apart = record {
 module _ (t : List ℕ) (room : ℕ) (s : Progress) (g : List ℕ) (begin end : ℕ) (m : May (length t) room (length g) s begin end) where
   abbrev token-here : Token
   token-here = token begin (part t begin end)
-
-  pub refuse_ready : (n : ℕ) → Ready (length t) (refused s n begin)
-  refuse_ready n = let r = m.ready in record { place = r.place; quantum = r.quantum; «quantum-end» = r.«quantum-end»; classical = r.classical; «classical-end» = r.«classical-end»; opened = r.opened }
 
   pub later-few : (p : ℕ) → length (due_at s.place) ≤ length (due_at p) → s.words ≤ end + length (due_at p)
   later-few p h = let i = m.inside in let f = m.few in omega (arith, i.some)
@@ -240,19 +224,19 @@ module _ (t : List ℕ) (room : ℕ) (s : Progress) (g : List ℕ) (begin end : 
     abbrev then : Bool → List ℕ → State
     then c ws = cond c (due (due_at (s.place + 1)) (taken (piece_of b) (seen_of t s ws) token-here)) (fault (wrong (piece_of b) token-here) begin)
 
-    stepped-to : {l : List ℕ} {st : State} (c : Bool) → fits_by t s b ok begin end ≡ c → (x : Sees t l room s g st) → step st token-here ≡ then c x.words
+    stepped-to : {l : List ℕ} {st : State} (c : Bool) → fits_by t s b ok begin end ≡ c → (x : Sees t l room (Ok s) g st) → step st token-here ≡ then c x.words
     stepped-to c e x =
-        ap (λ (q : State). step q token-here) (x.is ∙ running_is t s m.running x.words ∙ ap (λ (ps : List Piece). due ps (seen_of t s x.words)) (due_more s.place m.ready.place here))
+        ap (λ (q : State). step q token-here) (x.is ∙ ap (λ (ps : List Piece). due ps (seen_of t s x.words)) (due_more s.place m.ready.place here))
         ∙ ap (λ (c : Bool). then c x.words) (sym agrees.fitting ∙ e)
 
-    pub step-refused : {r : Progress} → fits_by t s b ok begin end ≡ false → r ≡ refused s (wrong_by (eqb b 113 || eqb b 99) (get_or t begin 0)) begin → Stepped t room s g begin end r g
-    step-refused {r} e q = subst (λ (r : Progress). Stepped t room s g begin end r g) (sym q) (record {
-      ready = refuse_ready _;
-      few = later-few s.place (omega arith);
+    pub step-refused : {r : Result Progress Fault} → fits_by t s b ok begin end ≡ false → r ≡ Err (fault_at (wrong_by (eqb b 113 || eqb b 99) (get_or t begin 0)) begin) → Stepped t room s g begin end r g
+    step-refused {r} e q = subst (λ (r : Result Progress Fault). Stepped t room s g begin end r g) (sym q) (record {
+      ready = tt;
+      few = tt;
       keeps = λ l st x. record {
         words = x.words;
-        is = stepped-to false e x ∙ ap (λ (v : Verdict). fault v begin) (sym agrees.refusing) ∙ refused_is t s ((eqb b 113 || eqb b 99) && opens_word (get_or t begin 0)) begin x.words;
-        count = x.count;
+        is = stepped-to false e x ∙ ap (λ (v : Refusal). fault v begin) (sym agrees.refusing);
+        count = tt;
         held = x.held;
       };
     })
@@ -271,16 +255,14 @@ module _ (t : List ℕ) (room : ℕ) (s : Progress) (g : List ℕ) (begin end : 
     words_count ws true = length-set ws (length ws - 5 + word_of b) v
     words_count ws false = refl
 
-    pub step-moved : {r : Progress} {g' : List ℕ} → fits_by t s b ok begin end ≡ true → r ≡ moved s b v begin end
+    pub step-moved : {r : Result Progress Fault} {g' : List ℕ} → fits_by t s b ok begin end ≡ true → r ≡ Ok (moved s b v begin end)
         → g' ≡ cond (indexed b) (put_word g room (s.words - 5 + word_of b) v) g → Stepped t room s g begin end r g'
-    step-moved {r} {g'} e q w = subst (λ (r : Progress). Stepped t room s g begin end r g') (sym q) (subst (Stepped t room s g begin end (moved s b v begin end)) (sym w) (record {
+    step-moved {r} {g'} e q w = subst (λ (r : Result Progress Fault). Stepped t room s g begin end r g') (sym q) (subst (Stepped t room s g begin end (Ok (moved s b v begin end))) (sym w) (record {
       ready = moved_ready (length t) s b v begin end m.ready m.inside there.next there.apart;
       few = let f = m.few in omega (arith, m.inside.some, ap length (due_more s.place m.ready.place here));
       keeps = λ l st x. record {
         words = words_by t s begin end m.inside ok v right is b x.words;
-        is = stepped-to true e x
-            ∙ ap (due (due_at (s.place + 1))) (sym (agrees.taking (sym agrees.fitting ∙ e) x.words))
-            ∙ sym (running_is t (moved s b v begin end) m.running (words_by t s begin end m.inside ok v right is b x.words));
+        is = stepped-to true e x ∙ ap (due (due_at (s.place + 1))) (sym (agrees.taking (sym agrees.fitting ∙ e) x.words));
         count = words_count x.words (indexed b) ∙ x.count;
         held = held-index l x.words x.count x.held (indexed b) refl;
       };

@@ -11,7 +11,7 @@ use borrow.Author.Tests.{leb-true, eq-eqb}
 use Rattle.algebra.specs.Lists.{All, every, filter_by, concat_map}
 use Rattle.algebra.proofs.Lists.{every-all, filter_all}
 use Rattle.algebra.proofs.Tests.{and_split}
-use Rattle.verdict.specs.declared.Verdict.TheVariants.{BadText}
+use Rattle.verdict.specs.declared.Refusal.TheVariants.{BadText}
 use Rattle.gate.specs.Gate.{Gate, gate, gate_size, gates_of, measure, rz, last_kind, arity, formed}
 use Rattle.text.specs.Ascii.{ascii}
 use Rattle.text.specs.Decimal.{max_digits, is_digit, value, max_number, is_number}

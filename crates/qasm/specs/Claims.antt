@@ -55,7 +55,7 @@ pub record Gaps : Type 0 where
 -- tokens of the same bytes read the same wherever they stand, but for the position of a fault
 abbrev pub placeless : Outcome → Outcome
 placeless (circuit n m ws) = circuit n m ws
-placeless (refused v at) = refused v 0
+placeless (refused r at) = refused r 0
 
 abbrev pub Placeless : Type 0
 Placeless =

@@ -2,9 +2,9 @@
 use Rattle.std.specs.Prelude.{◌≡◌, Bool, true, false, ◌&&◌, List, [], ◌∷◌, ◌++◌, ℕ, ◌+◌, eqb, length}
 use Prim.Native.String.{String}
 use Rattle.algebra.specs.Lists.{every}
-use Rattle.verdict.specs.declared.Verdict.{Verdict}
-use Rattle.verdict.specs.declared.Verdict.TheVariants.{BadText, UnknownNameAt}
-use Rattle.verdict.specs.Verdict.{verdict_number}
+use Rattle.verdict.specs.declared.Refusal.{Refusal}
+use Rattle.verdict.specs.declared.Refusal.TheVariants.{BadText, UnknownNameAt}
+use Rattle.verdict.specs.Verdict.{refusal_number}
 use Rattle.gate.specs.Gate.{Gate, gate}
 use Rattle.text.specs.Ascii.{ascii}
 use Rattle.qasm.specs.Tokens.{same}
@@ -19,9 +19,9 @@ pub data Row : Type 0 where
 
 abbrev pub agree : Outcome → Outcome → Bool
 agree (circuit n m ws) (circuit n' m' ws') = eqb n n' && (eqb m m' && same ws ws')
-agree (circuit n m ws) (refused v at) = false
-agree (refused v at) (circuit n m ws) = false
-agree (refused v at) (refused v' at') = eqb (verdict_number v) (verdict_number v') && eqb at at'
+agree (circuit n m ws) (refused r at) = false
+agree (refused r at) (circuit n m ws) = false
+agree (refused r at) (refused r' at') = eqb (refusal_number r) (refusal_number r') && eqb at at'
 
 abbrev pub holds : Row → Bool
 holds (reads t r) = agree (read_of t) r
@@ -35,8 +35,8 @@ abbrev pub sound : String → ℕ → ℕ → List ℕ → Row
 sound s n m ws = reads (top ++ ascii s) (circuit n m ws)
 
 -- a fault `at` bytes after these
-abbrev pub faulty : String → Verdict → ℕ → Row
-faulty s v at = reads (top ++ ascii s) (refused v (length top + at))
+abbrev pub faulty : String → Refusal → ℕ → Row
+faulty s r at = reads (top ++ ascii s) (refused r (length top + at))
 
 abbrev pub rows : List Row
 rows =

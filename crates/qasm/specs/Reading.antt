@@ -1,14 +1,15 @@
 -- Reading: token after token is held against what is due; the first that cannot stand there is the fault.
-use Rattle.std.specs.Prelude.{Bool, cond, not, ◌&&◌, ℕ, ◌+◌, ◌-◌, eqb, leb, length, get_or, drop, set}
+use Rattle.std.specs.Prelude.{Bool, cond, not, ◌&&◌, ℕ, ◌+◌, ◌-◌, eqb, leb, length, get_or, drop, set, Result, Ok, Err}
 use mathlib.Core.List.{List, [], ◌∷◌, ◌++◌, foldl}
 use Rattle.std.proofs.lemmas.List.Edits.{sets}
 use Rattle.algebra.specs.Lists.{every, filter_by}
-use Rattle.verdict.specs.declared.Verdict.{Verdict}
-use Rattle.verdict.specs.declared.Verdict.TheVariants.{Accepted, ShortBuffer, BadText, UnknownNameAt}
+use Rattle.verdict.specs.declared.Refusal.{Refusal}
+use Rattle.verdict.specs.declared.Refusal.TheVariants.{ShortBuffer, BadText, UnknownNameAt}
 use Rattle.gate.specs.Gate.{gate_size}
 use Rattle.text.specs.Ascii.{ascii}
 use Rattle.text.specs.Decimal.{value}
 use Rattle.qasm.specs.declared.reader.Reading.{Reading}
+use Rattle.qasm.specs.declared.reader.Fault.{Fault}
 use Rattle.qasm.specs.Tokens.{same, is_blank, run, begins, Token, tokens, is_word, is_name, is_index}
 use Rattle.qasm.specs.Forms.{Piece, fixed, fresh, size, register, index, sign, header, included, declared, Entry, table}
 
@@ -24,7 +25,7 @@ seen names sizes words = record { names = names; sizes = sizes; words = words }
 -- what is seen, with the pieces that are due before the statement ends (none between statements); or the first fault with its position
 pub data State : Type 0 where
   due : List Piece → Seen → State
-  fault : Verdict → ℕ → State
+  fault : Refusal → ℕ → State
 
 -- ---- one piece
 -- whether a token can stand there, after these names
@@ -43,10 +44,10 @@ taken (register r) s t = s
 taken (index w) s t = seen s.names s.sizes (set s.words (length s.words - gate_size + w) (value t.bytes))
 
 -- where a gate's name or an operand's register is due, another word is a fault of its own
-abbrev pub unknown : Token → Verdict
+abbrev pub unknown : Token → Refusal
 unknown t = cond (is_word t) (UnknownNameAt 0) BadText
 
-abbrev pub wrong : Piece → Token → Verdict
+abbrev pub wrong : Piece → Token → Refusal
 wrong (fixed bs) t = BadText
 wrong (fresh r) t = BadText
 wrong (size r) t = BadText
@@ -67,7 +68,7 @@ abbrev pub may_declare : Seen → Bool
 may_declare s = eqb (length (get_or s.names 1 [])) 0 && eqb (length s.words) 0
 
 abbrev pub step : State → Token → State
-step (fault v at) t = fault v at
+step (fault r at) t = fault r at
 step (due (p ∷ ps) s) t = cond (fits p s.names t) (due ps (taken p s t)) (fault (wrong p t) t.at)
 step (due [] s) t = cond (may_declare s && same (ascii "creg") t.bytes) (due (declared 1) s) (opened (named t) s t)
 
@@ -78,11 +79,11 @@ start = due (sign "include" ∷ included ++ (sign "qreg" ∷ declared 0)) (seen 
 -- both counts and the gates' words; or a refusal with the position of the fault
 pub data Outcome : Type 0 where
   circuit : ℕ → ℕ → List ℕ → Outcome
-  refused : Verdict → ℕ → Outcome
+  refused : Refusal → ℕ → Outcome
 
 -- at the end of the text, which has n bytes
 abbrev pub ended : ℕ → State → Outcome
-ended n (fault v at) = refused v at
+ended n (fault r at) = refused r at
 ended n (due (p ∷ ps) s) = refused BadText n
 ended n (due [] s) = circuit (get_or s.sizes 0 0) (get_or s.sizes 1 0) s.words
 
@@ -96,13 +97,13 @@ abbrev pub read_of : List ℕ → Outcome
 read_of t = read_from (run is_blank t) t
 
 -- ---- the call: its reply, for room of so many words, and that room
-abbrev pub refusal : Verdict → ℕ → Reading
-refusal v at = record { qubits = 0; bits = 0; words = 0; verdict = v; position = at }
+abbrev pub fault_at : Refusal → ℕ → Fault
+fault_at r at = record { refusal = r; position = at }
 
-abbrev pub reply : ℕ → Outcome → Reading
-reply room (circuit n m ws) = cond (leb (length ws) room) (record { qubits = n; bits = m; words = length ws; verdict = Accepted; position = 0 }) (refusal ShortBuffer 0)
-reply room (refused v at) = refusal v at
+abbrev pub reply : ℕ → Outcome → Result Reading Fault
+reply room (circuit n m ws) = cond (leb (length ws) room) (Ok (record { qubits = n; bits = m; words = length ws })) (Err (fault_at ShortBuffer 0))
+reply room (refused r at) = Err (fault_at r at)
 
 abbrev pub filled : List ℕ → Outcome → List ℕ
 filled gates (circuit n m ws) = cond (leb (length ws) (length gates)) (sets gates 0 ws) gates
-filled gates (refused v at) = gates
+filled gates (refused r at) = gates

@@ -1,15 +1,15 @@
 // The table of gate names: their bytes, kinds and forms, at the same places.
 ghost use Rattle.std.specs.Prelude.{◌≡◌, ◌<◌};
-ghost use Rattle.qasm.specs.Forms.{Entry, table};
+ghost use Rattle.qasm.specs.Forms.{Entry};
 ghost use Rattle.qasm.specs.Tokens.{same};
-ghost use Rattle.qasm.specs.Inner.Places.{entry_at, entry_count, names_bytes, name_lengths, index_of, Placed};
+ghost use Rattle.qasm.specs.Inner.Places.{entry_at, entry_count, names_bytes, name_lengths, Found, Placed};
 
 use super::bytes::is_same;
 use super::pieces::{MEASURED, ONE, THREE, TWO};
 use gate::{CSWAP, MEASURE, RESET, SWAP};
 
 // How many names there are.
-pub const ENTRIES: usize = 17;
+const ENTRIES: usize = 17;
 
 // Each name, filled up with blanks, and how long it is.
 const WIDTH: usize = 8;
@@ -54,18 +54,16 @@ fn is_name(names: &[u8], lengths: &[u8], e: usize, word: &[u8]) -> bool
     is_same(&names[begin..end], word)
 }
 
-// The first entry with this name, or the number of entries.
-pub fn find(word: &[u8]) -> usize
-    ensures { result ≡ index_of (λ (e : Entry). same e.name word.now) table }
+// The first entry with this name.
+pub fn find(word: &[u8]) -> Option<usize>
+    ensures { Found (λ (e : Entry). same e.name word.now) result }
 {
     let names: &[u8] = &NAMES;
     let lengths: &[u8] = &LENGTHS;
-    let mut e = 0;
-    while e < ENTRIES {
+    for e in 0..ENTRIES {
         if is_name(names, lengths, e, word) {
-            return e;
+            return Some(e);
         }
-        e += 1;
     }
-    e
+    None
 }

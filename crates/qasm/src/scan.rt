@@ -10,14 +10,12 @@ pub fn blanks_end(text: &[u8], at: usize) -> usize
     requires { at ≤ length text.now }
     ensures { result ≡ at + run is_blank (drop at text.now) }
 {
-    let mut i = at;
-    while i < text.len() {
+    for i in at..text.len() {
         if !is_blank(text[i]) {
             return i;
         }
-        i += 1;
     }
-    i
+    text.len()
 }
 
 // The newline that ends a comment, or the end of the text.
@@ -25,14 +23,19 @@ fn line_end(text: &[u8], at: usize) -> usize
     requires { at ≤ length text.now }
     ensures { result ≡ at + run in_line (drop at text.now) }
 {
-    let mut i = at;
-    while i < text.len() {
+    for i in at..text.len() {
         if text[i] == b'\n' {
             return i;
         }
-        i += 1;
     }
-    i
+    text.len()
+}
+
+// Whether a byte stands in a word, or in a number.
+fn is_in_run(b: u8, word: bool) -> bool
+    ensures { result ≡ in_run word b }
+{
+    word && opens_word(b) || is_digit(b)
 }
 
 // The end of a word, or of a number.
@@ -40,15 +43,12 @@ fn run_end(text: &[u8], at: usize, word: bool) -> usize
     requires { at ≤ length text.now }
     ensures { result ≡ at + run (in_run word) (drop at text.now) }
 {
-    let mut i = at;
-    while i < text.len() {
-        let b = text[i];
-        if !((word & opens_word(b)) | is_digit(b)) {
+    for i in at..text.len() {
+        if !is_in_run(text[i], word) {
             return i;
         }
-        i += 1;
     }
-    i
+    text.len()
 }
 
 fn is_comment(text: &[u8], at: usize) -> bool
@@ -67,6 +67,7 @@ pub fn gap_end(text: &[u8], at: usize) -> usize
     ensures { Passed text.now at result }
 {
     let mut i = at;
+    // Kept: a comment's end is found in the text, so that no `for` is plainer.
     while i < text.len() {
         if is_blank(text[i]) {
             i += 1;

@@ -2,47 +2,33 @@
 ghost use Rattle.std.specs.Prelude.{◌≡◌, true, cond, [], ◌+◌, ◌-◌, ◌^◌, ◌≤◌, ◌<◌, length};
 ghost use Rattle.gate.specs.Gate.{gate_size};
 ghost use Rattle.qasm.specs.Inner.Places.{entry_count, forms, indexed, word_of, due_at};
-ghost use Rattle.qasm.specs.Inner.Progress.{put_word, put_gate, refused, placed, from_top, Opened, May, Stepped, Ran};
+ghost use Rattle.qasm.specs.Inner.Progress.{put_word, put_gate, placed, from_top, declares, Opened, May, Stepped, Ran};
 
-use super::bytes::is_same;
-use super::names::{ENTRIES, find, kind_at, place_at};
+use super::bytes::{Span, is_same};
+use super::names::{find, kind_at, place_at};
 use super::pieces::{CREG, FORMS, Progress, STOP, TOP, fits, index_in, piece_at, taken, wrong};
+use super::reader::Fault;
 use super::scan::{gap_end, token_end};
 use gate::GATE;
 
 fn top() -> Progress
     ensures { result ≡ from_top }
 {
+    let nowhere = Span { start: 0, end: 0 };
     Progress {
         place: TOP,
-        q_from: 0,
-        q_to: 0,
-        c_from: 0,
-        c_to: 0,
+        quantum: nowhere,
+        classical: nowhere,
         qubits: 0,
         bits: 0,
         words: 0,
-        fault: 0,
-        position: 0,
     }
-}
-
-fn refuse(s: Progress, number: u32, at: usize) -> Progress
-    ensures { result ≡ refused s number at }
-{
-    let mut r = s;
-    r.fault = number;
-    r.position = at;
-    r
 }
 
 fn go_to(s: Progress, place: usize, words: usize) -> Progress
     ensures { result ≡ placed s place words }
 {
-    let mut r = s;
-    r.place = place;
-    r.words = words;
-    r
+    Progress { place, words, ..s }
 }
 
 // A word, if there is room for it.
@@ -86,70 +72,78 @@ fn open_gate(gates: &mut [u32], room: usize, s: Progress, e: usize) -> Progress
     go_to(s, place, s.words + GATE)
 }
 
-// The first token of a statement: creg, which may stand once and before all gates, or a gate's name.
+// Whether a word declares the classical register, which it may once and before all gates.
+fn declares(s: Progress, word: &[u8]) -> bool
+    ensures { result ≡ declares s word.now }
+{
+    s.classical.start == s.classical.end && s.words == 0 && is_same(b"creg", word)
+}
+
+// The first token of a statement: creg, or a gate's name.
 fn open(
     text: &[u8],
     gates: &mut [u32],
     room: usize,
     s: Progress,
-    begin: usize,
-    end: usize,
-) -> Progress
-    requires { May (length text.now) room (length gates.old) s begin end × (due_at s.place ≡ []) }
-    ensures { Stepped text.now room s gates.old begin end result gates.new }
+    token: Span,
+) -> Result<Progress, Fault>
+    requires { May (length text.now) room (length gates.old) s token.start token.end × (due_at s.place ≡ []) }
+    ensures { Stepped text.now room s gates.old token.start token.end result gates.new }
 {
-    if ((s.c_from == s.c_to) & (s.words == 0)) & is_same(b"creg", &text[begin..end]) {
-        return go_to(s, CREG, s.words);
+    let word = &text[token.start..token.end];
+    if declares(s, word) {
+        return Ok(go_to(s, CREG, s.words));
     }
-    let e = find(&text[begin..end]);
-    if e == ENTRIES {
-        let number = wrong(true, text[begin]);
-        return refuse(s, number, begin);
+    match find(word) {
+        Some(e) => Ok(open_gate(gates, room, s, e)),
+        None => Err(Fault {
+            refusal: wrong(true, text[token.start]),
+            position: token.start,
+        }),
     }
-    open_gate(gates, room, s, e)
 }
 
-// One token, from `begin` to `end`. A word that it says is written where there is room for it.
+// One token. A word that it says is written where there is room for it.
 fn step(
     pieces: &[u8],
     text: &[u8],
     gates: &mut [u32],
     room: usize,
     s: Progress,
-    begin: usize,
-    end: usize,
-) -> Progress
-    requires { (pieces.now ≡ forms) × May (length text.now) room (length gates.old) s begin end }
-    ensures { Stepped text.now room s gates.old begin end result gates.new }
+    token: Span,
+) -> Result<Progress, Fault>
+    requires { (pieces.now ≡ forms) × May (length text.now) room (length gates.old) s token.start token.end }
+    ensures { Stepped text.now room s gates.old token.start token.end result gates.new }
 {
     let piece = piece_at(pieces, s.place);
     if piece == STOP {
-        return open(text, gates, room, s, begin, end);
+        return open(text, gates, room, s, token);
     }
-    let number = index_in(&text[begin..end]);
-    if !fits(text, s, piece, number.ok, begin, end) {
-        let fault = wrong((piece == b'q') | (piece == b'c'), text[begin]);
-        return refuse(s, fault, begin);
+    let index = index_in(&text[token.start..token.end]);
+    if !fits(text, s, piece, index, token) {
+        return Err(Fault {
+            refusal: wrong((piece == b'q') | (piece == b'c'), text[token.start]),
+            position: token.start,
+        });
     }
-    put_index(gates, room, s.words, piece, number.value);
-    taken(s, piece, number.value, begin, end)
+    let value = index.unwrap_or(0);
+    put_index(gates, room, s.words, piece, value);
+    Ok(taken(s, piece, value, token))
 }
 
 // All tokens from `at` on, up to the first fault.
-pub fn run(text: &[u8], at: usize, gates: &mut [u32], room: usize) -> Progress
+pub fn run(text: &[u8], at: usize, gates: &mut [u32], room: usize) -> Result<Progress, Fault>
     requires { (at ≤ length text.now) × (room ≤ length gates.old) }
     ensures { Ran text.now at room gates.old result gates.new }
 {
     let pieces: &[u8] = &FORMS;
     let mut s = top();
     let mut begin = gap_end(text, at);
+    // Kept: the next token's place is found in the text, so that no `for` is plainer.
     while begin < text.len() {
         let end = token_end(text, begin);
-        s = step(pieces, text, gates, room, s, begin, end);
-        if s.fault != 0 {
-            return s;
-        }
+        s = step(pieces, text, gates, room, s, Span { start: begin, end })?;
         begin = gap_end(text, end);
     }
-    s
+    Ok(s)
 }

@@ -15,7 +15,7 @@ use Rattle.text.specs.Ascii.{ascii}
 use Rattle.text.specs.Decimal.{word_digits, decimal}
 use Rattle.text.proofs.Digits.{decimal-one, decimal-more}
 use Rattle.text.proofs.RoundTrip.{digits-most}
-use Rattle.qasm_writer.specs.declared.printer.Span.{Span}
+use Rattle.qasm.specs.declared.bytes.Span.{Span}
 use Rattle.qasm.specs.Writing.{gate_text, written}
 use Rattle.qasm_writer.specs.Inner.Print.{openings, Opens, indexed, qubit_if, others}
 use Rattle.qasm.specs.Claims.{frame_bytes}

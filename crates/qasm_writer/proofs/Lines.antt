@@ -12,7 +12,7 @@ use Rattle.algebra.proofs.Lists.{filter_all, filter_true, every-all}
 use Rattle.algebra.proofs.Tests.{and_split, holds-true, exhaust}
 use Rattle.gate.specs.Gate.{Gate, gate, last_kind, measure, reset, arity}
 use Rattle.text.specs.Ascii.{ascii}
-use Rattle.qasm_writer.specs.declared.printer.Span.{Span}
+use Rattle.qasm.specs.declared.bytes.Span.{Span}
 use Rattle.qasm.specs.Tokens.{same}
 use Rattle.qasm.specs.Forms.{Piece, one, two, three, measured, Entry, table}
 use Rattle.qasm.specs.Writing.{words, line, of_kind, gate_line, gate_text, written}

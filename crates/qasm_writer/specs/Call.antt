@@ -1,14 +1,12 @@
 -- The writer's call: n qubits, m bits, the gates' words ws, and the room that is lent for the text.
-use Rattle.std.specs.Prelude.{cond, List, [], ◌∷◌, ◌++◌, ℕ, suc, ◌%◌, eqb, leb, length}
+use Rattle.std.specs.Prelude.{cond, List, [], ◌∷◌, ◌++◌, ℕ, suc, ◌%◌, eqb, leb, length, Result, is_ok}
 use Rattle.std.proofs.lemmas.List.Edits.{sets}
-use Rattle.verdict.specs.declared.Verdict.{Verdict}
-use Rattle.verdict.specs.declared.Verdict.TheVariants.{MalformedAt, ShortBuffer, UnknownNameAt}
-use Rattle.verdict.specs.Verdict.{accepted}
-use Rattle.verdict.specs.Questions.{Question, question, first_no}
+use Rattle.verdict.specs.declared.Refusal.{Refusal}
+use Rattle.verdict.specs.declared.Refusal.TheVariants.{MalformedAt, ShortBuffer, UnknownNameAt}
+use Rattle.verdict.specs.Questions.{Question, question, granted}
 use Rattle.gate.specs.Gate.{Gate, gate_size, gates_of, formed}
 use Rattle.qasm.specs.Writing.{written}
 use Rattle.qasm.specs.Claims.{is_named}
-use Rattle.qasm_writer.specs.declared.Written.{Written}
 
 -- a question of each gate; the gates are numbered from i on
 abbrev pub along : (ℕ → Gate → Question) → ℕ → List Gate → List Question
@@ -33,12 +31,10 @@ module _ (n m : ℕ) (ws room : List ℕ) where
   abbrev pub write_questions : List Question
   write_questions = word_questions ws ++ (question 10 (leb (length (text_of n m ws)) (length room)) ShortBuffer ∷ [])
 
-  abbrev pub write_verdict : Verdict
-  write_verdict = first_no write_questions
-
-  abbrev pub write_reply : Written
-  write_reply = record { bytes = cond (accepted write_verdict) (length (text_of n m ws)) 0; verdict = write_verdict }
+  -- how many bytes the text has
+  abbrev pub write_reply : Result ℕ Refusal
+  write_reply = granted (length (text_of n m ws)) write_questions
 
   -- the room afterwards: the text, and the bytes behind it as they were; all as they were where the call refuses
   abbrev pub room_after : List ℕ
-  room_after = cond (accepted write_verdict) (sets room 0 (text_of n m ws)) room
+  room_after = cond (is_ok write_reply) (sets room 0 (text_of n m ws)) room

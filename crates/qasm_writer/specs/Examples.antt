@@ -1,9 +1,9 @@
 -- Examples of words with the writer's answer, and the claim that all of them hold.
-use Rattle.std.specs.Prelude.{◌≡◌, Bool, true, ◌&&◌, List, [], ◌∷◌, ◌++◌, ℕ, eqb, replicate}
+use Rattle.std.specs.Prelude.{◌≡◌, Bool, true, ◌&&◌, List, [], ◌∷◌, ◌++◌, ℕ, eqb, replicate, Result}
 use Rattle.algebra.specs.Lists.{every}
-use Rattle.verdict.specs.declared.Verdict.{Verdict}
+use Rattle.verdict.specs.declared.Refusal.{Refusal}
 use Rattle.verdict.specs.Verdict.{verdict_number, verdict_index}
-use Rattle.qasm_writer.specs.Call.{write_verdict}
+use Rattle.qasm_writer.specs.Call.{write_reply}
 
 pub record Row : Type 0 where
   pub words : List ℕ
@@ -16,8 +16,8 @@ abbrev pub row : List ℕ → ℕ → ℕ → ℕ → Row
 row ws room number index = record { words = ws; room = room; number = number; index = index }
 
 -- of 12 qubits and 3 bits
-abbrev pub answer : Row → Verdict
-answer r = write_verdict 12 3 r.words (replicate r.room 0)
+abbrev pub answer : Row → Result ℕ Refusal
+answer r = write_reply 12 3 r.words (replicate r.room 0)
 
 abbrev pub holds : Row → Bool
 holds r = eqb (verdict_number (answer r)) r.number && eqb (verdict_index (answer r)) r.index

@@ -13,81 +13,52 @@ use crate::printer::{name_span, put_text};
 use crate::room::is_within;
 use gate::GATE;
 use gate::judge::read_gate;
-use verdict::Verdict;
-
-// How many bytes the text has; or why there is none.
-#[derive(Clone, Copy)]
-pub struct Written {
-    pub bytes: usize,
-    pub verdict: Verdict,
-}
+use verdict::{Refusal, Verdict};
 
 fn judge_formed(words: &[u32]) -> Verdict
     ensures { result ≡ first_no (along formed_at 0 (gates_of words.now)) }
 {
-    let count = words.len() / GATE;
-    let mut i = 0;
-    while i < count {
+    for i in 0..words.len() / GATE {
         let g = read_gate(words, i * GATE);
         if !g.is_formed() {
-            return Verdict::MalformedAt(i);
+            return Err(Refusal::MalformedAt(i));
         }
-        i += 1;
     }
-    Verdict::Accepted
+    Ok(())
 }
 
 fn judge_named(words: &[u32]) -> Verdict
     ensures { result ≡ first_no (along named_at 0 (gates_of words.now)) }
 {
-    let count = words.len() / GATE;
-    let mut i = 0;
-    while i < count {
+    for i in 0..words.len() / GATE {
         let g = read_gate(words, i * GATE);
         let name = name_span(g.kind);
         if name.end <= name.start {
-            return Verdict::UnknownNameAt(i);
+            return Err(Refusal::UnknownNameAt(i));
         }
-        i += 1;
     }
-    Verdict::Accepted
+    Ok(())
 }
 
 // Questions 2 and 4, then that each kind has a name.
 fn judge_words(words: &[u32]) -> Verdict
     ensures { result ≡ first_no (word_questions words.now) }
 {
-    if words.len() % GATE == 0 {
-        let v = judge_formed(words);
-        if v.is_accepted() {
-            return judge_named(words);
-        }
-        return v;
+    if words.len() % GATE != 0 {
+        return Err(Refusal::MalformedAt(0));
     }
-    Verdict::MalformedAt(0)
+    judge_formed(words)?;
+    judge_named(words)
 }
 
-// Writes the text of a circuit into `out`. A refusal leaves `out` as it was.
-pub fn write_qasm(qubits: u32, bits: u32, gates: &[u32], out: &mut [u8]) -> Written
+// Writes the text of a circuit into `out`: how many bytes it has. A refusal leaves `out` as it was.
+pub fn write_qasm(qubits: u32, bits: u32, gates: &[u32], out: &mut [u8]) -> Result<usize, Refusal>
     ensures value { result ≡ write_reply qubits bits gates.now out.old }
     ensures out_after { out.new ≡ room_after qubits bits gates.now out.old }
 {
-    let v = judge_words(gates);
-    if v.is_accepted() {
-        if is_within(qubits, bits, gates, out.len()) {
-            let n = put_text(out, qubits, bits, gates);
-            return Written {
-                bytes: n,
-                verdict: Verdict::Accepted,
-            };
-        }
-        return Written {
-            bytes: 0,
-            verdict: Verdict::ShortBuffer,
-        };
+    judge_words(gates)?;
+    if !is_within(qubits, bits, gates, out.len()) {
+        return Err(Refusal::ShortBuffer);
     }
-    Written {
-        bytes: 0,
-        verdict: v,
-    }
+    Ok(put_text(out, qubits, bits, gates))
 }

@@ -9,6 +9,7 @@ ghost use Rattle.qasm_writer.specs.Inner.Print.{Opens, indexed, qubit_if, others
 
 use gate::judge::{GateWords, qubit_count, read_gate};
 use gate::{GATE, LAST_KIND, MEASURE};
+use qasm::bytes::Span;
 use text::page::{put, put_all, put_decimal};
 
 // The names in the order of their kinds, each with the blank behind it.
@@ -45,13 +46,6 @@ const STARTS: [usize; 28] = [
     55, // cswap
     61,
 ];
-
-// A part of the names.
-#[derive(Clone, Copy)]
-pub struct Span {
-    pub start: usize,
-    pub end: usize,
-}
 
 // Where the name of a kind stands; an empty part for a kind that has none.
 pub fn name_span(kind: u32) -> Span
@@ -119,13 +113,10 @@ fn put_gate(out: &mut [u8], at: usize, g: GateWords) -> usize
 pub fn put_gates(out: &mut [u8], at: usize, words: &[u32]) -> usize
     ensures { Written (page out.old at) (concat_map gate_text (gates_of words.now)) (page out.new result) }
 {
-    let count = words.len() / GATE;
     let mut p = at;
-    let mut i = 0;
-    while i < count {
+    for i in 0..words.len() / GATE {
         let g = read_gate(words, i * GATE);
         p = put_gate(out, p, g);
-        i += 1;
     }
     p
 }

@@ -25,8 +25,9 @@ fn decimal_length(n: u32) -> usize
 {
     let mut k = 1;
     let mut rest = n;
+    // Kept: it follows the digits that are left, and counts them.
     while 10 <= rest {
-        rest = rest / 10;
+        rest /= 10;
         k += 1;
     }
     k
@@ -73,11 +74,8 @@ pub fn is_within(qubits: u32, bits: u32, words: &[u32], bytes: usize) -> bool
         return false;
     }
     let mut left = bytes - head;
-    let count = words.len() / GATE;
-    let mut i = 0;
-    while i < count {
+    for i in 0..words.len() / GATE {
         let g = read_gate(words, i * GATE);
-        i += 1;
         let n = line_length(g);
         if left < n {
             return false;

@@ -1,4 +1,5 @@
 -- A text that is read has as many gates as were read from it.
+use Rattle.std.specs.Prelude.{Err}
 use mathlib.Core.Path.{◌≡◌, refl, sym, ap, ◌∙◌, subst}
 use mathlib.Core.Bool.{Bool, true, false, cond, not, ◌&&◌, ◌||◌, true≢false}
 use mathlib.Core.List.{List, [], ◌∷◌, foldl}
@@ -8,7 +9,7 @@ use lib.ListN.{length, get_or, drop, set, length-set, length-append}
 use Rattle.algebra.specs.Lists.{All}
 use Rattle.algebra.proofs.Lists.{every-all, filter_all, filter_true}
 use Rattle.algebra.proofs.Tests.{and_split}
-use Rattle.verdict.specs.declared.Verdict.TheVariants.{BadText}
+use Rattle.verdict.specs.declared.Refusal.TheVariants.{BadText}
 use Rattle.gate.specs.Gate.{gate_size}
 use Rattle.text.specs.Ascii.{ascii}
 use Rattle.text.specs.Decimal.{is_number, value}

@@ -8,7 +8,7 @@ use qasm::bytes::is_same;
 use qasm::scan::{blanks_end, gap_end, token_end};
 
 // A gate's position, and how many gates stand before it. Beyond the last gate: the text's end, and how many there are.
-#[derive(Clone, Copy)]
+#[derive(Clone, Copy, Debug, PartialEq, Eq)]
 pub struct Spot {
     pub position: usize,
     pub before: usize,
@@ -20,7 +20,7 @@ const HEADER: usize = 13;
 fn is_declaration(word: &[u8]) -> bool
     ensures { result ≡ declares word.now }
 {
-    (is_same(b"include", word) | is_same(b"qreg", word)) | is_same(b"creg", word)
+    is_same(b"include", word) || is_same(b"qreg", word) || is_same(b"creg", word)
 }
 
 // Finds gate `index` among the statements of a text, numbered from 0.
@@ -39,6 +39,7 @@ pub fn find_gate(text: &[u8], index: usize) -> Spot
     }
     let mut opening = true;
     let mut begin = gap_end(text, blanks + HEADER);
+    // Kept: the next token's place is found in the text, so that no `for` is plainer.
     while begin < size {
         let end = token_end(text, begin);
         if opening & !is_declaration(&text[begin..end]) {

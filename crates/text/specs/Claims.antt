@@ -1,5 +1,5 @@
 -- What is written is read back.
-use Rattle.std.specs.Prelude.{◌≡◌, Bool, true, not, ◌||◌, List, ℕ, ◌≤◌, ◌<◌, ◌^◌, eqb, length, get_or}
+use Rattle.std.specs.Prelude.{◌≡◌, true, not, ◌||◌, List, ℕ, ◌≤◌, ◌<◌, ◌^◌, eqb, length, get_or}
 use Prim.Native.Char.{code}
 use Rattle.algebra.specs.Lists.{every}
 use Rattle.text.specs.Decimal.{is_digit, value, max_number, is_number, word_digits, decimal}

@@ -1,5 +1,5 @@
 -- Decimal numbers in ASCII: what digits say, and the digits of a number.
-use Rattle.std.specs.Prelude.{Bool, cond, ◌&&◌, ◌||◌, ℕ, zero, suc, ◌+◌, ◌*◌, ◌-◌, ◌/◌, ◌%◌, eqb, leb, ltb, length, ℤ, pos, negsuc}
+use Rattle.std.specs.Prelude.{Bool, cond, ◌&&◌, ◌||◌, ℕ, zero, suc, ◌+◌, ◌*◌, ◌-◌, ◌/◌, ◌%◌, eqb, leb, ltb, length, ℤ, pos, negsuc, Option, Some, None}
 use mathlib.Core.List.{List, [], ◌∷◌, ◌++◌, foldl}
 use Prim.Native.Char.{code}
 use Rattle.algebra.specs.Lists.{every}
@@ -29,6 +29,9 @@ max_number = 4294967295
 -- 1 to 10 digits that say a number of 32 bits
 unfoldable pub is_number : List ℕ → Bool
 is_number p = (leb 1 (length p) && leb (length p) max_digits) && (every is_digit p && leb (value p) max_number)
+
+abbrev pub number_of : List ℕ → Option ℕ
+number_of p = cond (is_number p) (Some (value p)) None
 
 -- ---- written
 -- the decimal digits of n, of which there are at most k, the most significant first

@@ -5,12 +5,12 @@ ghost use Rattle.text.specs.Decimal.{is_blank, is_digit};
 pub fn is_digit(b: u8) -> bool
     ensures { result ≡ is_digit b }
 {
-    (b'0' <= b) & (b <= b'9')
+    b.is_ascii_digit()
 }
 
 // A space or a newline.
 pub fn is_blank(b: u8) -> bool
     ensures { result ≡ is_blank b }
 {
-    (b == b' ') | (b == b'\n')
+    b == b' ' || b == b'\n'
 }

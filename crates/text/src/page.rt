@@ -1,6 +1,6 @@
 // Bytes put one after the other into lent room. Each call takes where the next byte goes, and answers where the next one goes then;
 // a byte for which there is no room is left out.
-ghost use Rattle.std.specs.Prelude.{◌≡◌, ◌∷◌, [], nat_abs};
+ghost use Rattle.std.specs.Prelude.{◌≡◌, ◌∷◌, []};
 ghost use Rattle.text.specs.Decimal.{decimal, signed};
 ghost use Rattle.text.specs.Page.{page};
 ghost use Rattle.text.specs.Inner.Written.{Written};
@@ -19,10 +19,8 @@ pub fn put_all(out: &mut [u8], at: usize, bytes: &[u8]) -> usize
     ensures { Written (page out.old at) bytes.now (page out.new result) }
 {
     let mut p = at;
-    let mut i = 0;
-    while i < bytes.len() {
-        p = put(out, p, bytes[i]);
-        i += 1;
+    for &b in bytes {
+        p = put(out, p, b);
     }
     p
 }
@@ -38,22 +36,12 @@ pub fn put_decimal(out: &mut [u8], at: usize, n: u64) -> usize
     put(out, p, b'0' + (n % 10) as u8)
 }
 
-// How large a number is, whatever its sign.
-pub fn magnitude(z: i64) -> u64
-    ensures { result ≡ nat_abs z }
-{
-    if z < 0 {
-        return (-(z + 1)) as u64 + 1;
-    }
-    z as u64
-}
-
 pub fn put_signed(out: &mut [u8], at: usize, z: i64) -> usize
     ensures { Written (page out.old at) (signed z) (page out.new result) }
 {
     if z < 0 {
         let p = put(out, at, b'-');
-        return put_decimal(out, p, magnitude(z));
+        return put_decimal(out, p, z.unsigned_abs());
     }
-    put_decimal(out, at, magnitude(z))
+    put_decimal(out, at, z.unsigned_abs())
 }

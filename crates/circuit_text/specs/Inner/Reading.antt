@@ -1,9 +1,9 @@
 -- A text read from the left: where a piece ends, and what the numbers so far say.
-use Rattle.std.specs.Prelude.{Bool, true, cond, ◌&&◌, ◌||◌, List, [], ◌∷◌, map, ℕ, suc, ◌+◌, ◌*◌, eqb, leb, ltb}
+use Rattle.std.specs.Prelude.{Bool, true, cond, ◌&&◌, ◌||◌, List, [], ◌∷◌, map, ℕ, suc, ◌+◌, eqb, leb, ltb, Option, Some, None}
 use Rattle.std.proofs.lemmas.List.Edits.{sets}
 use Rattle.algebra.specs.Lists.{every}
 use Rattle.circuit_text.specs.declared.input.Seen.{Seen}
-use Rattle.circuit_text.specs.declared.input.Input.{Input}
+use Rattle.circuit_text.specs.declared.input.Circuit.{Circuit}
 use Rattle.text.specs.Decimal.{is_blank, value, is_number}
 use Rattle.circuit_text.specs.Input.{max_bits, max_gates, number_count, max_byte, store_in, circuit_in, is_input, numbers_of, is_input_text}
 
@@ -33,12 +33,12 @@ seen_with s v = record {
 abbrev pub seen_ok : Seen → Bool
 seen_ok s = (leb s.bits max_bits && leb s.gates max_gates) && (eqb s.count (number_count s.bits s.gates) && s.bytes)
 
-abbrev pub seen_input : Seen → Input
-seen_input s = cond (seen_ok s) (Input.Given (record { qubits = s.qubits; bits = s.bits; gates = s.gates })) Input.Refused
+abbrev pub seen_input : Seen → Option Circuit
+seen_input s = cond (seen_ok s) (Some (record { qubits = s.qubits; bits = s.bits; gates = s.gates })) None
 
 -- the circuit in the pieces of a text
-abbrev pub input_in : List (List ℕ) → Input
-input_in ps = cond (every is_number ps && is_input (map value ps)) (Input.Given (circuit_in (map value ps))) Input.Refused
+abbrev pub input_in : List (List ℕ) → Option Circuit
+input_in ps = cond (every is_number ps && is_input (map value ps)) (Some (circuit_in (map value ps))) None
 
 -- the room for the numbers and for the store after reading: as it was, where the text is no input
 abbrev pub filled : List ℕ → List ℕ → List ℕ

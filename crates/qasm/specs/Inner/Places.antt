@@ -1,6 +1,8 @@
 -- The pieces of all forms as bytes, and where each form begins among them.
-use Rattle.std.specs.Prelude.{◌≡◌, Bool, cond, ◌&&◌, ◌||◌, List, [], ◌∷◌, ℕ, suc, ◌-◌, ◌≤◌, ◌<◌, eqb, leb, get_or, drop}
+use Rattle.std.specs.Prelude.{◌≡◌, Bool, cond, ◌&&◌, ◌||◌, List, [], ◌∷◌, ℕ, suc, ◌-◌, ◌≤◌, ◌<◌, eqb, leb, get_or, drop, Option, Some, None}
 use Prim.Native.Char.{code}
+use Rattle.verdict.specs.declared.Refusal.{Refusal}
+use Rattle.verdict.specs.declared.Refusal.TheVariants.{BadText, UnknownNameAt}
 use Rattle.text.specs.Ascii.{ascii}
 use Rattle.qasm.specs.Tokens.{opens_word, arrow, library}
 use Rattle.qasm.specs.Forms.{Piece, fixed, fresh, size, register, index, Entry, entry, table}
@@ -26,6 +28,11 @@ name_lengths = 1 ∷ 1 ∷ 1 ∷ 1 ∷ 1 ∷ 3 ∷ 1 ∷ 3 ∷ 2 ∷ 2 ∷ 2 ∷
 unfoldable pub index_of : {A : Type 0} → (A → Bool) → List A → ℕ
 index_of p [] = 0
 index_of p (x ∷ xs) = cond (p x) 0 (suc (index_of p xs))
+
+-- the place of the first entry that passes the test, if there is one
+abbrev pub Found : (Entry → Bool) → Option ℕ → Type 0
+Found p (Some e) = (e ≡ index_of p table) × (e < entry_count)
+Found p None = index_of p table ≡ entry_count
 
 -- ---- pieces
 abbrev pub forms : List ℕ
@@ -85,12 +92,6 @@ pub record Placed (ps : List Piece) (place : ℕ) : Type 0 where
   pub high : place < place_count
 
 -- ---- refusals
-abbrev pub bad_text : ℕ
-bad_text = 13
-
-abbrev pub unknown_name : ℕ
-unknown_name = 14
-
 -- where a name is due, or something else, and a token stands that begins with b
-abbrev pub wrong_by : Bool → ℕ → ℕ
-wrong_by name b = cond (name && opens_word b) unknown_name bad_text
+abbrev pub wrong_by : Bool → ℕ → Refusal
+wrong_by name b = cond (name && opens_word b) (UnknownNameAt 0) BadText

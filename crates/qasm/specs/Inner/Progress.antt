@@ -1,18 +1,21 @@
 -- What the reader's struct says of the text read so far.
-use Rattle.std.specs.Prelude.{◌≡◌, Bool, true, cond, not, ◌&&◌, ◌||◌, ℕ, ◌+◌, ◌-◌, ◌≤◌, ◌<◌, eqb, ltb, length, get_or, take, drop, set}
+use Rattle.std.specs.Prelude.{◌≡◌, Bool, cond, not, ◌&&◌, ◌||◌, ℕ, ◌+◌, ◌-◌, ◌≤◌, ◌<◌, eqb, ltb, length, get_or, take, drop, set, Option, Some, None, Result, Ok, Err, IfOk}
 use mathlib.Core.List.{List, [], ◌∷◌, foldl}
 use Prim.Native.Char.{code}
 use Rattle.std.proofs.lemmas.List.Edits.{sets}
-use Rattle.verdict.specs.declared.Verdict.{Verdict}
-use Rattle.verdict.specs.declared.Verdict.TheVariants.{BadText, UnknownNameAt}
 use Rattle.gate.specs.Gate.{gate_size}
-use Rattle.text.specs.declared.number.Number.{Number}
 use Rattle.text.specs.Decimal.{value}
+use Rattle.text.specs.Ascii.{ascii}
+use Rattle.qasm.specs.declared.bytes.Span.{Span}
 use Rattle.qasm.specs.declared.pieces.Progress.{Progress}
+use Rattle.qasm.specs.declared.reader.Fault.{Fault}
 use Rattle.qasm.specs.Tokens.{same, is_small, token, is_index}
 use Rattle.qasm.specs.Reading.{Seen, seen, State, due, fault, step, start}
 use Rattle.qasm.specs.Inner.Scanning.{from}
-use Rattle.qasm.specs.Inner.Places.{place_count, gate_place, numeric, fixed_of, due_at, unknown_name, entry_at, Placed}
+use Rattle.qasm.specs.Inner.Places.{place_count, gate_place, numeric, fixed_of, due_at, entry_at, Placed}
+
+abbrev pub span : ℕ → ℕ → Span
+span start end = record { start = start; end = end }
 
 abbrev pub part : List ℕ → ℕ → ℕ → List ℕ
 part t from to = take (to - from) (drop from t)
@@ -25,24 +28,23 @@ pub record Inside (n begin end : ℕ) : Type 0 where
 -- so do the registers' names; and a gate's form is due only after a gate's name
 pub record Ready (n : ℕ) (s : Progress) : Type 0 where
   pub place : s.place < place_count
-  pub quantum : s.q_from ≤ s.q_to
-  pub «quantum-end» : s.q_to ≤ n
-  pub classical : s.c_from ≤ s.c_to
-  pub «classical-end» : s.c_to ≤ n
+  pub quantum : s.quantum.start ≤ s.quantum.end
+  pub «quantum-end» : s.quantum.end ≤ n
+  pub classical : s.classical.start ≤ s.classical.end
+  pub «classical-end» : s.classical.end ≤ n
   pub opened : gate_place ≤ s.place → gate_size ≤ s.words
 
--- the number in a token, as it is answered
-pub record IndexIn (bs : List ℕ) (n : Number) : Type 0 where
-  pub right : n.ok ≡ is_index (token 0 bs)
-  pub is : n.ok ≡ true → n.value ≡ value bs
+-- the number in a token
+abbrev pub index_in : List ℕ → Option ℕ
+index_in bs = cond (is_index (token 0 bs)) (Some (value bs)) None
 
 -- ---- one token
 -- whether a token can stand where a piece is due; `ok`: it is a number
 abbrev pub fits_by : List ℕ → Progress → ℕ → Bool → ℕ → ℕ → Bool
 fits_by t s piece ok begin end =
     let bs = part t begin end in
-    let q = same (part t s.q_from s.q_to) bs in
-    let c = same (part t s.c_from s.c_to) bs in
+    let q = same (part t s.quantum.start s.quantum.end) bs in
+    let c = same (part t s.classical.start s.classical.end) bs in
     cond (numeric piece) ok
     (cond (eqb piece (code "Q") || eqb piece (code "C")) (is_small (get_or t begin 0) && not (q || c))
     (cond (eqb piece (code "q")) q
@@ -52,50 +54,31 @@ fits_by t s piece ok begin end =
 abbrev pub moved : Progress → ℕ → ℕ → ℕ → ℕ → Progress
 moved s piece v begin end = record {
   place = s.place + 1;
-  q_from = cond (eqb piece (code "Q")) begin s.q_from;
-  q_to = cond (eqb piece (code "Q")) end s.q_to;
-  c_from = cond (eqb piece (code "C")) begin s.c_from;
-  c_to = cond (eqb piece (code "C")) end s.c_to;
+  quantum = cond (eqb piece (code "Q")) (span begin end) s.quantum;
+  classical = cond (eqb piece (code "C")) (span begin end) s.classical;
   qubits = cond (eqb piece (code "n")) v s.qubits;
   bits = cond (eqb piece (code "m")) v s.bits;
   words = s.words;
-  fault = s.fault;
-  position = s.position;
-}
-
--- after a fault
-abbrev pub refused : Progress → ℕ → ℕ → Progress
-refused s number at = record {
-  place = s.place;
-  q_from = s.q_from;
-  q_to = s.q_to;
-  c_from = s.c_from;
-  c_to = s.c_to;
-  qubits = s.qubits;
-  bits = s.bits;
-  words = s.words;
-  fault = number;
-  position = at;
 }
 
 -- at another place, with so many words
 abbrev pub placed : Progress → ℕ → ℕ → Progress
 placed s place words = record {
   place = place;
-  q_from = s.q_from;
-  q_to = s.q_to;
-  c_from = s.c_from;
-  c_to = s.c_to;
+  quantum = s.quantum;
+  classical = s.classical;
   qubits = s.qubits;
   bits = s.bits;
   words = words;
-  fault = s.fault;
-  position = s.position;
 }
 
 -- nothing has been read
 abbrev pub from_top : Progress
-from_top = record { place = 0; q_from = 0; q_to = 0; c_from = 0; c_to = 0; qubits = 0; bits = 0; words = 0; fault = 0; position = 0 }
+from_top = record { place = 0; quantum = span 0 0; classical = span 0 0; qubits = 0; bits = 0; words = 0 }
+
+-- a word that declares the classical register, which it may once and before all gates
+abbrev pub declares : Progress → List ℕ → Bool
+declares s word = (eqb s.classical.start s.classical.end && eqb s.words 0) && same (ascii "creg") word
 
 -- ---- words
 -- v at a place for which there is room
@@ -119,18 +102,16 @@ pub record Held (l : List ℕ) (room : ℕ) (g ws : List ℕ) : Type 0 where
 
 -- ---- the state that the struct says, with these words
 abbrev pub seen_of : List ℕ → Progress → List ℕ → Seen
-seen_of t s ws = seen (part t s.q_from s.q_to ∷ part t s.c_from s.c_to ∷ []) (s.qubits ∷ s.bits ∷ []) ws
+seen_of t s ws = seen (part t s.quantum.start s.quantum.end ∷ part t s.classical.start s.classical.end ∷ []) (s.qubits ∷ s.bits ∷ []) ws
 
-abbrev pub verdict_of : ℕ → Verdict
-verdict_of number = cond (eqb number unknown_name) (UnknownNameAt 0) BadText
+abbrev pub state_of : List ℕ → Result Progress Fault → List ℕ → State
+state_of t (Ok s) ws = due (due_at s.place) (seen_of t s ws)
+state_of t (Err f) ws = fault f.refusal f.position
 
-abbrev pub state_of : List ℕ → Progress → List ℕ → State
-state_of t s ws = cond (eqb s.fault 0) (due (due_at s.place) (seen_of t s ws)) (fault (verdict_of s.fault) s.position)
-
-pub record Sees (t l : List ℕ) (room : ℕ) (s : Progress) (g : List ℕ) (st : State) : Type 0 where
+pub record Sees (t l : List ℕ) (room : ℕ) (r : Result Progress Fault) (g : List ℕ) (st : State) : Type 0 where
   pub words : List ℕ
-  pub is : st ≡ state_of t s words
-  pub count : length words ≡ s.words
+  pub is : st ≡ state_of t r words
+  pub count : IfOk r (λ (s : Progress). length words ≡ s.words)
   pub held : Held l room g words
 
 -- there are no more words than bytes were read and pieces are due
@@ -143,15 +124,14 @@ pub record May (n room size : ℕ) (s : Progress) (begin end : ℕ) : Type 0 whe
   pub inside : Inside n begin end
   pub few : Few s begin
   pub wide : room ≤ size
-  pub running : s.fault ≡ 0
 
 -- what it gives
-pub record Stepped (t : List ℕ) (room : ℕ) (s : Progress) (g : List ℕ) (begin end : ℕ) (r : Progress) (g' : List ℕ) : Type 0 where
-  pub ready : Ready (length t) r
-  pub few : Few r end
-  pub keeps : (l : List ℕ) (st : State) → Sees t l room s g st → Sees t l room r g' (step st (token begin (part t begin end)))
+pub record Stepped (t : List ℕ) (room : ℕ) (s : Progress) (g : List ℕ) (begin end : ℕ) (r : Result Progress Fault) (g' : List ℕ) : Type 0 where
+  pub ready : IfOk r (Ready (length t))
+  pub few : IfOk r (λ (s : Progress). Few s end)
+  pub keeps : (l : List ℕ) (st : State) → Sees t l room (Ok s) g st → Sees t l room r g' (step st (token begin (part t begin end)))
 
 -- all tokens from `at` on
-pub record Ran (t : List ℕ) (at room : ℕ) (l : List ℕ) (r : Progress) (g : List ℕ) : Type 0 where
-  pub place : r.place < place_count
+pub record Ran (t : List ℕ) (at room : ℕ) (l : List ℕ) (r : Result Progress Fault) (g : List ℕ) : Type 0 where
+  pub place : IfOk r (λ (s : Progress). s.place < place_count)
   pub sees : Sees t l room r g (foldl step start (from t at))

@@ -1,7 +1,5 @@
 -- `judge_formed` meets its contract.
 use mathlib.Core.Path.{sym, ◌∙◌}
-use Prim.Native.Nat.{◌-◌}
-use native.Mathlib.Omega.{arith}
 use Rattle.qasm_writer.specs.Call.{formed_at}
 use Rattle.qasm_writer.proofs.Asked.{ask_all, ask_yes, ask_no, ask_none}
 use Rattle.qasm_writer.proofs.judge_formed.Goals as goal
@@ -11,26 +9,11 @@ loop-i-init c = ask_all formed_at c.args.words.now
 
 pub returns-then-not-is_formed : goal.returns-then-not-is_formed
 returns-then-not-is_formed c =
-    sym (c.loop-i.invariant ∙ ask_no formed_at c.args.words.now c.loop-i-test.true c.read_gate-g.ensures (sym c.is_formed.ensures ∙ c.if-not-is_formed.true))
+    sym (c.loop-i.invariant ∙ ask_no formed_at c.args.words.now c.loop-i-test.true c.read_gate-g.ensures (sym c.if-not-is_formed.ensures))
 
 pub loop-i-preserved : goal.loop-i-preserved
 loop-i-preserved c =
-    c.loop-i.invariant ∙ ask_yes formed_at c.args.words.now c.loop-i-test.true c.read_gate-g.ensures (sym c.is_formed.ensures ∙ c.if-not-is_formed.false)
+    c.loop-i.invariant ∙ ask_yes formed_at c.args.words.now c.loop-i-test.true c.read_gate-g.ensures (sym c.if-not-is_formed.ensures)
 
 pub returns : goal.returns
 returns c = sym (c.loop-i.invariant ∙ ask_none formed_at c.args.words.now c.loop-i.i c.loop-i-test.false)
-
-pub overflow_mul-i : goal.overflow_mul-i
-overflow_mul-i c = omega arith
-
-pub read_gate-g-requires : goal.read_gate-g-requires
-read_gate-g-requires c = omega arith
-
-pub is_formed-requires : goal.is_formed-requires
-is_formed-requires c = tt
-
-pub overflow_add-i : goal.overflow_add-i
-overflow_add-i c = omega arith
-
-pub loop-i-smaller : goal.loop-i-smaller
-loop-i-smaller c = omega arith

@@ -1,7 +1,5 @@
 -- `judge_named` meets its contract.
 use mathlib.Core.Path.{sym, ◌∙◌}
-use Prim.Native.Nat.{◌-◌}
-use native.Mathlib.Omega.{arith}
 use Rattle.qasm_writer.specs.Call.{named_at}
 use Rattle.qasm_writer.proofs.Asked.{ask_all, ask_yes, ask_no, ask_none}
 use Rattle.gate.specs.Inner.Words.{gate_of}
@@ -24,18 +22,3 @@ loop-i-preserved c =
 
 pub returns : goal.returns
 returns c = sym (c.loop-i.invariant ∙ ask_none named_at c.args.words.now c.loop-i.i c.loop-i-test.false)
-
-pub overflow_mul-i : goal.overflow_mul-i
-overflow_mul-i c = omega arith
-
-pub read_gate-g-requires : goal.read_gate-g-requires
-read_gate-g-requires c = omega arith
-
-pub name_span-name-requires : goal.name_span-name-requires
-name_span-name-requires c = tt
-
-pub overflow_add-i : goal.overflow_add-i
-overflow_add-i c = omega arith
-
-pub loop-i-smaller : goal.loop-i-smaller
-loop-i-smaller c = omega arith

@@ -1,15 +1,14 @@
 -- `judge_words` meets its contract.
-use mathlib.Core.Path.{sym, ◌∙◌}
+use mathlib.Core.Path.{◌∙◌}
+use Rattle.verdict.proofs.Questions.{returned}
 use Rattle.qasm_writer.proofs.Asked.{words_broken, words-malformed, words-formed}
 use Rattle.qasm_writer.proofs.judge_words.Goals as goal
 
-pub returns-then-is_accepted : goal.returns-then-is_accepted
-returns-then-is_accepted c =
-    words-formed c.args.words.now c.if-words-eq0.true c.judge_formed-v.ensures (sym c.is_accepted.ensures ∙ c.if-is_accepted.true) c.judge_named.ensures
+pub returns-then-words-ne0 : goal.returns-then-words-ne0
+returns-then-words-ne0 c = words_broken c.args.words.now c.if-words-ne0.true
 
-pub returns-then-words-eq0 : goal.returns-then-words-eq0
-returns-then-words-eq0 c =
-    words-malformed c.args.words.now c.if-words-eq0.true c.judge_formed-v.ensures (sym c.is_accepted.ensures ∙ c.if-is_accepted.false)
+pub returns-in_err-judge_formed : goal.returns-in_err-judge_formed
+returns-in_err-judge_formed c = returned c.from_residual.result c.from_residual.ensures.1 ∙ words-malformed c.args.words.now c.if-words-ne0.false c.in_err-judge_formed.ensures
 
 pub returns : goal.returns
-returns c = words_broken c.args.words.now c.if-words-eq0.false
+returns c = words-formed c.args.words.now c.if-words-ne0.false c.in_ok-judge_formed.ensures c.judge_named.ensures

@@ -3,7 +3,7 @@ use Rattle.std.specs.Prelude.{◌≡◌, Bool, cond, List, [], ◌∷◌, ◌++�
 use Rattle.gate.specs.Gate.{Gate, measure, arity}
 use Rattle.text.specs.Ascii.{ascii}
 use Rattle.text.specs.Decimal.{decimal}
-use Rattle.qasm_writer.specs.declared.printer.Span.{Span}
+use Rattle.qasm.specs.declared.bytes.Span.{Span}
 use Rattle.qasm.specs.Forms.{Entry}
 use Rattle.qasm.specs.Writing.{of_kind}
 

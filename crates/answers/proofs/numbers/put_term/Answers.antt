@@ -13,4 +13,4 @@ returns-then-is_absent c =
 pub returns : goal.returns
 returns c =
     text (shown_is c.args.first c.args.z c.args.unit.now c.ranges.z (sym c.is_absent.ensures ∙ c.if-is_absent.false))
-    (then c.put_sign-a.ensures (text (ap (λ (n : ℕ). sized n c.args.unit.now) c.magnitude.ensures) c.put_sized.ensures))
+    (then c.put_sign-a.ensures (text (ap (λ (n : ℕ). sized n c.args.unit.now) c.unsigned_abs.ensures.value) c.put_sized.ensures))

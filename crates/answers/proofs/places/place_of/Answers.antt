@@ -1,20 +1,15 @@
 -- `places::place_of` meets its contract.
-use Prim.Native.Nat.{◌-◌}
-use native.Mathlib.Omega.{arith}
-use Rattle.answers.proofs.Walk.{start, step, ends_there, ends-all}
+use mathlib.Core.Path.{sym, ap, ◌∙◌}
+use mathlib.Core.List.{foldl}
+use Prim.Native.Nat.{ℕ}
+use lib.ListN.{take, drop_of_length-le}
+use Rattle.std.proofs.lemmas.List.{take_min}
+use Rattle.answers.specs.Places.{place, after, place_of}
 use Rattle.answers.proofs.places.place_of.Goals as goal
 
-pub loop-i-init : goal.loop-i-init
-loop-i-init c = start _ _
-
-pub returns-then-position-i : goal.returns-then-position-i
-returns-then-position-i c = ends_there _ _ c.loop-i.invariant c.if-position-i.true
-
-pub loop-i-preserved : goal.loop-i-preserved
-loop-i-preserved c = step _ _ c.loop-i.invariant (omega arith) (omega arith) c.next-p.ensures
-
-pub next-p-requires : goal.next-p-requires
-next-p-requires c = record { line = omega arith; column = omega arith }
-
 pub returns : goal.returns
-returns c = ends-all _ _ c.loop-i.invariant c.loop-i-test.false
+unfolding place_of
+returns c =
+    let t = c.args.text.now in
+    let whole = ap (λ (k : ℕ). take k t) c.min.ensures ∙ take_min c.args.position t in
+    sym (c.loop-b.invariant.1 ∙ ap (foldl after c.loop-b.p) (drop_of_length-le _ c.loop-b-test.false)) ∙ ap (foldl after (place 1 1)) whole

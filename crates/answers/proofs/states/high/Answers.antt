@@ -3,4 +3,4 @@ use Rattle.answers.proofs.Bits.{high_none}
 use Rattle.answers.proofs.states.high.Goals as goal
 
 pub returns : goal.returns
-returns c = high_none c.args.x c.args.k c.ranges.x.fits c.if-k-lt-USIZE_BITS.false
+returns c = high_none c.args.x c.args.k c.ranges.x.fits c.if-k-lt-BITS.false

@@ -1,5 +1,4 @@
 -- `states::put_binary` meets its contract.
-use Prim.Native.Nat.{◌-◌}
 use Rattle.text.specs.Page.{page}
 use Rattle.text.proofs.Put.{Left}
 use Rattle.answers.specs.States.{binary}
@@ -7,6 +6,3 @@ use Rattle.answers.proofs.states.put_binary.Given as goal
 
 abbrev pub invariant-loop-k : goal.invariant-loop-k
 invariant-loop-k l = Left (page l.initial.out l.at) (binary l.n l.x) (page l.out l.p) (binary l.k l.x)
-
-abbrev pub decreases-loop-k : goal.decreases-loop-k
-decreases-loop-k l = l.k

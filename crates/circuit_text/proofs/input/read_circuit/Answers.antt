@@ -8,7 +8,7 @@ use lib.ListN.{length, take, drop, length-map}
 use lib.Seq.{sets, length-take-le}
 use Rattle.algebra.specs.Lists.{every}
 use Rattle.circuit_text.specs.declared.input.Circuit.{Circuit}
-use Rattle.circuit_text.specs.declared.input.Input.{Input}
+use Rattle.std.specs.Prelude.{Option, Some}
 use Rattle.text.specs.Decimal.{value, is_number}
 use Rattle.circuit_text.specs.Text.{max_bytes, body, body_length, pieces}
 use Rattle.circuit_text.specs.Inner.Reading.{max_numbers, input_in}
@@ -29,8 +29,8 @@ module _ (t : List ℕ) {e : ℕ} (h : e ≡ body_length t) where
   body_is = ap (λ (k : ℕ). take k t) h
 
   -- a circuit was read in them
-  module _ (short : length t ≤ max_bytes) {x : Input} (answer : x ≡ input_in (pieces (take e t))) {circuit : Circuit} (given : x ≡ Input.Given circuit) where
-    told : input_of t ≡ Input.Given circuit
+  module _ (short : length t ≤ max_bytes) {x : Option Circuit} (answer : x ≡ input_in (pieces (take e t))) {circuit : Circuit} (given : x ≡ Some circuit) where
+    told : input_of t ≡ Some circuit
     told = sym (judged t short h answer) ∙ given
 
     yes : is_input_text t ≡ true
@@ -62,12 +62,13 @@ slice_bounds-judge-end c = sym (part_long c.args.text.now c.body_length-e.ensure
 pub judge-requires : goal.judge-requires
 judge-requires c = omega (arith, part_long c.args.text.now c.body_length-e.ensures, inside c.args.text.now c.body_length-e.ensures, c.if-text-gt-MAX_BYTES.false)
 
-pub returns-in_default : goal.returns-in_default
-returns-in_default c =
+pub returns-in_err-circuit : goal.returns-in_err-circuit
+returns-in_err-circuit c =
     let a = c.args in
     let t = a.text.now in
-    let no = refused-false (is_input_text t) (circuit_in (numbers_of t)) (sym (judged t c.if-text-gt-MAX_BYTES.false c.body_length-e.ensures c.judge.ensures) ∙ c.in_default.is) in
-    record { answer = refused-text t no; numbers = (kept t a.numbers.now no).0; store = (kept t a.store.now no).1 }
+    let no = refused-false (is_input_text t) (circuit_in (numbers_of t)) (sym (judged t c.if-text-gt-MAX_BYTES.false c.body_length-e.ensures c.judge.ensures) ∙ c.in_err-circuit.was) in
+    let refused = refused-text t no in
+    record { answer = cc; numbers = (kept t a.numbers.now no).0; store = (kept t a.store.now no).1 }
 
 pub slice_bounds-read_numbers-end : goal.slice_bounds-read_numbers-end
 slice_bounds-read_numbers-end c = sym (part_long c.args.text.now c.body_length-e.ensures)
@@ -77,7 +78,7 @@ read_numbers-count-requires c =
     let a = c.args in
     let t = a.text.now in
     let h = c.body_length-e.ensures in
-    let y = yes t h c.if-text-gt-MAX_BYTES.false c.judge.ensures c.in-Given.is in
+    let y = yes t h c.if-text-gt-MAX_BYTES.false c.judge.ensures c.in_ok-circuit.was in
     let q = few-numbers t y in
     let long = c.requires.0 in (
       omega (arith, part_long t h, inside t h, c.if-text-gt-MAX_BYTES.false),
@@ -86,12 +87,12 @@ read_numbers-count-requires c =
 
 pub slice_bounds-copy_store-end : goal.slice_bounds-copy_store-end
 slice_bounds-copy_store-end c =
-    (words c.args.text.now c.body_length-e.ensures c.if-text-gt-MAX_BYTES.false c.judge.ensures c.in-Given.is c.args.numbers.now c.requires.0 c.read_numbers-count.ensures.room c.read_numbers-count.ensures.count).0
+    (words c.args.text.now c.body_length-e.ensures c.if-text-gt-MAX_BYTES.false c.judge.ensures c.in_ok-circuit.was c.args.numbers.now c.requires.0 c.read_numbers-count.ensures.room c.read_numbers-count.ensures.count).0
 
 pub slice_bounds-copy_store-end-2 : goal.slice_bounds-copy_store-end-2
 slice_bounds-copy_store-end-2 c =
     sym (length-take-le c.read_numbers-count.result c.read_numbers-count.new.numbers
-    (words c.args.text.now c.body_length-e.ensures c.if-text-gt-MAX_BYTES.false c.judge.ensures c.in-Given.is c.args.numbers.now c.requires.0 c.read_numbers-count.ensures.room c.read_numbers-count.ensures.count).0)
+    (words c.args.text.now c.body_length-e.ensures c.if-text-gt-MAX_BYTES.false c.judge.ensures c.in_ok-circuit.was c.args.numbers.now c.requires.0 c.read_numbers-count.ensures.room c.read_numbers-count.ensures.count).0)
 
 pub copy_store-requires : goal.copy_store-requires
 copy_store-requires c =
@@ -99,10 +100,10 @@ copy_store-requires c =
     let t = a.text.now in
     let h = c.body_length-e.ensures in
     let short = c.if-text-gt-MAX_BYTES.false in
-    let q = sound t (yes t h short c.judge.ensures c.in-Given.is) in
+    let q = sound t (yes t h short c.judge.ensures c.in_ok-circuit.was) in
     let long = c.requires.1 in
-    let ns-is = (words t h short c.judge.ensures c.in-Given.is a.numbers.now c.requires.0 c.read_numbers-count.ensures.room c.read_numbers-count.ensures.count).1 in
-    subst₂ (λ (g : Circuit) (ns : List ℕ). ((2 + g.bits ≤ length ns) × (g.bits ≤ length a.store.now)) × (bytes ns g.bits ≡ true)) (sym (circuit_is t h short c.judge.ensures c.in-Given.is)) (sym ns-is)
+    let ns-is = (words t h short c.judge.ensures c.in_ok-circuit.was a.numbers.now c.requires.0 c.read_numbers-count.ensures.room c.read_numbers-count.ensures.count).1 in
+    subst₂ (λ (g : Circuit) (ns : List ℕ). ((2 + g.bits ≤ length ns) × (g.bits ≤ length a.store.now)) × (bytes ns g.bits ≡ true)) (sym (circuit_is t h short c.judge.ensures c.in_ok-circuit.was)) (sym ns-is)
     ((omega (arith, q.size), omega (arith, q.bits)), q.store)
 
 pub returns : goal.returns
@@ -111,12 +112,12 @@ returns c =
     let t = a.text.now in
     let h = c.body_length-e.ensures in
     let short = c.if-text-gt-MAX_BYTES.false in
-    let y = yes t h short c.judge.ensures c.in-Given.is in
-    let d = circuit_is t h short c.judge.ensures c.in-Given.is in
+    let y = yes t h short c.judge.ensures c.in_ok-circuit.was in
+    let d = circuit_is t h short c.judge.ensures c.in_ok-circuit.was in
     let room = c.read_numbers-count.ensures.room in
-    let ns-is = (words t h short c.judge.ensures c.in-Given.is a.numbers.now c.requires.0 room c.read_numbers-count.ensures.count).1 in
+    let ns-is = (words t h short c.judge.ensures c.in_ok-circuit.was a.numbers.now c.requires.0 room c.read_numbers-count.ensures.count).1 in
     record {
-      answer = ap Input.Given d ∙ given-text t y;
-      numbers = read_is t h short c.judge.ensures c.in-Given.is a.numbers.now c.requires.0 room ∙ given-numbers t a.numbers.now y;
+      answer = ap Some d ∙ given-text t y;
+      numbers = read_is t h short c.judge.ensures c.in_ok-circuit.was a.numbers.now c.requires.0 room ∙ given-numbers t a.numbers.now y;
       store = c.copy_store.ensures ∙ (λ i. sets a.store.now 0 (take (d i).bits (drop 2 (ns-is i)))) ∙ given-store t a.store.now y;
     }

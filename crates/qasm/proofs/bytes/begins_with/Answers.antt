@@ -1,20 +1,17 @@
 -- `bytes::begins_with` meets its contract.
-use Prim.Native.Nat.{ℕ, ◌+◌, ◌-◌, ◌<◌}
-use mathlib.Core.Path.{◌≡◌, sym, ap, ◌∙◌}
+use mathlib.Core.Path.{◌≡◌, ap, ◌∙◌}
+use mathlib.Core.List.{List}
+use Prim.Native.Nat.{ℕ, ◌-◌}
 use native.Mathlib.Omega.{arith}
 use lib.ListN.{length, take, drop, length-drop}
+use lib.Seq.{take_all}
 use Rattle.qasm.specs.Tokens.{same}
-use Rattle.qasm.proofs.Same.{begins-short}
+use Rattle.qasm.proofs.Same.{same-pointwise}
 use Rattle.qasm.proofs.bytes.begins_with.Goals as goal
-
-pub returns-then-text-at : goal.returns-then-text-at
-returns-then-text-at c =
-    let a = c.args in
-    let few : length (drop a.at a.text.now) < length a.bytes.now = omega (arith, length-drop a.at a.text.now) in
-    sym (begins-short a.bytes.now (drop a.at a.text.now) few)
 
 pub returns : goal.returns
 returns c =
-    let a = c.args in
-    let n : a.at + length a.bytes.now - a.at ≡ length a.bytes.now = omega arith in
-    c.is_same.ensures ∙ ap (λ (k : ℕ). same a.bytes.now (take k (drop a.at a.text.now))) n
+    let bs = c.args.bytes.now in
+    let rest = drop c.args.at c.args.text.now in
+    let whole : take (length c.args.text.now - c.args.at) rest ≡ rest = take_all _ _ (omega (arith, length-drop c.args.at c.args.text.now)) in
+    c.starts_with.ensures.value ∙ same-pointwise bs (take (length bs) (take (length c.args.text.now - c.args.at) rest)) ∙ ap (λ (xs : List ℕ). same bs (take (length bs) xs)) whole

@@ -1,6 +1,6 @@
 -- `names::find` meets its contract.
-use mathlib.Core.Path.{refl, sym, ◌∙◌}
-use Prim.Native.Nat.{◌-◌}
+use mathlib.Core.Path.{refl, sym}
+use native.Mathlib.Omega.{arith}
 use Rattle.qasm.specs.Forms.{table}
 use Rattle.qasm.specs.Inner.Places.{no_entry}
 use Rattle.qasm.proofs.Table.{seeking_none, seeking_more, seeking_all, found}
@@ -14,13 +14,12 @@ pub is_name-requires : goal.is_name-requires
 is_name-requires c = ((refl, refl), c.loop-e-test.true)
 
 pub returns-then-is_name : goal.returns-then-is_name
-returns-then-is_name c =
-    found (has c.args.word.now) table no_entry c.loop-e.invariant c.loop-e-test.true (sym c.is_name.ensures ∙ c.if-is_name.true)
+returns-then-is_name c = (found (has c.args.word.now) table no_entry c.loop-e.invariant c.loop-e-test.true (sym c.if-is_name.ensures), c.loop-e-test.true)
 
 pub loop-e-preserved : goal.loop-e-preserved
-loop-e-preserved c =
-    seeking_more (has c.args.word.now) table no_entry c.loop-e.invariant c.loop-e-test.true (sym c.is_name.ensures ∙ c.if-is_name.false)
+loop-e-preserved c = seeking_more (has c.args.word.now) table no_entry c.loop-e.invariant c.loop-e-test.true (sym c.if-is_name.ensures)
 
 pub returns : goal.returns
 returns c =
-    seeking_all (has c.args.word.now) table no_entry c.loop-e.invariant c.loop-e-test.false
+    let last = seeking_all (has c.args.word.now) table no_entry c.loop-e.invariant c.loop-e-test.false in
+    omega (arith, last, c.loop-e.invariant.inside)

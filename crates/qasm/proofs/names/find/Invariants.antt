@@ -1,10 +1,9 @@
 -- `names::find` meets its contract.
 use mathlib.Core.Bool.{Bool}
 use mathlib.Core.List.{List}
-use Prim.Native.Nat.{ℕ, ◌-◌}
+use Prim.Native.Nat.{ℕ}
 use Rattle.qasm.specs.Forms.{Entry, table}
 use Rattle.qasm.specs.Tokens.{same}
-use Rattle.qasm.specs.Inner.Places.{entry_count}
 use Rattle.qasm.proofs.Table.{Seeking}
 use Rattle.qasm.proofs.names.find.Given as goal
 
@@ -14,6 +13,3 @@ has word e = same e.name word
 
 abbrev pub invariant-loop-e : goal.invariant-loop-e
 invariant-loop-e l = Seeking (has l.word) table l.e
-
-abbrev pub decreases-loop-e : goal.decreases-loop-e
-decreases-loop-e l = entry_count - l.e

@@ -9,22 +9,22 @@ use Rattle.qasm.proofs.pieces.taken.Goals as goal
 pub returns-in-81 : goal.returns-in-81
 returns-in-81 c =
     let a = c.args in
-    ap (λ (p : ℕ). moved a.s p a.value a.begin a.end) (sym c.in-81.is)
+    ap (λ (p : ℕ). moved a.s p a.value a.token.start a.token.end) (sym c.in-81.is)
 
 pub returns-in-67 : goal.returns-in-67
 returns-in-67 c =
     let a = c.args in
-    ap (λ (p : ℕ). moved a.s p a.value a.begin a.end) (sym c.in-67.is)
+    ap (λ (p : ℕ). moved a.s p a.value a.token.start a.token.end) (sym c.in-67.is)
 
 pub returns-in-110 : goal.returns-in-110
 returns-in-110 c =
     let a = c.args in
-    ap (λ (p : ℕ). moved a.s p a.value a.begin a.end) (sym c.in-110.is)
+    ap (λ (p : ℕ). moved a.s p a.value a.token.start a.token.end) (sym c.in-110.is)
 
 pub returns-in-109 : goal.returns-in-109
 returns-in-109 c =
     let a = c.args in
-    ap (λ (p : ℕ). moved a.s p a.value a.begin a.end) (sym c.in-109.is)
+    ap (λ (p : ℕ). moved a.s p a.value a.token.start a.token.end) (sym c.in-109.is)
 
 pub returns-in_default : goal.returns-in_default
 returns-in_default c =
@@ -33,13 +33,9 @@ returns-in_default c =
     let p = a.piece in
     sym (λ i. record {
       place = a.s.place + 1;
-      q_from = cond (ne_eqb p 81 r.0.0.0.1 i) a.begin a.s.q_from;
-      q_to = cond (ne_eqb p 81 r.0.0.0.1 i) a.end a.s.q_to;
-      c_from = cond (ne_eqb p 67 r.0.0.1 i) a.begin a.s.c_from;
-      c_to = cond (ne_eqb p 67 r.0.0.1 i) a.end a.s.c_to;
+      quantum = cond (ne_eqb p 81 r.0.0.0.1 i) a.token a.s.quantum;
+      classical = cond (ne_eqb p 67 r.0.0.1 i) a.token a.s.classical;
       qubits = cond (ne_eqb p 110 r.0.1 i) a.value a.s.qubits;
       bits = cond (ne_eqb p 109 r.1 i) a.value a.s.bits;
       words = a.s.words;
-      fault = a.s.fault;
-      position = a.s.position;
     })

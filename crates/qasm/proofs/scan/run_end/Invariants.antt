@@ -1,12 +1,7 @@
 -- `scan::run_end` meets its contract.
-use Prim.Native.Nat.{◌-◌}
-use lib.ListN.{length}
 use Rattle.qasm.specs.Inner.Scanning.{in_run}
 use Rattle.qasm.proofs.Scanning.{Running}
 use Rattle.qasm.proofs.scan.run_end.Given as goal
 
 abbrev pub invariant-loop-i : goal.invariant-loop-i
 invariant-loop-i l = Running (in_run l.word) l.text l.at l.i
-
-abbrev pub decreases-loop-i : goal.decreases-loop-i
-decreases-loop-i l = length l.text - l.i

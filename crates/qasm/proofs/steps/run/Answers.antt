@@ -1,7 +1,11 @@
 -- `steps::run` meets its contract.
-use mathlib.Core.Path.{refl}
+use mathlib.Core.Path.{refl, sym, subst}
+use Rattle.std.specs.Prelude.{Result}
+use Rattle.qasm.specs.declared.pieces.Progress.{Progress}
+use Rattle.qasm.specs.declared.reader.Fault.{Fault}
+use Rattle.qasm.specs.Inner.Progress.{Stepped, Ran}
 use native.Mathlib.Omega.{arith}
-use Rattle.qasm.proofs.Going.{going_top, going_length, going_end, token_may, stepped-length, going_fault, going_on}
+use Rattle.qasm.proofs.Going.{returned, going_top, going_end, token_may, going_fault, going_on}
 use Rattle.qasm.proofs.steps.run.Goals as goal
 
 pub gap_end-begin-requires : goal.gap_end-begin-requires
@@ -15,20 +19,17 @@ loop-begin-init c =
 pub token_end-end-requires : goal.token_end-end-requires
 token_end-end-requires c = (c.loop-begin-test.true, c.loop-begin.invariant.stops c.loop-begin-test.true)
 
-pub step-s-requires : goal.step-s-requires
-step-s-requires c =
+pub step-requires : goal.step-requires
+step-requires c =
     let a = c.args in
     (refl, token_may a.text.now a.at a.room a.gates.now c.loop-begin.invariant c.loop-begin-test.true c.token_end-end.ensures c.requires.1)
 
-pub shape_of-gates-then-s-ne0 : goal.shape_of-gates-then-s-ne0
-shape_of-gates-then-s-ne0 c =
+pub returns-in_err-s : goal.returns-in_err-s
+returns-in_err-s c =
     let a = c.args in
-    stepped-length a.text.now a.at a.room a.gates.now c.loop-begin.invariant c.loop-begin-test.true c.token_end-end.ensures c.step-s.ensures
-
-pub returns-then-s-ne0 : goal.returns-then-s-ne0
-returns-then-s-ne0 c =
-    let a = c.args in
-    going_fault a.text.now a.at a.room a.gates.now c.loop-begin.invariant c.loop-begin-test.true c.token_end-end.ensures c.step-s.ensures c.if-s-ne0.true
+    let stepped = subst (λ (r : Result Progress Fault). Stepped a.text.now a.room c.loop-begin.s c.loop-begin.gates c.loop-begin.begin c.token_end-end.result r c.step.new.gates) c.in_err-s.was c.step.ensures in
+    subst (λ (r : Result Progress Fault). Ran a.text.now a.at a.room a.gates.now r c.step.new.gates) (sym (returned c.from_residual.result c.from_residual.ensures.1))
+    (going_fault a.text.now a.at a.room a.gates.now c.loop-begin.invariant c.loop-begin-test.true c.token_end-end.ensures stepped)
 
 pub gap_end-begin-requires-in-loop-begin : goal.gap_end-begin-requires-in-loop-begin
 gap_end-begin-requires-in-loop-begin c =
@@ -44,12 +45,8 @@ loop-begin-smaller c =
 pub loop-begin-preserved : goal.loop-begin-preserved
 loop-begin-preserved c =
     let a = c.args in
-    going_on a.text.now a.at a.room a.gates.now c.loop-begin.invariant c.loop-begin-test.true c.token_end-end.ensures c.step-s.ensures c.if-s-ne0.false c.gap_end-begin-in-loop-begin.ensures
-
-pub shape_of-gates : goal.shape_of-gates
-shape_of-gates c =
-    let a = c.args in
-    going_length a.text.now a.at a.room a.gates.now c.loop-begin.invariant
+    let stepped = subst (λ (r : Result Progress Fault). Stepped a.text.now a.room c.loop-begin.s c.loop-begin.gates c.loop-begin.begin c.token_end-end.result r c.step.new.gates) c.in_ok-s.was c.step.ensures in
+    going_on a.text.now a.at a.room a.gates.now c.loop-begin.invariant c.loop-begin-test.true c.token_end-end.ensures stepped c.gap_end-begin-in-loop-begin.ensures
 
 pub returns : goal.returns
 returns c =

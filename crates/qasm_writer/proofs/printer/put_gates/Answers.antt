@@ -1,7 +1,6 @@
 -- `printer::put_gates` meets its contract.
 use mathlib.Core.Path.{ap}
-use Prim.Native.Nat.{◌-◌, ◌/◌}
-use native.Mathlib.Omega.{arith}
+use Prim.Native.Nat.{◌/◌}
 use lib.ListN.{length}
 use Rattle.algebra.specs.Lists.{concat_map}
 use Rattle.gate.specs.Gate.{gate_size}
@@ -20,25 +19,7 @@ loop-i-preserved c =
     left_less (left_is (ap (concat_map gate_text) (gates-more ws (length ws / gate_size) c.loop-i.i c.loop-i-test.true)) c.loop-i.invariant)
     (text (ap gate_text c.read_gate-g.ensures) c.put_gate-p.ensures)
 
-pub shape_of-out : goal.shape_of-out
-shape_of-out c = c.loop-i.invariant.same
-
 pub returns : goal.returns
 returns c =
     let ws = c.args.words.now in
     left-none (left_is (ap (concat_map gate_text) (gates-none ws (length ws / gate_size) c.loop-i.i c.loop-i-test.false)) c.loop-i.invariant)
-
-pub overflow_mul-i : goal.overflow_mul-i
-overflow_mul-i c = omega arith
-
-pub read_gate-g-requires : goal.read_gate-g-requires
-read_gate-g-requires c = omega arith
-
-pub put_gate-p-requires : goal.put_gate-p-requires
-put_gate-p-requires c = tt
-
-pub overflow_add-i : goal.overflow_add-i
-overflow_add-i c = omega arith
-
-pub loop-i-smaller : goal.loop-i-smaller
-loop-i-smaller c = omega arith

@@ -1,8 +1,6 @@
 -- `printer::put_gates` meets its contract.
-use Prim.Native.Nat.{◌-◌, ◌/◌}
-use lib.ListN.{length}
 use Rattle.algebra.specs.Lists.{concat_map}
-use Rattle.gate.specs.Gate.{gate_size, gates_of}
+use Rattle.gate.specs.Gate.{gates_of}
 use Rattle.text.specs.Page.{page}
 use Rattle.text.proofs.Put.{Left}
 use Rattle.qasm.specs.Writing.{gate_text}
@@ -11,6 +9,3 @@ use Rattle.qasm_writer.proofs.printer.put_gates.Given as goal
 
 abbrev pub invariant-loop-i : goal.invariant-loop-i
 invariant-loop-i l = Left (page l.initial.out l.at) (concat_map gate_text (gates_of l.words)) (page l.out l.p) (concat_map gate_text (from l.words l.i))
-
-abbrev pub decreases-loop-i : goal.decreases-loop-i
-decreases-loop-i l = length l.words / gate_size - l.i

@@ -1,8 +1,7 @@
 -- `room::is_within` meets its contract.
 use mathlib.Core.Path.{sym, ◌∙◌}
-use Prim.Native.Nat.{◌-◌}
 use native.Mathlib.Omega.{arith}
-use Rattle.qasm_writer.proofs.Lengths.{decimal-most, no_room, room-left, head-before, line_before, none_left, less}
+use Rattle.qasm_writer.proofs.Lengths.{decimal-most, no_room, room-left, head-before, line_before, none_left}
 use Rattle.qasm_writer.proofs.room.is_within.Goals as goal
 
 pub overflow_add-head : goal.overflow_add-head
@@ -30,9 +29,6 @@ returns-then-left-n c =
     let ws = c.args.words.now in
     no_room _ _ (line_before ws c.loop-i-test.true c.read_gate-g.ensures c.line_length-n.ensures) c.if-left-n.true ∙ sym c.loop-i.invariant
 
-pub loop-i-smaller : goal.loop-i-smaller
-loop-i-smaller c = less c.loop-i-test.true
-
 pub loop-i-preserved : goal.loop-i-preserved
 loop-i-preserved c =
     let ws = c.args.words.now in
@@ -41,21 +37,3 @@ loop-i-preserved c =
 pub returns : goal.returns
 returns c =
     sym (c.loop-i.invariant ∙ none_left c.args.words.now c.loop-i.i c.loop-i.left c.loop-i-test.false)
-
-pub decimal_length-requires : goal.decimal_length-requires
-decimal_length-requires c = tt
-
-pub decimal_length-requires-2 : goal.decimal_length-requires-2
-decimal_length-requires-2 c = tt
-
-pub overflow_mul-i : goal.overflow_mul-i
-overflow_mul-i c = omega arith
-
-pub read_gate-g-requires : goal.read_gate-g-requires
-read_gate-g-requires c = omega arith
-
-pub overflow_add-i : goal.overflow_add-i
-overflow_add-i c = omega arith
-
-pub line_length-n-requires : goal.line_length-n-requires
-line_length-n-requires c = tt

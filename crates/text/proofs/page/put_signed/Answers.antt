@@ -13,8 +13,8 @@ use Rattle.text.proofs.page.put_signed.Goals as goal
 pub returns-then-z-lt0 : goal.returns-then-z-lt0
 returns-then-z-lt0 c =
     let sign = signed_below c.args.z c.ranges.z c.if-z-lt0.true in
-    text (ap (λ (n : ℕ). code "-" ∷ decimal n) (c.magnitude.ensures ∙ ap nat_abs (to_z-of_z c.ranges.z)) ∙ sign) (then c.put-p.ensures c.put_decimal.ensures)
+    text (ap (λ (n : ℕ). code "-" ∷ decimal n) (c.unsigned_abs.ensures.value ∙ ap nat_abs (to_z-of_z c.ranges.z)) ∙ sign) (then c.put-p.ensures c.put_decimal.ensures)
 
 pub returns : goal.returns
 returns c =
-    text (ap decimal (c.magnitude-2.ensures ∙ ap nat_abs (to_z-of_z c.ranges.z)) ∙ signed_natural c.args.z c.ranges.z c.if-z-lt0.false) c.put_decimal-2.ensures
+    text (ap decimal (c.unsigned_abs-2.ensures.value ∙ ap nat_abs (to_z-of_z c.ranges.z)) ∙ signed_natural c.args.z c.ranges.z c.if-z-lt0.false) c.put_decimal-2.ensures
