@@ -1,3 +1,4 @@
 pub mod Along
-pub mod Taken
 pub mod Claims
+pub mod Taken
+pub mod Copying

@@ -1,14 +1,13 @@
 // The words of an answer to a pair.
 ghost use Rattle.std.specs.Prelude.{◌≡◌, ◌+◌, ◌*◌, ◌≤◌, length};
 ghost use Rattle.std.proofs.lemmas.List.Edits.{sets};
-ghost use Rattle.compare_list.specs.Words.{reply_number, nothing, refusal, place_of, details_of, answer_size, scalars_size, answer_words, scalar_words};
+ghost use Rattle.compare_list.specs.Words.{reply_number, cost_of, entry_of, refusal_of, refusal_words, answer_size, scalars_size, answer_words, entry_words};
 
-use c_channels::finding_number;
+use c_channels::{difference, finding_number, place_words, scalar_words};
 use c_words::replies::{LEFT_REFUSED, RIGHT_REFUSED};
-use cells::{CELL, write_cell};
-use channel::compare::Found;
-use verdict::Verdict;
-use work_list::{Answer, Finding};
+use channel::compare::Difference;
+use verdict::Refusal;
+use work_list::Answer;
 
 // The words of an answer.
 pub const ANSWER: usize = 7;
@@ -19,115 +18,71 @@ pub const SCALARS: usize = 10;
 // The reply of a pair that is passed over.
 const PASSED_OVER: u32 = 107;
 
-// The place of an entry that differs, a refusal's number and index; zeros where there is none.
-#[derive(Clone, Copy)]
-pub struct Details {
-    pub store: u64,
-    pub row: u64,
-    pub column: u64,
-    pub number: u64,
-    pub index: u64,
-}
-
-fn reply_number(f: Finding) -> u32
-    ensures { result ≡ reply_number f }
+fn reply_number(answer: Answer) -> u32
+    ensures { result ≡ reply_number answer }
 {
-    match f {
-        Finding::LeftRefused(_) => LEFT_REFUSED,
-        Finding::RightRefused(_) => RIGHT_REFUSED,
-        Finding::PassedOver => PASSED_OVER,
-        Finding::Compared(g) => finding_number(g),
+    match answer {
+        Answer::LeftRefused(_) => LEFT_REFUSED,
+        Answer::RightRefused(_) => RIGHT_REFUSED,
+        Answer::PassedOver { .. } => PASSED_OVER,
+        Answer::Compared { comparison, .. } => finding_number(&comparison),
     }
 }
 
-fn no_details() -> Details
-    ensures { result ≡ nothing }
+fn cost_of(answer: Answer) -> u64
+    ensures { result ≡ cost_of answer }
 {
-    Details {
-        store: 0,
-        row: 0,
-        column: 0,
-        number: 0,
-        index: 0,
+    match answer {
+        Answer::LeftRefused(_) | Answer::RightRefused(_) => 0,
+        Answer::PassedOver { cost } | Answer::Compared { cost, .. } => cost,
     }
 }
 
-fn refusal_details(v: Verdict) -> Details
-    ensures { result ≡ refusal v }
+// The entry that differs, if one does.
+fn entry_of(answer: Answer) -> Option<Difference>
+    ensures { result ≡ entry_of answer }
 {
-    let number = v.number();
-    let index = v.index();
-    Details {
-        store: 0,
-        row: 0,
-        column: 0,
-        number: number as u64,
-        index: index as u64,
+    match answer {
+        Answer::Compared { comparison, .. } => difference(&comparison),
+        _ => None,
     }
 }
 
-fn found_details(f: Found) -> Details
-    ensures { result ≡ place_of f }
+fn refusal_of(answer: Answer) -> Option<Refusal>
+    ensures { result ≡ refusal_of answer }
 {
-    match f {
-        Found::Refused(v) => refusal_details(v),
-        Found::Same => no_details(),
-        Found::Dimensions => no_details(),
-        Found::Entry(p) => Details {
-            store: p.store,
-            row: p.row as u64,
-            column: p.col as u64,
-            number: 0,
-            index: 0,
-        },
+    match answer {
+        Answer::LeftRefused(refusal) | Answer::RightRefused(refusal) => Some(refusal),
+        Answer::PassedOver { .. } => None,
+        Answer::Compared { comparison, .. } => comparison.err(),
     }
 }
 
-fn finding_details(f: Finding) -> Details
-    ensures { result ≡ details_of f }
+// A refusal's number and index; zeros where there is none.
+fn refusal_words(refusal: Option<Refusal>) -> [u64; 2]
+    ensures { result ≡ refusal_words refusal }
 {
-    match f {
-        Finding::LeftRefused(v) => refusal_details(v),
-        Finding::RightRefused(v) => refusal_details(v),
-        Finding::PassedOver => no_details(),
-        Finding::Compared(g) => found_details(g),
+    match refusal {
+        Some(r) => [r.number() as u64, r.index() as u64],
+        None => [0; 2],
     }
 }
 
-// Writes an answer from `at` on.
-fn put_answer(answers: &mut [u64], at: usize, a: Answer)
-    requires { at + answer_size ≤ length answers.old }
-    ensures { answers.new ≡ sets answers.old at (answer_words a) }
+fn answer_words(answer: Answer) -> [u64; ANSWER]
+    ensures { result ≡ answer_words answer }
 {
-    let f = a.finding;
-    let reply = reply_number(f);
-    let d = finding_details(f);
-    answers[at] = reply as u64;
-    answers[at + 1] = a.cost;
-    answers[at + 2] = d.store;
-    answers[at + 3] = d.row;
-    answers[at + 4] = d.column;
-    answers[at + 5] = d.number;
-    answers[at + 6] = d.index;
-}
-
-// Writes its scalars from `at` on.
-fn put_scalars(scalars: &mut [i64], at: usize, a: Answer)
-    requires { at + scalars_size ≤ length scalars.old }
-    ensures { scalars.new ≡ sets scalars.old at (scalar_words a) }
-{
-    let x = a.left;
-    let y = a.right;
-    write_cell(scalars, at, x);
-    write_cell(scalars, at + CELL, y);
+    let reply = reply_number(answer) as u64;
+    let [store, row, column] = place_words(entry_of(answer));
+    let [number, index] = refusal_words(refusal_of(answer));
+    [reply, cost_of(answer), store, row, column, number, index]
 }
 
 // Writes answer i and its scalars into their places.
-pub fn put(answers: &mut [u64], scalars: &mut [i64], i: usize, a: Answer)
+pub fn put(answers: &mut [u64], scalars: &mut [i64], i: usize, answer: Answer)
     requires { (i * answer_size + answer_size ≤ length answers.old) × (i * scalars_size + scalars_size ≤ length scalars.old) }
-    ensures answers_after { answers.new ≡ sets answers.old (i * answer_size) (answer_words a) }
-    ensures scalars_after { scalars.new ≡ sets scalars.old (i * scalars_size) (scalar_words a) }
+    ensures answers_after { answers.new ≡ sets answers.old (i * answer_size) (answer_words answer) }
+    ensures scalars_after { scalars.new ≡ sets scalars.old (i * scalars_size) (entry_words answer) }
 {
-    put_answer(answers, i * ANSWER, a);
-    put_scalars(scalars, i * SCALARS, a);
+    answers[i * ANSWER..(i + 1) * ANSWER].copy_from_slice(&answer_words(answer));
+    scalars[i * SCALARS..(i + 1) * SCALARS].copy_from_slice(&scalar_words(entry_of(answer)));
 }

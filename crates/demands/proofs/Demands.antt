@@ -1,4 +1,5 @@
 -- The three demands hold.
+use Rattle.std.specs.Prelude.{is_ok}
 use mathlib.Core.Path.{◌≡◌, refl, sym, ap, ◌∙◌, subst}
 use mathlib.Core.Bool.{Bool, true, cond}
 use mathlib.Core.List.{List, ◌++◌}
@@ -25,7 +26,6 @@ use Rattle.kraus.proofs.Counts.{Counts, schedule_counts}
 use Rattle.kraus.proofs.Limits.{Kraus, kraus_exponent}
 use Rattle.circuit.specs.declared.limits.Limits.{Limits}
 use Rattle.circuit.specs.Footprint.{footprint_of}
-use Rattle.verdict.specs.Verdict.{accepted}
 use Rattle.circuit.specs.Questions.{channel_questions, channel_verdict}
 use Rattle.channel.specs.Layout.{side, read_back}
 use Rattle.channel.specs.Claims as claims
@@ -145,5 +145,5 @@ demand3 n m σ l ws vs table sch r w s x p q = record {
     h = matching n m sch
 
     acceptance : accepts n m σ l vs s x ≡ accepts n m σ l ws r w
-    acceptance = (λ i. accepted (channel_verdict n m σ l vs (p i) (q i))) ∙ channel_accepts n m σ l vs (length r) (length w)
+    acceptance = (λ i. is_ok (channel_verdict n m σ l vs (p i) (q i))) ∙ channel_accepts n m σ l vs (length r) (length w)
         ∙ same-accepts n m σ l (length r) (length w) h ∙ sym (channel_accepts n m σ l ws (length r) (length w))

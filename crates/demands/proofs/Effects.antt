@@ -1,4 +1,5 @@
 -- The effects of a channel's words, as they are read back: Σ K†K of each store's branches, as the textbook has it or transposed.
+use Rattle.std.specs.Prelude.{is_ok}
 use mathlib.Core.Path.{◌≡◌, refl, sym, ap, ◌∙◌, subst}
 use mathlib.Core.Bool.{Bool, true, cond}
 use mathlib.Core.List.{List, [], ◌∷◌, ◌++◌, map}
@@ -16,7 +17,6 @@ use Rattle.gate.proofs.Bits.{Word}
 use Rattle.kraus.specs.Branch.{Store, Branch}
 use Rattle.kraus.specs.Blocks.{stores, povm}
 use Rattle.kraus.proofs.Effect.{effect-povm}
-use Rattle.verdict.specs.Verdict.{accepted}
 use Rattle.store.specs.Store.{bits}
 use Rattle.store.proofs.Bytes.{bits-word}
 use Rattle.channel.specs.Layout.{Block, channels, effects, side, entry_at, effect_of, read_back_in, read_back}
@@ -76,7 +76,7 @@ effect_gives n bs b τ g k h = effect_is n bs (k / 2 ^ n) (k % 2 ^ n) (high n k 
 
 -- a channel that was delivered, with a result in which its effects are left
 module _ {n m : ℕ} {bs : List Branch} (dl : Deliverable n m bs) (rest res : List ℤ)
-    (ok : accepted (effects_verdict (branches_words (2 ^ n) m bs ++ rest) res) ≡ true) where
+    (ok : is_ok (effects_verdict (branches_words (2 ^ n) m bs ++ rest) res) ≡ true) where
   abbrev l : List ℤ
   l = branches_words (2 ^ n) m bs ++ rest
 

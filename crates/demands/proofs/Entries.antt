@@ -1,4 +1,6 @@
 -- Channels entry by entry: what compare finds of two that were delivered, it finds of the blocks of the definitions.
+use Rattle.std.specs.Prelude.{Option, Result, Ok}
+use Rattle.std.specs.Result.{result_and}
 use mathlib.Core.Path.{◌≡◌, refl, sym, ap, ◌∙◌, subst}
 use mathlib.Core.Bool.{Bool, true, false, cond, ◌&&◌, ◌||◌, true≢false}
 use mathlib.Core.List.{List, [], ◌∷◌, foldl}
@@ -14,6 +16,7 @@ use Rattle.algebra.specs.Lists.{All, some, filter_by}
 use Rattle.algebra.specs.Words.{from_bits}
 use Rattle.algebra.proofs.Tests.{and_split, or_no}
 use Rattle.algebra.proofs.Bits.{bits_below}
+use Rattle.verdict.specs.declared.Refusal.{Refusal}
 use Rattle.exact.specs.Exact.{Exact, exact}
 use Rattle.scalar.specs.Calls.{scalar_of}
 use Rattle.gate.proofs.Bits.{Word, same_true}
@@ -21,12 +24,12 @@ use Rattle.kraus.specs.Branch.{Store, Branch}
 use Rattle.kraus.specs.Blocks.{having, overlap, stores, block}
 use Rattle.store.specs.Store.{bits}
 use Rattle.store.proofs.Bytes.{bits_back}
-use Rattle.channel.specs.declared.compare.Place.{Place}
-use Rattle.channel.specs.declared.compare.Found.TheVariants.{Same, Dimensions, Entry}
+use Rattle.channel.specs.declared.compare.Comparison.{Comparison}
+use Rattle.channel.specs.declared.compare.Comparison.TheVariants.{Same, Dimensions, Differs}
 use Rattle.channel.specs.declared.compare.Difference.{Difference}
 use Rattle.channel.specs.Layout.{Block, side, dim_at, bits_at, read_back}
 use Rattle.channel.specs.WellFormed.{verdict_by}
-use Rattle.channel.specs.Compare.{plain, unless, first, merge, compare_of}
+use Rattle.channel.specs.Compare.{found, first, merge, compare_of}
 use Rattle.channel.specs.Claims.{look, entry_of, earlier, Sound, Comparable, FirstAt}
 use Rattle.channel.proofs.Claims.{same_exactly, first_entry}
 use Rattle.channel.proofs.Sorted.{sorted, merge_sorted}
@@ -103,76 +106,74 @@ module _ {n m : ℕ} {bs : List Branch} {l : List ℤ} (c : IsChannel n m bs l) 
           sum_of xs = foldl (λ (x : Exact) (b : Branch). exact.◌⊕◌ x (overlap i j b)) exact.𝟘 xs
 
 -- ---- two of them
--- the entries f and g first differ at p, of n qubits and m bits
-pub record FirstOf (n m : ℕ) (f g : ℕ → ℕ → ℕ → Exact) (p : Place) (d : Difference) : Type 0 where
-  pub store : p.store < 2 ^ m
-  pub row : p.row < side (2 ^ n)
-  pub col : p.col < side (2 ^ n)
-  pub left : d.left ≡ scalar_of (f p.store p.row p.col)
-  pub right : d.right ≡ scalar_of (g p.store p.row p.col)
-  pub unequal : f p.store p.row p.col ≡ g p.store p.row p.col → ⊥
+-- the entries f and g first differ as d says, of n qubits and m bits
+pub record FirstOf (n m : ℕ) (f g : ℕ → ℕ → ℕ → Exact) (d : Difference) : Type 0 where
+  pub store : d.place.store < 2 ^ m
+  pub row : d.place.row < side (2 ^ n)
+  pub col : d.place.col < side (2 ^ n)
+  pub left : d.left ≡ scalar_of (f d.place.store d.place.row d.place.col)
+  pub right : d.right ≡ scalar_of (g d.place.store d.place.row d.place.col)
+  pub unequal : f d.place.store d.place.row d.place.col ≡ g d.place.store d.place.row d.place.col → ⊥
   pub agree : (s i j : ℕ) → s < 2 ^ m → i < side (2 ^ n) → j < side (2 ^ n)
-      → earlier s (i * side (2 ^ n) + j) p.store (p.row * side (2 ^ n) + p.col) ≡ true → f s i j ≡ g s i j
+      → earlier s (i * side (2 ^ n) + j) d.place.store (d.place.row * side (2 ^ n) + d.place.col) ≡ true → f s i j ≡ g s i j
 
 -- what compare finds
-pub data Finds (n m n' m' : ℕ) (f g : ℕ → ℕ → ℕ → Exact) (d : Difference) : Type 0 where
-  same : n ≡ n' → m ≡ m' → d ≡ plain Same → ((s i j : ℕ) → s < 2 ^ m → i < side (2 ^ n) → j < side (2 ^ n) → f s i j ≡ g s i j) → Finds n m n' m' f g d
-  sizes : (n ≡ n' → m ≡ m' → ⊥) → d ≡ plain Dimensions → Finds n m n' m' f g d
-  entry : n ≡ n' → m ≡ m' → (p : Place) → d.found ≡ Entry p → FirstOf n m f g p d → Finds n m n' m' f g d
+pub data Finds (n m n' m' : ℕ) (f g : ℕ → ℕ → ℕ → Exact) (c : Result Comparison Refusal) : Type 0 where
+  same : n ≡ n' → m ≡ m' → c ≡ Ok Same → ((s i j : ℕ) → s < 2 ^ m → i < side (2 ^ n) → j < side (2 ^ n) → f s i j ≡ g s i j) → Finds n m n' m' f g c
+  sizes : (n ≡ n' → m ≡ m' → ⊥) → c ≡ Ok Dimensions → Finds n m n' m' f g c
+  entry : n ≡ n' → m ≡ m' → (d : Difference) → c ≡ Ok (Differs d) → FirstOf n m f g d → Finds n m n' m' f g c
 
 -- of one count of qubits and one of bits
 module _ {n m : ℕ} {f g : ℕ → ℕ → ℕ → Exact} {l r : List ℤ} (a : Reads n m f l) (b : Reads n m g r) where
-  abbrev d : Difference
-  d = compare_of l r
-
   comparable : Comparable l r
   comparable = record { left = a.sound; right = b.sound; dims = a.dim ∙ sym b.dim; bits = a.bit_count ∙ sym b.bit_count }
 
   -- the first unequal entry, with k for the dimension
-  record FirstWith (p : Place) (k : ℕ) : Type 0 where
-    row : p.row < side k
-    col : p.col < side k
-    left : d.left ≡ scalar_of (entry_of l p.store (p.row * side k + p.col))
-    right : d.right ≡ scalar_of (entry_of r p.store (p.row * side k + p.col))
-    unequal : entry_of l p.store (p.row * side k + p.col) ≡ entry_of r p.store (p.row * side k + p.col) → ⊥
-    agree : (s q : ℕ) → q < side k * side k → earlier s q p.store (p.row * side k + p.col) ≡ true → entry_of l s q ≡ entry_of r s q
+  record FirstWith (d : Difference) (k : ℕ) : Type 0 where
+    row : d.place.row < side k
+    col : d.place.col < side k
+    left : d.left ≡ scalar_of (entry_of l d.place.store (d.place.row * side k + d.place.col))
+    right : d.right ≡ scalar_of (entry_of r d.place.store (d.place.row * side k + d.place.col))
+    unequal : entry_of l d.place.store (d.place.row * side k + d.place.col) ≡ entry_of r d.place.store (d.place.row * side k + d.place.col) → ⊥
+    agree : (s q : ℕ) → q < side k * side k → earlier s q d.place.store (d.place.row * side k + d.place.col) ≡ true → entry_of l s q ≡ entry_of r s q
 
-  first_with : (p : Place) → FirstAt l r p d → FirstWith p (2 ^ n)
-  first_with p h = subst (FirstWith p) a.dim (record { row = h.row; col = h.col; left = h.left; right = h.right; unequal = h.unequal; agree = h.agree })
+  first_with : (d : Difference) → FirstAt l r d → FirstWith d (2 ^ n)
+  first_with d h = subst (FirstWith d) a.dim (record { row = h.row; col = h.col; left = h.left; right = h.right; unequal = h.unequal; agree = h.agree })
 
-  first-of : (p : Place) → FirstWith p (2 ^ n) → FirstOf n m f g p d
-  first-of p h = record {
+  first-of : (d : Difference) → FirstWith d (2 ^ n) → FirstOf n m f g d
+  first-of d h = record {
     store = store;
     row = h.row;
     col = h.col;
-    left = h.left ∙ ap scalar_of (a.within p.store p.row p.col store h.row h.col);
-    right = h.right ∙ ap scalar_of (b.within p.store p.row p.col store h.row h.col);
-    unequal = λ e. h.unequal (a.within p.store p.row p.col store h.row h.col ∙ e ∙ sym (b.within p.store p.row p.col store h.row h.col));
+    left = h.left ∙ ap scalar_of (a.within d.place.store d.place.row d.place.col store h.row h.col);
+    right = h.right ∙ ap scalar_of (b.within d.place.store d.place.row d.place.col store h.row h.col);
+    unequal = λ e. h.unequal (a.within d.place.store d.place.row d.place.col store h.row h.col ∙ e ∙ sym (b.within d.place.store d.place.row d.place.col store h.row h.col));
     agree = λ s i j u v w e. sym (a.within s i j u v w) ∙ h.agree s (i * side (2 ^ n) + j) (digits_lt v w) e ∙ b.within s i j u v w;
   }
     where
-      store : p.store < 2 ^ m
-      store = go (dec_lt p.store (2 ^ m))
+      store : d.place.store < 2 ^ m
+      store = go (dec_lt d.place.store (2 ^ m))
         where
-          go : Dec (p.store < 2 ^ m) → p.store < 2 ^ m
+          go : Dec (d.place.store < 2 ^ m) → d.place.store < 2 ^ m
           go (yes s) = s
-          go (no s) = let k : 2 ^ m ≤ p.store = omega arith in
-              absurd (h.unequal (a.beyond p.store p.row p.col k h.row h.col ∙ sym (b.beyond p.store p.row p.col k h.row h.col)))
+          go (no s) = let k : 2 ^ m ≤ d.place.store = omega arith in
+              absurd (h.unequal (a.beyond d.place.store d.place.row d.place.col k h.row h.col ∙ sym (b.beyond d.place.store d.place.row d.place.col k h.row h.col)))
 
-  found : compare_of l r ≡ first (side (dim_at l)) (merge (read_back l) (read_back r)) → Finds n m n m f g (compare_of l r)
-  found is = go (compared (side (dim_at l)) (merge (read_back l) (read_back r)) (merge_sorted (read_back l) (read_back r) (sorted l a.sound.right) (sorted r b.sound.right)))
+  in_step : compare_of l r ≡ Ok (found (first (side (dim_at l)) (merge (read_back l) (read_back r)))) → Finds n m n m f g (compare_of l r)
+  in_step is = go (compared (side (dim_at l)) (merge (read_back l) (read_back r)) (merge_sorted (read_back l) (read_back r) (sorted l a.sound.right) (sorted r b.sound.right)))
     where
-      equal-at : (compare_of l r).found ≡ Same → (s i j : ℕ) → s < 2 ^ m → i < side (2 ^ n) → j < side (2 ^ n) → f s i j ≡ g s i j
+      equal-at : compare_of l r ≡ Ok Same → (s i j : ℕ) → s < 2 ^ m → i < side (2 ^ n) → j < side (2 ^ n) → f s i j ≡ g s i j
       equal-at e s i j u v w = sym (a.within s i j u v w) ∙ (same_exactly l r comparable).0 e s (i * side (2 ^ n) + j) below ∙ b.within s i j u v w
         where
           below : i * side (2 ^ n) + j < side (dim_at l) * side (dim_at l)
           below = subst (λ (k : ℕ). i * side (2 ^ n) + j < side k * side k) (sym a.dim) (digits_lt v w)
 
+      seen : (d : Difference) → compare_of l r ≡ Ok (Differs d) → Finds n m n m f g (compare_of l r)
+      seen d e = entry refl refl d e (first-of d (first_with d (first_entry l r comparable d e)))
+
       go : Compared (side (dim_at l)) (merge (read_back l) (read_back r)) (first (side (dim_at l)) (merge (read_back l) (read_back r))) → Finds n m n m f g (compare_of l r)
-      go (alike e h) = same refl refl (is ∙ e) (equal-at (ap (λ (x : Difference). x.found) (is ∙ e)))
-      go (differs s q h k u e) =
-          let at : (compare_of l r).found ≡ Entry (record { store = s; row = q / side (dim_at l); col = q % side (dim_at l) }) = ap (λ (x : Difference). x.found) (is ∙ e) in
-          entry refl refl _ at (first-of _ (first_with _ (first_entry l r comparable _ at)))
+      go (alike e h) = let at = is ∙ ap (λ (x : Option Difference). Ok (found x)) e in same refl refl at (equal-at at)
+      go (differs s q h k u e) = seen _ (is ∙ ap (λ (x : Option Difference). Ok (found x)) e)
 
 one_power : (n k : ℕ) → 2 ^ n ≡ 2 ^ k → n ≡ k
 one_power n k e = go (dec_lt n k) (dec_lt k n)
@@ -186,25 +187,25 @@ module _ {n m n' m' : ℕ} {f g : ℕ → ℕ → ℕ → Exact} {l r : List ℤ
   abbrev counts : Bool
   counts = eqb (dim_at l) (dim_at r) && eqb (bits_at l) (bits_at r)
 
-  abbrev scanned : Difference
-  scanned = first (side (dim_at l)) (merge (read_back l) (read_back r))
+  abbrev scanned : Comparison
+  scanned = found (first (side (dim_at l)) (merge (read_back l) (read_back r)))
 
-  compare_is : compare_of l r ≡ cond counts scanned (plain Dimensions)
-  compare_is = λ i. unless (verdict_by (a.sound.right i) (a.sound.full i)) (unless (verdict_by (b.sound.right i) (b.sound.full i)) (cond counts scanned (plain Dimensions)))
+  compare_is : compare_of l r ≡ Ok (cond counts scanned Dimensions)
+  compare_is = λ i. result_and (verdict_by (a.sound.right i) (a.sound.full i)) (result_and (verdict_by (b.sound.right i) (b.sound.full i)) (Ok (cond counts scanned Dimensions)))
 
   pub finds : Finds n m n' m' f g (compare_of l r)
   finds = go counts refl
     where
-      as_one : n ≡ n' → m ≡ m' → compare_of l r ≡ scanned → Finds n m n' m' f g (compare_of l r)
+      as_one : n ≡ n' → m ≡ m' → compare_of l r ≡ Ok scanned → Finds n m n' m' f g (compare_of l r)
       as_one p q e = subst (λ (k : ℕ). Finds n m k m' f g (compare_of l r)) p (subst (λ (k : ℕ). Finds n m n k f g (compare_of l r)) q
-          (found a (subst (λ (k : ℕ). Reads k m g r) (sym p) (subst (λ (k : ℕ). Reads n' k g r) (sym q) b)) e))
+          (in_step a (subst (λ (k : ℕ). Reads k m g r) (sym p) (subst (λ (k : ℕ). Reads n' k g r) (sym q) b)) e))
 
       go : (t : Bool) → counts ≡ t → Finds n m n' m' f g (compare_of l r)
       go true e =
           let both = and_split (eqb (dim_at l) (dim_at r)) (eqb (bits_at l) (bits_at r)) e in
           as_one (one_power n n' (sym a.dim ∙ eqb-true _ _ both.0 ∙ b.dim)) (sym a.bit_count ∙ eqb-true _ _ both.1 ∙ b.bit_count)
-          (compare_is ∙ ap (λ (t : Bool). cond t scanned (plain Dimensions)) e)
-      go false e = sizes no (compare_is ∙ ap (λ (t : Bool). cond t scanned (plain Dimensions)) e)
+          (compare_is ∙ ap (λ (t : Bool). Ok (cond t scanned Dimensions)) e)
+      go false e = sizes no (compare_is ∙ ap (λ (t : Bool). Ok (cond t scanned Dimensions)) e)
         where
           no : n ≡ n' → m ≡ m' → ⊥
           no p q = true≢false (sym (λ i. eq-eqb (dim_at l) (dim_at r) (a.dim ∙ ap (λ (k : ℕ). 2 ^ k) p ∙ sym b.dim) i && eq-eqb (bits_at l) (bits_at r) (a.bit_count ∙ q ∙ sym b.bit_count) i) ∙ e)

@@ -1,4 +1,5 @@
 -- Any order inside a layer gives the same channel: where nothing clashes the reordering is a schedule, and demand 3 has the rest.
+use Rattle.std.specs.Prelude.{is_ok}
 use mathlib.Core.Path.{◌≡◌, refl, sym, ap, ◌∙◌, subst}
 use mathlib.Core.Bool.{Bool, true, false, cond, ◌&&◌}
 use mathlib.Core.List.{List, [], ◌∷◌, ◌++◌}
@@ -11,9 +12,8 @@ use Rattle.algebra.specs.Lists.{All, every}
 use Rattle.algebra.proofs.Tests.{and_split}
 use Rattle.algebra.proofs.Trace.{Trace, every_of, total_of, marks-of, length-of}
 use Rattle.algebra.proofs.Schedule.{schedule_trace}
-use Rattle.verdict.specs.Verdict.{accepted}
 use Rattle.verdict.specs.Questions.{Question, question, decided_by}
-use Rattle.verdict.specs.declared.Verdict.TheVariants.{OverLimit, MalformedAt, OverCeiling, BadLayers}
+use Rattle.verdict.specs.declared.Refusal.TheVariants.{OverLimit, MalformedAt, OverCeiling, BadLayers}
 use Rattle.verdict.proofs.Questions.{yes, every_append, all_yes}
 use Rattle.gate.specs.declared.judge.Asking.TheVariants.{Channel}
 use Rattle.gate.specs.Gate.{Gate, gate, gate_size, gates_of, splits, weight}
@@ -116,7 +116,7 @@ layers-alike n m σ l ws vs ends table re r w s x p q = record {
 
     acceptance : layered_accepts n m σ l vs ends s x ≡ layered_accepts n m σ l ws ends r w
     acceptance =
-        (λ i. accepted (layered_verdict n m σ l vs ends (p i) (q i)))
+        (λ i. is_ok (layered_verdict n m σ l vs ends (p i) (q i)))
         ∙ layered-yes n m σ l vs ends (length r) (length w) ∙ parts_accept of_one_gate parts ∙ sym (layered-yes n m σ l ws ends (length r) (length w))
 
     channels : layered_accepts n m σ l ws ends r w ≡ true → SameChannel (layered_result n m σ l ws ends r w) (layered_result n m σ l vs ends s x)

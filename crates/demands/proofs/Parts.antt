@@ -1,11 +1,11 @@
 -- Two lists of questions, part by part: a part is the same in both, or is of questions whose numbers pass p and is answered by yes throughout in both or in neither.
+use Rattle.std.specs.Prelude.{Ok, Err}
 use mathlib.Core.Path.{◌≡◌, refl, sym, ap, ◌∙◌}
 use mathlib.Core.Bool.{Bool, true, false, ◌&&◌, true≢false}
 use mathlib.Core.List.{List, [], ◌++◌}
 use Prim.Native.Nat.{ℕ}
 use Rattle.algebra.specs.Lists.{All, every}
-use Rattle.verdict.specs.declared.Verdict.{Verdict}
-use Rattle.verdict.specs.declared.Verdict.TheVariants.{Accepted}
+use Rattle.verdict.specs.Questions.{Verdict}
 use Rattle.verdict.specs.Questions.{Question, first_by, first_no, decided_by}
 use Rattle.verdict.proofs.Questions.{yes, every_append, append_yes, append_no, decided_among}
 
@@ -27,7 +27,7 @@ module _ (p : ℕ → Bool) where
   number q = q.number
 
   abbrev refusal : Question → Verdict
-  refusal q = q.refusal
+  refusal q = Err q.refusal
 
   by : (xs us : List Question) → every yes xs ≡ false → Named xs → p (decided_by (xs ++ us)) ≡ true
   by xs us e a = ap p (append_no number 0 xs us e) ∙ decided_among p xs a e
@@ -50,10 +50,10 @@ module _ (p : ℕ → Bool) where
   parts_refusal (same {xs} {ys} {us} {vs} e h) d = go (every yes xs) refl (λ k. parts_refusal h k)
     where
       go : (t : Bool) → every yes xs ≡ t → (p (decided_by us) ≡ false → first_no vs ≡ first_no us) → first_no (ys ++ vs) ≡ first_no (xs ++ us)
-      go true f r = append_yes refusal Accepted ys vs (ap (every yes) e ∙ f) ∙ r (sym (ap p (append_yes number 0 xs us f)) ∙ d) ∙ sym (append_yes refusal Accepted xs us f)
-      go false f r = append_no refusal Accepted ys vs (ap (every yes) e ∙ f) ∙ ap first_no e ∙ sym (append_no refusal Accepted xs us f)
+      go true f r = append_yes refusal (Ok tt) ys vs (ap (every yes) e ∙ f) ∙ r (sym (ap p (append_yes number 0 xs us f)) ∙ d) ∙ sym (append_yes refusal (Ok tt) xs us f)
+      go false f r = append_no refusal (Ok tt) ys vs (ap (every yes) e ∙ f) ∙ ap first_no e ∙ sym (append_no refusal (Ok tt) xs us f)
   parts_refusal (faults xs ys {us} {vs} e a b h) d = go (every yes xs) refl (λ k. parts_refusal h k)
     where
       go : (t : Bool) → every yes xs ≡ t → (p (decided_by us) ≡ false → first_no vs ≡ first_no us) → first_no (ys ++ vs) ≡ first_no (xs ++ us)
-      go true f r = append_yes refusal Accepted ys vs (e ∙ f) ∙ r (sym (ap p (append_yes number 0 xs us f)) ∙ d) ∙ sym (append_yes refusal Accepted xs us f)
+      go true f r = append_yes refusal (Ok tt) ys vs (e ∙ f) ∙ r (sym (ap p (append_yes number 0 xs us f)) ∙ d) ∙ sym (append_yes refusal (Ok tt) xs us f)
       go false f r = absurd (true≢false (sym (by xs us f a) ∙ d))

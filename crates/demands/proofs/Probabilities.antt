@@ -1,4 +1,5 @@
 -- Effects of a channel that was delivered: no sum is out of range, each effect is Hermitian, and they add up to the identity.
+use Rattle.std.specs.Prelude.{is_ok, Ok, Err}
 use mathlib.Core.Path.{◌≡◌, refl, sym, ap, ◌∙◌, subst, fun_ext}
 use mathlib.Core.Bool.{Bool, true, false, cond, ◌&&◌}
 use mathlib.Core.List.{List, [], ◌++◌}
@@ -16,6 +17,8 @@ use Rattle.algebra.proofs.Sum.{sum_same}
 use Rattle.algebra.proofs.Totals.{Sub, sub_whole, sub_filter}
 use Rattle.algebra.proofs.Perm.{gather}
 use Rattle.algebra.proofs.Adjoint.{δ-turn}
+use Rattle.verdict.specs.Questions.{Verdict}
+use Rattle.verdict.specs.declared.Refusal.TheVariants.{ShortBuffer, TooLarge}
 use Rattle.exact.specs.Exact.{Exact, exact, conj, in_range, is_lowest}
 use Rattle.exact.proofs.Exact.{exacts, conj-plus}
 use Rattle.gate.specs.Gate.{gates_of}
@@ -25,13 +28,10 @@ use Rattle.kraus.specs.Blocks.{alive, survivors, having, stores, block, povm}
 use Rattle.kraus.proofs.Hermitian.{hermitian}
 use Rattle.kraus.proofs.Effect.{effect, effect-povm}
 use Rattle.kraus.proofs.Limits.{Enough, Fitting, kraus_exponent}
-use Rattle.verdict.specs.Verdict.{accepted}
-use Rattle.verdict.specs.declared.Verdict.TheVariants.{Accepted}
-use Rattle.channel.specs.WellFormed.{verdict_by, has_zero_block}
+use Rattle.channel.specs.WellFormed.{verdict_by, form_verdict, has_zero_block}
 use Rattle.channel.specs.Layout.{Block, channels, effects, record_at, entry_at, effect_place, read_back_in}
 use Rattle.channel.proofs.Written.{written_entry}
 use Rattle.effects.specs.Effects.{effect_at, povm_at, term, partials_fit, record_fits, sums_fit, effects_size, effects_words, effects_verdict, result_of, povm_of}
-use Rattle.effects.proofs.Answers.{by}
 use Rattle.collect.specs.Delivered.{block_no, branches_words}
 use Rattle.judge.specs.Delivered.{circuit_words}
 use Rattle.judge.proofs.Accepted.{sound}
@@ -99,12 +99,16 @@ module _ {n m : ℕ} {bs : List Branch} (dl : Deliverable n m bs) (rest : List �
     povm-total r c p q =
         ap (λ (φ : Store → Exact). gather exact.◌⊕◌ φ exact.𝟘 (along dl rest)) (fun_ext (λ τ. sym (effect-povm d bs τ c r))) ∙ total c r q p ∙ δ-turn exact c r
 
-    accepting : (res : List ℤ) → effects_size l ≤ length res → effects_verdict l res ≡ Accepted
-    accepting res h = λ i. by l (accepted (verdict_by (formed_back dl.writable rest i) (full i))) (le-leb (effects_size l) (length res) h i) (fits i)
+    -- the verdict, by the answers to its three questions
+    abbrev by : Bool → Bool → Bool → Verdict
+    by p q s = cond p (cond q (cond s (Ok tt) (Err TooLarge)) (Err ShortBuffer)) (form_verdict (branches_words (2 ^ n) m bs ++ rest))
+
+    accepting : (res : List ℤ) → effects_size l ≤ length res → effects_verdict l res ≡ Ok tt
+    accepting res h = λ i. by (is_ok (verdict_by (formed_back dl.writable rest i) (full i))) (le-leb (effects_size l) (length res) h i) (fits i)
 
     module _ (res : List ℤ) (h : effects_size l ≤ length res) where
-      ok : accepted (effects_verdict l res) ≡ true
-      ok = ap accepted (accepting res h)
+      ok : is_ok (effects_verdict l res) ≡ true
+      ok = ap is_ok (accepting res h)
 
       add-up : (form : ℕ → (ℕ → Exact) → ℕ → Exact) → Lowest form → (x : Store → ℕ → ℕ → Exact) → Gives n bs form x → ((τ : Store) (r c : ℕ) → x τ r c ≡ conj (x τ c r))
           → ((r c : ℕ) → r < d → c < d → gather exact.◌⊕◌ (λ (τ : Store). x τ r c) exact.𝟘 (along dl rest) ≡ δ exact r c)

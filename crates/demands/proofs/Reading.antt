@@ -1,5 +1,6 @@
 -- What is read back of a channel's words: the blocks that were written, each once, in the one rising order of their stores.
 -- So two channels with the same blocks read back alike, and compare finds them the same.
+use Rattle.std.specs.Prelude.{Ok}
 use mathlib.Core.Path.{◌≡◌, refl, sym, ap, ap₂, ◌∙◌, subst}
 use mathlib.Core.Logic.{◌⊎◌, inl, inr}
 use mathlib.Core.Bool.{Bool, true, false, cond, not, true≢false}
@@ -14,11 +15,11 @@ use Rattle.algebra.specs.Lists.{All, filter_by}
 use Rattle.algebra.proofs.Lists.{all_imp, filter_keep}
 use Rattle.algebra.proofs.Trace.{nil, keep, swap, join, all_of, all_back, length-of, total_of}
 use Rattle.algebra.proofs.Perm.{Perm, perm_path, perm_sym, map_of, filter_of}
-use Rattle.channel.specs.declared.compare.Found.TheVariants.{Same}
+use Rattle.channel.specs.declared.compare.Comparison.TheVariants.{Same}
 use Rattle.store.specs.Store.{before}
 use Rattle.channel.specs.Layout.{Block, Form, channels, side, word, dim_at, words, channel_words, read_back_in, read_back}
 use Rattle.channel.specs.WellFormed.{well_formed}
-use Rattle.channel.specs.Compare.{plain, compare_of}
+use Rattle.channel.specs.Compare.{compare_of}
 use Rattle.channel.specs.Claims.{look, Comparable, places, visits, Writable, ReadsBack}
 use Rattle.store.proofs.Order.{before_irrefl, before_trans, before_apart}
 use Rattle.channel.proofs.Sorted.{Above, Sorted, keys, sorted_in}
@@ -71,7 +72,7 @@ blocks-look w [] (y ∷ ys) h s k l = absurd h
 blocks-look w (x ∷ xs) [] h s k l = absurd h
 blocks-look w (x ∷ xs) (y ∷ ys) h s k l = λ i. cond (eqb s (h.0.store i)) (h.0.entries k l i) (blocks-look w xs ys h.1 s k l i)
 
-pub compare_same : (l r : List ℤ) → Comparable l r → SameBlocks (side (dim_at l)) (read_back l) (read_back r) → compare_of l r ≡ plain Same
+pub compare_same : (l r : List ℤ) → Comparable l r → SameBlocks (side (dim_at l)) (read_back l) (read_back r) → compare_of l r ≡ Ok Same
 compare_same l r c h = (same_exactly l r c).1 (blocks-look (side (dim_at l)) (read_back l) (read_back r) h)
 
 -- ---- numbers that each stand once in a list

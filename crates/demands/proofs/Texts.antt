@@ -1,4 +1,6 @@
 -- What judge_texts answers of two texts, it answers of the channels of the definitions.
+use Rattle.std.specs.Prelude.{Result, Ok, Err, is_ok, ⊤}
+use Rattle.std.specs.Result.{result_map_both}
 use mathlib.Core.Path.{◌≡◌, refl, sym, ap, ◌∙◌, subst}
 use mathlib.Core.Bool.{Bool, true, false, cond, ◌&&◌, true≢false}
 use mathlib.Core.List.{List}
@@ -11,8 +13,9 @@ use lib.IntN.{ℤ, pos}
 use borrow.Author.Tests.{le-leb}
 use Rattle.algebra.specs.Lists.{every}
 use Rattle.algebra.proofs.Tests.{and_split}
-use Rattle.verdict.specs.declared.Verdict.TheVariants.{ShortBuffer}
-use Rattle.verdict.specs.Verdict.{accepted}
+use Rattle.verdict.specs.Questions.{Verdict}
+use Rattle.verdict.specs.declared.Refusal.{Refusal}
+use Rattle.verdict.specs.declared.Refusal.TheVariants.{ShortBuffer}
 use Rattle.verdict.proofs.Questions.{yes, every_append}
 use Rattle.scalar.specs.declared.Scalar.{Scalar}
 use Rattle.gate.specs.Gate.{gates_of, max_weight}
@@ -22,23 +25,23 @@ use Rattle.circuit.specs.Footprint.{footprint_of}
 use Rattle.circuit.specs.Questions.{sizes_of, within_limits, room_for, word_questions, number_questions, channel_verdict}
 use Rattle.circuit.proofs.Answers.{channel_accepts}
 use Rattle.store.specs.Store.{store_fits}
-use Rattle.channel.specs.declared.compare.Found.{Found}
-use Rattle.channel.specs.declared.compare.Found.TheVariants.{Same}
+use Rattle.channel.specs.declared.compare.Comparison.{Comparison}
+use Rattle.channel.specs.declared.compare.Comparison.TheVariants.{Same}
 use Rattle.channel.specs.declared.compare.Difference.{Difference}
-use Rattle.channel.specs.Compare.{plain}
 use Rattle.collect.specs.Delivered.{overwritten}
 use Rattle.judge.specs.Call.{worked, verdict_of, accepts, result_after, work_after}
 use Rattle.judge.proofs.Accepted.{sound, store_words}
-use Rattle.qasm.specs.Reading.{Outcome, circuit, refused, read_of, filled}
-use Rattle.answer_lines.specs.declared.Refusal.{Refusal}
+use Rattle.qasm.specs.declared.reader.Reading.{Reading}
+use Rattle.qasm.specs.Reading.{Outcome, circuit, refused, fault_at, read_of, filled}
+use Rattle.answer_lines.specs.declared.Fault.{Fault}
 use Rattle.answer_lines.specs.Lines.{max_answer}
-use Rattle.text_sides.specs.declared.Side.{Side}
+use Rattle.text_sides.specs.declared.NoChannel.{NoChannel}
+use Rattle.text_sides.specs.declared.NoChannel.TheVariants.{Faulty, Refused}
 use Rattle.judge_texts.specs.declared.Answer.{Answer}
 use Rattle.judge_texts.specs.declared.Answer.TheVariants.{NoRoom, Left, Right, Compared}
 use Rattle.text_sides.specs.Sides.{store_for, side_by, result_by, work_by}
-use Rattle.text_channel.specs.Refusals.{refusal_of}
-use Rattle.judge_texts.specs.Call.{none, difference, answer_of, left_number, right_number}
-use Rattle.text_sides.proofs.Faults.{Refused, never_accepted}
+use Rattle.text_channel.specs.Refusals.{fault_of}
+use Rattle.judge_texts.specs.Call.{either, comparison, answer_of}
 use Rattle.demands.specs.Texts.{delivered, Judged, entry_of, Lent, DoTheSame, Means, Texts}
 use Rattle.demands.proofs.Entries.{Reads, reads, Finds, same, sizes, entry, finds}
 use Rattle.demands.proofs.Demands.{demand2}
@@ -49,7 +52,7 @@ module _ (n m : ℕ) (σ : List ℕ) (l : Limits) (ws : List ℕ) where
   foot = footprint_of m (gates_of ws)
 
   -- with other buffers, which have room
-  accept_with : (a b c d : ℕ) → accepted (channel_verdict n m σ l ws a b) ≡ true → room_for (sizes_of foot n) c d ≡ true → accepted (channel_verdict n m σ l ws c d) ≡ true
+  accept_with : (a b c d : ℕ) → is_ok (channel_verdict n m σ l ws a b) ≡ true → room_for (sizes_of foot n) c d ≡ true → is_ok (channel_verdict n m σ l ws c d) ≡ true
   accept_with a b c d e room =
       let all = and_split (every yes (word_questions n m l ws)) _ (sym (every_append (word_questions n m l ws) (number_questions foot n m σ l a b)) ∙ sym (channel_accepts n m σ l ws a b) ∙ e) in
       let q7 = and_split (store_fits m σ) _ all.1 in
@@ -62,9 +65,9 @@ module _ (n m : ℕ) (σ : List ℕ) (l : Limits) (ws : List ℕ) where
   room_for_lem c d h k = λ i. le-leb (delivered n m ws) c h i && le-leb (worked n m ws) d k i
 
 -- ---- one side
-verdict_either : (b : Bool) (x y : Side) → (cond b x y).verdict ≡ cond b x.verdict y.verdict
-verdict_either true x y = refl
-verdict_either false x y = refl
+mapped : {A B : Type 0} (f : ⊤ → A) (h : Refusal → B) (v : Verdict) → is_ok (result_map_both f h v) ≡ is_ok v
+mapped f h (Ok x) = refl
+mapped f h (Err r) = refl
 
 module _ (t σ : List ℕ) (l : Limits) (g : List ℕ) (r w : List ℤ) where
   -- the circuit c of the text was judged with these buffers, and accepted
@@ -76,26 +79,39 @@ module _ (t σ : List ℕ) (l : Limits) (g : List ℕ) (r w : List ℤ) where
     judged : Judged t σ l
     ran : Ran judged
 
-  -- the verdict, where a circuit is read
+  -- whether it is accepted, where a circuit is read
   read-verdict : (n m : ℕ) (ws : List ℕ) (b : Bool) → read_of t ≡ circuit n m ws → leb (length ws) (length g) ≡ b
-      → (side_by σ l g r w (read_of t)).verdict ≡ cond b (verdict_of n m (store_for m σ) l ws r w) ShortBuffer
+      → is_ok (side_by σ l g r w (read_of t)) ≡ b && accepts n m (store_for m σ) l ws r w
   read-verdict n m ws b e f =
-      ap (λ (o : Outcome). (side_by σ l g r w o).verdict) e ∙ verdict_either (leb (length ws) (length g)) _ _ ∙ ap (λ (b : Bool). cond b (verdict_of n m (store_for m σ) l ws r w) ShortBuffer) f
+      ap (λ (o : Outcome). is_ok (side_by σ l g r w o)) e ∙ ap (λ (b : Bool). is_ok (cond b judged short)) f ∙ by b
+    where
+      reading : Reading
+      reading = record { qubits = n; bits = m; words = length ws }
+
+      judged : Result Reading NoChannel
+      judged = result_map_both (λ _. reading) (Refused reading) (verdict_of n m (store_for m σ) l ws r w)
+
+      short : Result Reading NoChannel
+      short = Err (Faulty (fault_at ShortBuffer 0))
+
+      by : (b : Bool) → is_ok (cond b judged short) ≡ b && accepts n m (store_for m σ) l ws r w
+      by true = mapped _ (Refused reading) (verdict_of n m (store_for m σ) l ws r w)
+      by false = refl
 
   read_result : (n m : ℕ) (ws : List ℕ) → read_of t ≡ circuit n m ws → leb (length ws) (length g) ≡ true → result_by σ l g r w (read_of t) ≡ result_after n m (store_for m σ) l ws r w
   read_result n m ws e f = ap (result_by σ l g r w) e ∙ ap (λ (b : Bool). cond b (result_after n m (store_for m σ) l ws r w) r) f
 
-  side-accepted : accepted (side_by σ l g r w (read_of t)).verdict ≡ true → Accepted
+  side-accepted : is_ok (side_by σ l g r w (read_of t)) ≡ true → Accepted
   side-accepted h = go (read_of t) refl
     where
       go : (o : Outcome) → read_of t ≡ o → Accepted
-      go (refused v at) e = absurd (true≢false (sym h ∙ ap (λ (o : Outcome). accepted (side_by σ l g r w o).verdict) e ∙ subst Refused e (never_accepted t)))
+      go (refused x at) e = absurd (true≢false (sym h ∙ ap (λ (o : Outcome). is_ok (side_by σ l g r w o)) e))
       go (circuit n m ws) e = by (leb (length ws) (length g)) refl
         where
           by : (b : Bool) → leb (length ws) (length g) ≡ b → Accepted
-          by false f = absurd (true≢false (sym h ∙ ap accepted (read-verdict n m ws false e f)))
+          by false f = absurd (true≢false (sym h ∙ read-verdict n m ws false e f))
           by true f =
-              let yes : accepts n m (store_for m σ) l ws r w ≡ true = sym (ap accepted (read-verdict n m ws true e f)) ∙ h in
+              let yes : accepts n m (store_for m σ) l ws r w ≡ true = sym (read-verdict n m ws true e f) ∙ h in
               record {
                 judged = record {
                   qubits = n;
@@ -122,8 +138,8 @@ module _ (t σ : List ℕ) (l : Limits) (g : List ℕ) (r w : List ℤ) where
       lent-accepts = accept_with c.qubits c.bits (store_for c.bits σ) l c.gates (delivered c.qubits c.bits c.gates) (worked c.qubits c.bits c.gates) (length r) (length w) c.fine
           (room_for_lem c.qubits c.bits (store_for c.bits σ) l c.gates (length r) (length w) h.result h.work)
 
-      lent_verdict : accepted (side_by σ l g r w (read_of t)).verdict ≡ true
-      lent_verdict = ap accepted (read-verdict c.qubits c.bits c.gates true c.read gates-room) ∙ lent-accepts
+      lent_verdict : is_ok (side_by σ l g r w (read_of t)) ≡ true
+      lent_verdict = read-verdict c.qubits c.bits c.gates true c.read gates-room ∙ lent-accepts
 
       lent_ran : Ran c
       lent_ran = record { accepting = lent-accepts; result = read_result c.qubits c.bits c.gates c.read gates-room }
@@ -145,27 +161,22 @@ module _ (t σ : List ℕ) (l : Limits) (g : List ℕ) (r w : List ℤ) where
           long e f q m = omega arith
 
 -- ---- both
-all_three : {A : Type 0} (x y z last : A) (a b c : Bool) → a ≡ true → b ≡ true → c ≡ true → cond a (cond b (cond c last z) y) x ≡ last
-all_three x y z last a b c p q r = λ i. cond (p i) (cond (q i) (cond (r i) last z) y) x
+module _ (x y : NoChannel → Fault) (z : Result Comparison Refusal) where
+  -- the answer, by whether there is room and by what became of each text
+  abbrev by : Bool → Result Reading NoChannel → Result Reading NoChannel → Answer
+  by a p q = cond a (either (λ why. Left (x why)) (λ _. either (λ why. Right (y why)) (λ _. Compared z) q) p) NoRoom
 
-compares : Answer → Bool
-compares NoRoom = false
-compares (Left x) = false
-compares (Right x) = false
-compares (Compared f) = true
+  both_accepted : (a : Bool) (p q : Result Reading NoChannel) → a ≡ true → is_ok p ≡ true → is_ok q ≡ true → by a p q ≡ Compared z
+  both_accepted true (Ok p) (Ok q) d e f = refl
+  both_accepted true (Ok p) (Err q) d e f = absurd (true≢false (sym f))
+  both_accepted true (Err p) q d e f = absurd (true≢false (sym e))
+  both_accepted false p q d e f = absurd (true≢false (sym d))
 
-found_of : Answer → Found
-found_of NoRoom = Same
-found_of (Left x) = Same
-found_of (Right x) = Same
-found_of (Compared f) = f
-
-only-compared : (a b c : Bool) (x y : Refusal) (z f : Found) → cond a (cond b (cond c (Compared z) (Right y)) (Left x)) NoRoom ≡ Compared f → (a ≡ true) × ((b ≡ true) × ((c ≡ true) × (z ≡ f)))
-unfolding compares found_of
-only-compared true true true x y z f e = (refl, (refl, (refl, ap found_of e)))
-only-compared true true false x y z f e = absurd (true≢false (sym (ap compares e)))
-only-compared true false c x y z f e = absurd (true≢false (sym (ap compares e)))
-only-compared false b c x y z f e = absurd (true≢false (sym (ap compares e)))
+  only-compared : (a : Bool) (p q : Result Reading NoChannel) (f : Result Comparison Refusal) → by a p q ≡ Compared f → (a ≡ true) × ((is_ok p ≡ true) × ((is_ok q ≡ true) × (z ≡ f)))
+  only-compared true (Ok p) (Ok q) f e = (refl, (refl, (refl, cc)))
+  only-compared true (Ok p) (Err q) f e = absurd (cc)
+  only-compared true (Err p) q f e = absurd (cc)
+  only-compared false p q f e = absurd (cc)
 
 module _ (t u σ : List ℕ) (l : Limits) (g : List ℕ) (r s w : List ℤ) (o : List ℕ) where
   abbrev lg : List ℕ
@@ -174,24 +185,24 @@ module _ (t u σ : List ℕ) (l : Limits) (g : List ℕ) (r s w : List ℤ) (o :
   abbrev lw : List ℤ
   lw = work_by σ l g r w (read_of t)
 
-  abbrev ls : Side
+  abbrev ls : Result Reading NoChannel
   ls = side_by σ l g r w (read_of t)
 
-  abbrev rs : Side
+  abbrev rs : Result Reading NoChannel
   rs = side_by σ l lg s lw (read_of u)
 
   -- two circuits, and what was found of them
-  meaning : (a : Judged t σ l) (b : Judged u σ l) (d : Difference) → Finds a.qubits a.bits b.qubits b.bits (entry_of a) (entry_of b) d → Means t u σ l d.left d.right d.found
-  meaning a b d (same p q k h) = subst (Means t u σ l d.left d.right) (sym (ap (λ (x : Difference). x.found) k)) (record {
+  meaning : (a : Judged t σ l) (b : Judged u σ l) (c : Result Comparison Refusal) → Finds a.qubits a.bits b.qubits b.bits (entry_of a) (entry_of b) c → Means t u σ l c
+  meaning a b c (same p q k h) = subst (Means t u σ l) (sym k) (record {
     pair = record { left = a; right = b };
     counts = (p, q);
     channels = λ s i j v. h s i j v.0 v.1.0 v.1.1;
   })
-  meaning a b d (sizes apart k) = subst (Means t u σ l d.left d.right) (sym (ap (λ (x : Difference). x.found) k)) (record {
+  meaning a b c (sizes apart k) = subst (Means t u σ l) (sym k) (record {
     pair = record { left = a; right = b };
     apart = λ c. apart c.0 c.1;
   })
-  meaning a b d (entry p q x k h) = subst (Means t u σ l d.left d.right) (sym k) (record {
+  meaning a b c (entry p q d k h) = subst (Means t u σ l) (sym k) (record {
     pair = record { left = a; right = b };
     counts = (p, q);
     within = (h.store, (h.row, h.col));
@@ -201,25 +212,20 @@ module _ (t u σ : List ℕ) (l : Limits) (g : List ℕ) (r s w : List ℤ) (o :
     before = λ s i j v z. h.agree s i j v.0 v.1.0 v.1.1 z;
   })
 
-  abbrev d : Difference
-  d = difference t u σ l g r s w o
+  abbrev found : Result Comparison Refusal
+  found = comparison t u σ l g r s w o
 
-  is_sound : (f : Found) → answer_of t u σ l g r s w o ≡ Compared f → Means t u σ l (left_number t u σ l g r s w o) (right_number t u σ l g r s w o) f
+  is_sound : (f : Result Comparison Refusal) → answer_of t u σ l g r s w o ≡ Compared f → Means t u σ l f
   is_sound f e =
-      let (q, (ql, (qr, is))) = only-compared (leb max_answer (length o)) (accepted ls.verdict) (accepted rs.verdict) (refusal_of t ls) (refusal_of u rs) d.found f e in
+      let (q, (ql, (qr, is))) = only-compared (fault_of t) (fault_of u) found (leb max_answer (length o)) ls rs f e in
       let a = side-accepted t σ l g r w ql in
       let b = side-accepted u σ l lg s lw qr in
-      let number : (x : Scalar) → cond (leb max_answer (length o)) (cond (accepted ls.verdict) (cond (accepted rs.verdict) x none) none) none ≡ x =
-      λ x. all_three none none none x (leb max_answer (length o)) (accepted ls.verdict) (accepted rs.verdict) q ql qr in
-      subst (Means t u σ l (left_number t u σ l g r s w o) (right_number t u σ l g r s w o)) is
-      (subst (λ (x : Scalar). Means t u σ l x (right_number t u σ l g r s w o) d.found) (sym (number d.left))
-      (subst (λ (y : Scalar). Means t u σ l d.left y d.found) (sym (number d.right))
-      (meaning a.judged b.judged d (finds (side_reads t σ l g r w a.judged a.ran) (side_reads u σ l lg s lw b.judged b.ran)))))
+      subst (Means t u σ l) is (meaning a.judged b.judged found (finds (side_reads t σ l g r w a.judged a.ran) (side_reads u σ l lg s lw b.judged b.ran)))
 
-  is_complete : (h : DoTheSame t u σ l) → Lent h.pair.left g r w → Lent h.pair.right g s w → max_answer ≤ length o → answer_of t u σ l g r s w o ≡ Compared Same
+  is_complete : (h : DoTheSame t u σ l) → Lent h.pair.left g r w → Lent h.pair.right g s w → max_answer ≤ length o → answer_of t u σ l g r s w o ≡ Compared (Ok Same)
   is_complete h a b k =
-      all_three _ _ _ _ _ _ _ (le-leb max_answer (length o) k) (lent_verdict t σ l g r w h.pair.left a) (lent_verdict u σ l lg s lw h.pair.right c)
-      ∙ ap (λ (x : Difference). Compared x.found) (go (finds (side_reads t σ l g r w h.pair.left (lent_ran t σ l g r w h.pair.left a)) (side_reads u σ l lg s lw h.pair.right (lent_ran u σ l lg s lw h.pair.right c))))
+      both_accepted (fault_of t) (fault_of u) found (leb max_answer (length o)) ls rs (le-leb max_answer (length o) k) (lent_verdict t σ l g r w h.pair.left a) (lent_verdict u σ l lg s lw h.pair.right c)
+      ∙ ap Compared (go (finds (side_reads t σ l g r w h.pair.left (lent_ran t σ l g r w h.pair.left a)) (side_reads u σ l lg s lw h.pair.right (lent_ran u σ l lg s lw h.pair.right c))))
     where
       c : Lent h.pair.right lg s lw
       c = record {
@@ -228,10 +234,10 @@ module _ (t u σ : List ℕ) (l : Limits) (g : List ℕ) (r s w : List ℤ) (o :
         work = subst (λ (x : ℕ). worked h.pair.right.qubits h.pair.right.bits h.pair.right.gates ≤ x) (sym (work_long t σ l g r w h.pair.left a)) b.work;
       }
 
-      go : {d : Difference} → Finds h.pair.left.qubits h.pair.left.bits h.pair.right.qubits h.pair.right.bits (entry_of h.pair.left) (entry_of h.pair.right) d → d ≡ plain Same
+      go : {x : Result Comparison Refusal} → Finds h.pair.left.qubits h.pair.left.bits h.pair.right.qubits h.pair.right.bits (entry_of h.pair.left) (entry_of h.pair.right) x → x ≡ Ok Same
       go (same x y k f) = k
       go (sizes apart k) = absurd (apart h.counts.0 h.counts.1)
-      go (entry x y p k f) = absurd (f.unequal (h.channels p.store p.row p.col (f.store, (f.row, f.col))))
+      go (entry x y d k f) = absurd (f.unequal (h.channels d.place.store d.place.row d.place.col (f.store, (f.row, f.col))))
 
 pub texts : Texts
 texts t u σ l g r s w o = record { sound = is_sound t u σ l g r s w o; complete = is_complete t u σ l g r s w o }

@@ -1,4 +1,5 @@
 -- The verdicts of a circuit and of its schedules.
+use Rattle.std.specs.Prelude.{Ok, Err}
 use mathlib.Core.Path.{◌≡◌, refl, sym, ap, ◌∙◌}
 use mathlib.Core.Bool.{Bool, true, false, cond, ◌&&◌, true≢false}
 use mathlib.Core.List.{List, ◌++◌}
@@ -6,7 +7,7 @@ use Prim.Native.Nat.{ℕ, ◌/◌, ◌%◌}
 use lib.Dec.{eqb, leb}
 use lib.ListN.{length}
 use Rattle.algebra.specs.Lists.{every}
-use Rattle.verdict.specs.declared.Verdict.TheVariants.{Accepted, OverLimit, MalformedAt, OverCeiling}
+use Rattle.verdict.specs.declared.Refusal.TheVariants.{OverLimit, MalformedAt, OverCeiling}
 use Rattle.verdict.specs.Questions.{Question, first_by, first_no, decided_by}
 use Rattle.verdict.proofs.Questions.{yes, every_append, append_yes, append_no, decided_among}
 use Rattle.gate.specs.declared.judge.Asking.TheVariants.{Channel}
@@ -93,15 +94,15 @@ module _ (n m : ℕ) (σ : List ℕ) (l : Limits) {ws vs : List ℕ} (result wor
 
   pub same-refusal : of_gates (decided_by (asked_of ws)) ≡ false → first_no (asked_of vs) ≡ first_no (asked_of ws)
   same-refusal e =
-      (λ i. early ceilings-kept (h.whole i) (leb (h.count i) l.max_operations) OverCeiling (MalformedAt 0) OverLimit (first_no (late vs)))
+      (λ i. early ceilings-kept (h.whole i) (leb (h.count i) l.max_operations) (Err OverCeiling) (Err (MalformedAt 0)) (Err OverLimit) (first_no (late vs)))
       ∙ go ceilings-kept whole few e
     where
       rest : (t : Bool) → every yes (gates ws) ≡ t → of_gates (decided_by (late ws)) ≡ false → first_no (late vs) ≡ first_no (late ws)
-      rest true e f = late-same (λ (q : Question). q.refusal) Accepted e
+      rest true e f = late-same (λ (q : Question). Err q.refusal) (Ok tt) e
       rest false e f = absurd (true≢false (sym (by-gates ws e) ∙ f))
 
       go : (a b c : Bool) → of_gates (early a b c 1 2 3 (decided_by (late ws))) ≡ false
-          → early a b c OverCeiling (MalformedAt 0) OverLimit (first_no (late vs)) ≡ early a b c OverCeiling (MalformedAt 0) OverLimit (first_no (late ws))
+          → early a b c (Err OverCeiling) (Err (MalformedAt 0)) (Err OverLimit) (first_no (late vs)) ≡ early a b c (Err OverCeiling) (Err (MalformedAt 0)) (Err OverLimit) (first_no (late ws))
       go true true true f = rest (every yes (gates ws)) refl f
       go true true false f = refl
       go true false c f = refl

@@ -1,21 +1,20 @@
 -- What is answered of a pair that is served holds of the channels of the definitions.
+use Rattle.std.specs.Prelude.{Result, Ok, Err, is_ok}
 use mathlib.Core.Path.{◌≡◌, refl, sym, ap, ◌∙◌, subst}
 use mathlib.Core.Bool.{Bool, true, false, cond, true≢false}
 use mathlib.Core.List.{List}
 use Prim.Native.Nat.{ℕ, ◌+◌, ◌<◌}
 use lib.Dec.{leb}
 use lib.ListN.{length, get_or}
-use Rattle.verdict.specs.declared.Verdict.{Verdict}
-use Rattle.verdict.specs.Verdict.{accepted}
-use Rattle.channel.specs.declared.compare.Found.{Found}
-use Rattle.channel.specs.declared.compare.Found.TheVariants.{Same}
+use Rattle.verdict.specs.Questions.{Verdict}
+use Rattle.verdict.specs.declared.Refusal.{Refusal}
+use Rattle.channel.specs.declared.compare.Comparison.{Comparison}
 use Rattle.channel.specs.declared.compare.Difference.{Difference}
 use Rattle.judge.proofs.Accepted.{sound, store_words}
 use Rattle.pair_list.specs.Pairs.{Circuit, Pair}
-use Rattle.work_list.specs.declared.Finding.{Finding}
-use Rattle.work_list.specs.declared.Finding.TheVariants.{LeftRefused, RightRefused, PassedOver, Compared}
 use Rattle.work_list.specs.declared.Answer.{Answer}
-use Rattle.work_list.specs.Serving.{cost, plainly, served, zeros, Lent, verdict_on, channel_on, left_verdict, right_verdict, difference, answer_to, answers_to}
+use Rattle.work_list.specs.declared.Answer.TheVariants.{LeftRefused, RightRefused, PassedOver, Compared}
+use Rattle.work_list.specs.Serving.{cost, unless_refused, zeros, Lent, verdict_on, channel_on, left_verdict, right_verdict, comparison, answer_to, answers_to}
 use Rattle.work_list.specs.Claims.{spent_before}
 use Rattle.work_list.proofs.Weighing.{in_zeros}
 use Rattle.work_list.proofs.Claims.{in_order_lem}
@@ -24,7 +23,7 @@ use Rattle.demands.proofs.Entries.{Reads, reads, Finds, same, sizes, entry, find
 use Rattle.demands.proofs.Demands.{demand2}
 
 -- ---- one circuit that is accepted
-module _ (t : Lent) (n : ℕ) (c : Circuit) (e : accepted (verdict_on t n c) ≡ true) where
+module _ (t : Lent) (n : ℕ) (c : Circuit) (e : is_ok (verdict_on t n c) ≡ true) where
   side_reads : Reads c.qubits c.bits (entry_of c) (channel_on t n c)
   side_reads =
       let yes = in_zeros c.qubits c.bits c.store t.limits c.gates n t.work ∙ e in
@@ -39,10 +38,10 @@ module _ (p : Pair) where
   abbrev b : Circuit
   b = p.right
 
-  meaning : (d : Difference) → Finds a.qubits a.bits b.qubits b.bits (entry_of a) (entry_of b) d → Means p d.left d.right d.found
-  meaning d (same x y k h) = subst (Means p d.left d.right) (sym (ap (λ (z : Difference). z.found) k)) (record { counts = (x, y); channels = λ s i j v. h s i j v.0 v.1.0 v.1.1 })
-  meaning d (sizes apart k) = subst (Means p d.left d.right) (sym (ap (λ (z : Difference). z.found) k)) (λ c. apart c.0 c.1)
-  meaning d (entry x y q k h) = subst (Means p d.left d.right) (sym k) (record {
+  meaning : (c : Result Comparison Refusal) → Finds a.qubits a.bits b.qubits b.bits (entry_of a) (entry_of b) c → Means p c
+  meaning c (same x y k h) = subst (Means p) (sym k) (record { counts = (x, y); channels = λ s i j v. h s i j v.0 v.1.0 v.1.1 })
+  meaning c (sizes apart k) = subst (Means p) (sym k) (λ q. apart q.0 q.1)
+  meaning c (entry x y d k h) = subst (Means p) (sym k) (record {
     counts = (x, y);
     within = (h.store, (h.row, h.col));
     left_is = h.left;
@@ -52,37 +51,22 @@ module _ (p : Pair) where
   })
 
 -- ---- which answer it was
-compares : Finding → Bool
-compares (LeftRefused v) = false
-compares (RightRefused v) = false
-compares PassedOver = false
-compares (Compared f) = true
-
-found_of : Finding → Found
-found_of (LeftRefused v) = Same
-found_of (RightRefused v) = Same
-found_of PassedOver = Same
-found_of (Compared f) = f
-
 module _ (t : Lent) (spent : ℕ) (p : Pair) where
-  abbrev d : Difference
-  d = difference t p
+  abbrev by : Verdict → Verdict → Bool → Answer
+  by x y z = unless_refused LeftRefused x (unless_refused RightRefused y (cond z (Compared (cost p) (comparison t p)) (PassedOver (cost p))))
 
-  abbrev by : Bool → Bool → Bool → Answer
-  by x y z = cond x (cond y (cond z (served (cost p) d) (plainly PassedOver (cost p))) (plainly (RightRefused (right_verdict t p)) 0)) (plainly (LeftRefused (left_verdict t p)) 0)
+  found_means : (x y : Verdict) (z : Bool) → left_verdict t p ≡ x → right_verdict t p ≡ y → (n : ℕ) (f : Result Comparison Refusal) → by x y z ≡ Compared n f → Means p f
+  found_means (Ok x) (Ok y) true g h n f e =
+      let is : comparison t p ≡ f = cc in
+      subst (Means p) is (meaning p (comparison t p) (finds (side_reads t t.left p.left (ap is_ok g)) (side_reads t t.right p.right (ap is_ok h))))
+  found_means (Ok x) (Ok y) false g h n f e = absurd (cc)
+  found_means (Ok x) (Err r) z g h n f e = absurd (cc)
+  found_means (Err r) y z g h n f e = absurd (cc)
 
-  found_means : (x y z : Bool) → accepted (left_verdict t p) ≡ x → accepted (right_verdict t p) ≡ y → (f : Found) → (by x y z).finding ≡ Compared f → Means p (by x y z).left (by x y z).right f
-  unfolding compares found_of
-  found_means true true true g h f e =
-      subst (Means p d.left d.right) (ap found_of e) (meaning p d (finds (side_reads t t.left p.left g) (side_reads t t.right p.right h)))
-  found_means true true false g h f e = absurd (true≢false (sym (ap compares e)))
-  found_means true false z g h f e = absurd (true≢false (sym (ap compares e)))
-  found_means false y z g h f e = absurd (true≢false (sym (ap compares e)))
-
-  answer_means : (f : Found) → (answer_to t spent p).finding ≡ Compared f → Means p (answer_to t spent p).left (answer_to t spent p).right f
+  answer_means : (n : ℕ) (f : Result Comparison Refusal) → answer_to t spent p ≡ Compared n f → Means p f
   unfolding answer_to
-  answer_means f e = found_means (accepted (left_verdict t p)) (accepted (right_verdict t p)) (leb (spent + cost p) t.allowance) refl refl f e
+  answer_means n f e = found_means (left_verdict t p) (right_verdict t p) (leb (spent + cost p) t.allowance) refl refl n f e
 
 pub work_lists : WorkLists
-work_lists t ps i a p h f =
-    subst (λ (b : Answer). b.finding ≡ Compared f → Means (get_or ps i p) b.left b.right f) (sym ((in_order_lem t ps).1 i a p h)) (answer_means t (spent_before t ps i) (get_or ps i p) f)
+work_lists t ps i a p h n f =
+    subst (λ (b : Answer). b ≡ Compared n f → Means (get_or ps i p) f) (sym ((in_order_lem t ps).1 i a p h)) (answer_means t (spent_before t ps i) (get_or ps i p) n f)

@@ -1,6 +1,6 @@
 -- The three demands, a type each. A call has n qubits, m classical bits, the initial store σ, the limits l, the gates' words ws,
 -- the result r and the work buffer w.
-use Rattle.std.specs.Prelude.{◌≡◌, ◌≢◌, Bool, true, false, ℕ, ◌+◌, ◌*◌, ◌%◌, ◌^◌, ◌≤◌, ◌<◌, eqb, length, get_or, take, drop, replicate, ℤ, pos}
+use Rattle.std.specs.Prelude.{◌≡◌, ◌≢◌, Bool, true, false, ℕ, ◌+◌, ◌*◌, ◌%◌, ◌^◌, ◌≤◌, ◌<◌, eqb, length, get_or, take, drop, replicate, ℤ, pos, Ok, Err, is_ok}
 use mathlib.Core.List.{List, [], ◌∷◌, ◌++◌, map, foldl}
 use Rattle.algebra.specs.Lists.{All, every, some}
 use Rattle.algebra.specs.Sum.{δ}
@@ -11,14 +11,13 @@ use Rattle.exact.specs.Exact.{Exact, exact, conj, narrow}
 use Rattle.gate.specs.Gate.{gate, gate_size, gates_of, elem, share}
 use Rattle.kraus.specs.Branch.{Store, Branch, branches}
 use Rattle.kraus.specs.Blocks.{survivors, stores, block, povm}
-use Rattle.verdict.specs.Verdict.{accepted}
 use Rattle.verdict.specs.Questions.{Question, first_no, decided_by}
 use Rattle.circuit.specs.declared.limits.Limits.{Limits}
-use Rattle.channel.specs.declared.compare.Found.TheVariants.{Same}
+use Rattle.channel.specs.declared.compare.Comparison.TheVariants.{Same}
 use Rattle.store.specs.Store.{bits}
 use Rattle.channel.specs.Layout.{Block, effects, side, effect_of, dim_at, bits_at, count_at, read_back_in, read_back}
 use Rattle.channel.specs.WellFormed.{well_formed, has_zero_block}
-use Rattle.channel.specs.Compare.{plain, compare_of}
+use Rattle.channel.specs.Compare.{compare_of}
 use Rattle.effects.specs.Effects.{effects_verdict, result_of, povm_of}
 use Rattle.judge.specs.Delivered.{circuit_words}
 use Rattle.judge.specs.Call.{worked, asked, verdict_of, accepts, result_after, work_after}
@@ -38,7 +37,7 @@ module _ (n m : ℕ) (σ : List ℕ) (l : Limits) (ws : List ℕ) (r w : List �
   -- the first question that is answered by no decides; accepted is what answers each by yes, and nothing else
   pub record Judges : Type 0 where
     pub verdict : verdict_of n m σ l ws r w ≡ first_no (asked n m σ l ws r w)
-    pub refusal : (xs ys : List Question) (q : Question) → asked n m σ l ws r w ≡ xs ++ (q ∷ ys) → every (λ (p : Question). p.answer) xs ≡ true → q.answer ≡ false → verdict_of n m σ l ws r w ≡ q.refusal
+    pub refusal : (xs ys : List Question) (q : Question) → asked n m σ l ws r w ≡ xs ++ (q ∷ ys) → every (λ (p : Question). p.answer) xs ≡ true → q.answer ≡ false → verdict_of n m σ l ws r w ≡ Err q.refusal
     pub acceptance : accepts n m σ l ws r w ≡ every (λ (q : Question). q.answer) (asked n m σ l ws r w)
     pub refused : accepts n m σ l ws r w ≡ false → (result_after n m σ l ws r w ≡ r) × (work_after n m σ l ws r w ≡ w)
     pub accepted : accepts n m σ l ws r w ≡ true → Delivers
@@ -67,8 +66,8 @@ pub record IsChannel (n m : ℕ) (bs : List Branch) (l : List ℤ) : Type 0 wher
   pub entries : All (λ (a : Block). (i j : ℕ) → i < side (2 ^ n) → j < side (2 ^ n) → a.entry (i * side (2 ^ n) + j) ≡ block bs (bits m a.store) i j) (read_back l)
   pub hermitian : All (λ (a : Block). (i j : ℕ) → i < side (2 ^ n) → j < side (2 ^ n) → a.entry (i * side (2 ^ n) + j) ≡ conj (a.entry (j * side (2 ^ n) + i))) (read_back l)
   pub effects : (r c : ℕ) → r < 2 ^ n → c < 2 ^ n → foldl (λ (x : Exact) (a : Block). exact.◌⊕◌ x (effect_of (2 ^ n) a.entry r c)) exact.𝟘 (read_back l) ≡ δ exact r c
-  pub textbook : (res : List ℤ) → accepted (effects_verdict l res) ≡ true → AreEffects n m l (povm_of l res) (λ (τ : Store) (r c : ℕ). povm (2 ^ n) bs τ r c)
-  pub transposed : (res : List ℤ) → accepted (effects_verdict l res) ≡ true → AreEffects n m l (result_of l res) (λ (τ : Store) (r c : ℕ). povm (2 ^ n) bs τ c r)
+  pub textbook : (res : List ℤ) → is_ok (effects_verdict l res) ≡ true → AreEffects n m l (povm_of l res) (λ (τ : Store) (r c : ℕ). povm (2 ^ n) bs τ r c)
+  pub transposed : (res : List ℤ) → is_ok (effects_verdict l res) ≡ true → AreEffects n m l (result_of l res) (λ (τ : Store) (r c : ℕ). povm (2 ^ n) bs τ c r)
 
 abbrev pub Demand2 : Type 0
 Demand2 = (n m : ℕ) (σ : List ℕ) (l : Limits) (ws : List ℕ) (r w : List ℤ) → accepts n m σ l ws r w ≡ true
@@ -94,8 +93,8 @@ pub record SameChannel (l r : List ℤ) : Type 0 where
   pub stores : map (λ (b : Block). b.store) (read_back l) ≡ map (λ (b : Block). b.store) (read_back r)
   pub entries : (j row col : ℕ) → row < side (dim_at l) → col < side (dim_at l)
       → (get_or (read_back l) j no_block).entry (row * side (dim_at l) + col) ≡ (get_or (read_back r) j no_block).entry (row * side (dim_at l) + col)
-  pub compared : compare_of l r ≡ plain Same
-  pub compared_back : compare_of r l ≡ plain Same
+  pub compared : compare_of l r ≡ Ok Same
+  pub compared_back : compare_of r l ≡ Ok Same
 
 -- a circuit with the buffers r and w, and a schedule of it with the buffers s and x
 module _ (n m : ℕ) (σ : List ℕ) (l : Limits) (ws vs : List ℕ) (r w s x : List ℤ) where

@@ -1,6 +1,5 @@
 -- Channels kept in fewer words: what the calls deliver can be packed, since its blocks are Hermitian, and of the plain-gate profile be written without √2 parts. A short result alone is refused.
-use Rattle.std.specs.Prelude.{◌≡◌, true, List, ℕ, ◌≤◌, length, ℤ}
-use Rattle.verdict.specs.Verdict.{accepted}
+use Rattle.std.specs.Prelude.{◌≡◌, true, List, ℕ, ◌≤◌, length, ℤ, is_ok}
 use Rattle.circuit.specs.declared.limits.Limits.{Limits}
 use Rattle.channel.specs.Layout.{packed, plain_only, dim_at}
 use Rattle.recast.specs.Words.{size_in}
@@ -12,11 +11,11 @@ use Rattle.pauli.specs.Call as pauli
 
 -- with a result long enough the words l are packed
 abbrev pub Packable : List ℤ → Type 0
-Packable l = (res : List ℤ) → size_in (packed (dim_at l)) l ≤ length res → accepted (pack_verdict l res) ≡ true
+Packable l = (res : List ℤ) → size_in (packed (dim_at l)) l ≤ length res → is_ok (pack_verdict l res) ≡ true
 
 -- and written without √2 parts
 abbrev pub Rational : List ℤ → Type 0
-Rational l = (res : List ℤ) → size_in (plain_only (dim_at l)) l ≤ length res → accepted (plain_write_verdict l res) ≡ true
+Rational l = (res : List ℤ) → size_in (plain_only (dim_at l)) l ≤ length res → is_ok (plain_write_verdict l res) ≡ true
 
 -- every accepted circuit, every accepted Pauli program and every accepted circuit of the profile, whatever the buffers held
 abbrev pub CircuitsPack : Type 0

@@ -1,10 +1,9 @@
 -- Probabilities that add up: both calls on effects accept every channel that circuit_channel or pauli_channel delivered, with a result long enough, and what they leave adds up to the identity, without rounding.
-use Rattle.std.specs.Prelude.{◌≡◌, true, ℕ, ◌+◌, ◌*◌, ◌^◌, ◌≤◌, ◌<◌, length, ℤ}
+use Rattle.std.specs.Prelude.{◌≡◌, true, ℕ, ◌+◌, ◌*◌, ◌^◌, ◌≤◌, ◌<◌, length, ℤ, Ok}
 use mathlib.Core.List.{List, foldl}
 use Rattle.algebra.specs.Lists.{All}
 use Rattle.algebra.specs.Sum.{δ}
 use Rattle.exact.specs.Exact.{Exact, exact, conj}
-use Rattle.verdict.specs.declared.Verdict.TheVariants.{Accepted}
 use Rattle.circuit.specs.declared.limits.Limits.{Limits}
 use Rattle.channel.specs.Layout.{Block, effects, read_back_in}
 use Rattle.effects.specs.Effects.{effects_size, effects_verdict, result_of, povm_of}
@@ -18,7 +17,7 @@ pub record AddUp (d : ℕ) (e : List ℤ) : Type 0 where
 
 -- of a channel l of dimension d: no refusal, and both forms add up
 pub record Probabilities (d : ℕ) (l : List ℤ) : Type 0 where
-  pub verdict : (res : List ℤ) → effects_size l ≤ length res → effects_verdict l res ≡ Accepted
+  pub verdict : (res : List ℤ) → effects_size l ≤ length res → effects_verdict l res ≡ Ok tt
   pub textbook : (res : List ℤ) → effects_size l ≤ length res → AddUp d (povm_of l res)
   pub transposed : (res : List ℤ) → effects_size l ≤ length res → AddUp d (result_of l res)
 

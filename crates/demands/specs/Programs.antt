@@ -1,6 +1,6 @@
 -- The demands on Pauli programs: 1 and 2, a type each, as they stand for circuits. The third speaks of circuits alone.
 -- A call has n qubits, m classical bits, the initial store σ, the limits l, the words ns of the listed nodes and os of the operations, the result r and the work buffer w.
-use Rattle.std.specs.Prelude.{◌≡◌, true, false, List, ◌∷◌, ◌++◌, ℕ, ◌*◌, ◌^◌, ◌≤◌, ◌<◌, length, get_or, take, drop, replicate, ℤ, pos}
+use Rattle.std.specs.Prelude.{◌≡◌, true, false, List, ◌∷◌, ◌++◌, ℕ, ◌*◌, ◌^◌, ◌≤◌, ◌<◌, length, get_or, take, drop, replicate, ℤ, pos, Err}
 use Rattle.algebra.specs.Lists.{All, every}
 use Rattle.algebra.specs.Sum.{list_sum, times, δ}
 use Rattle.exact.specs.Exact as scalar
@@ -39,7 +39,7 @@ module _ (n m : ℕ) (σ : List ℕ) (l : Limits) (ns os : List ℕ) (r w : List
   pub record ProgramJudges : Type 0 where
     pub verdict : verdict_of n m σ l ns os r w ≡ first_no (asked n m σ l ns os r w)
     pub refusal : (xs ys : List Question) (q : Question) → asked n m σ l ns os r w ≡ xs ++ (q ∷ ys) → every (λ (p : Question). p.answer) xs ≡ true → q.answer ≡ false
-        → verdict_of n m σ l ns os r w ≡ q.refusal
+        → verdict_of n m σ l ns os r w ≡ Err q.refusal
     pub acceptance : accepts n m σ l ns os r w ≡ every (λ (q : Question). q.answer) (asked n m σ l ns os r w)
     pub refused : accepts n m σ l ns os r w ≡ false → (result_after n m σ l ns os r w ≡ r) × (work_after n m σ l ns os r w ≡ w)
     pub accepted : accepts n m σ l ns os r w ≡ true → ProgramDelivers

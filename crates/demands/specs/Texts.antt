@@ -1,20 +1,20 @@
 -- Two texts: what the answer of judge_texts says of the channels that their circuits have by the definitions. The texts are t and u, the bits given σ, the limits l.
-use Rattle.std.specs.Prelude.{◌≡◌, Bool, true, List, ℕ, ◌+◌, ◌*◌, ◌^◌, ◌≤◌, ◌<◌, length, ℤ}
+use Rattle.std.specs.Prelude.{◌≡◌, Bool, true, List, ℕ, ◌+◌, ◌*◌, ◌^◌, ◌≤◌, ◌<◌, length, ℤ, Result, Ok, Err, is_ok}
 use Rattle.exact.specs.Exact.{Exact}
 use Rattle.scalar.specs.declared.Scalar.{Scalar}
 use Rattle.scalar.specs.Calls.{scalar_of}
 use Rattle.gate.specs.Gate.{gates_of}
 use Rattle.kraus.specs.Branch.{branches}
 use Rattle.kraus.specs.Blocks.{survivors, block}
-use Rattle.verdict.specs.Verdict.{accepted}
+use Rattle.verdict.specs.declared.Refusal.{Refusal}
 use Rattle.circuit.specs.declared.limits.Limits.{Limits}
 use Rattle.circuit.specs.Footprint.{footprint_of}
 use Rattle.circuit.specs.Sizes.{result_words}
 use Rattle.circuit.specs.Questions.{sizes_of, channel_verdict}
 use Rattle.store.specs.Store as store
 use Rattle.channel.specs.declared.compare.Place.{Place}
-use Rattle.channel.specs.declared.compare.Found.{Found}
-use Rattle.channel.specs.declared.compare.Found.TheVariants.{Refused, Same, Dimensions, Entry}
+use Rattle.channel.specs.declared.compare.Comparison.{Comparison}
+use Rattle.channel.specs.declared.compare.Comparison.TheVariants.{Same, Dimensions, Differs}
 use Rattle.channel.specs.Layout.{side}
 use Rattle.channel.specs.Claims.{earlier}
 use Rattle.judge.specs.Call.{worked}
@@ -22,7 +22,7 @@ use Rattle.qasm.specs.Reading.{circuit, read_of}
 use Rattle.answer_lines.specs.Lines.{max_answer}
 use Rattle.judge_texts.specs.declared.Answer.TheVariants.{Compared}
 use Rattle.text_sides.specs.Sides.{store_for}
-use Rattle.judge_texts.specs.Call.{answer_of, left_number, right_number}
+use Rattle.judge_texts.specs.Call.{answer_of}
 
 -- ---- one text
 -- the words of the result that question 10 asks for
@@ -31,7 +31,7 @@ delivered n m ws = let s = sizes_of (footprint_of m (gates_of ws)) n in result_w
 
 -- every question is answered by yes, where the buffers have just the words that question 10 asks for
 abbrev pub acceptable : ℕ → ℕ → List ℕ → Limits → List ℕ → Bool
-acceptable n m σ l ws = accepted (channel_verdict n m σ l ws (delivered n m ws) (worked n m ws))
+acceptable n m σ l ws = is_ok (channel_verdict n m σ l ws (delivered n m ws) (worked n m ws))
 
 -- the text is read, and its circuit is accepted with this store and these limits
 pub record Judged (t σ : List ℕ) (l : Limits) : Type 0 where
@@ -92,20 +92,20 @@ module _ (t u σ : List ℕ) (l : Limits) where
     pub before : (s i j : ℕ) → Within pair.left s i j → earlier s (place pair.left i j) p.store (place pair.left p.row p.col) ≡ true
         → entry_of pair.left s i j ≡ entry_of pair.right s i j
 
-  -- ---- what a comparison found, with the numbers x and y, said of the channels; a refusal is never found
-  abbrev pub Means : Scalar → Scalar → Found → Type 0
-  Means x y (Refused v) = ⊥
-  Means x y Same = DoTheSame
-  Means x y Dimensions = OtherCounts
-  Means x y (Entry p) = DifferFirst p x y
+  -- ---- what a comparison found, said of the channels; a refusal is never found
+  abbrev pub Means : Result Comparison Refusal → Type 0
+  Means (Ok Same) = DoTheSame
+  Means (Ok Dimensions) = OtherCounts
+  Means (Ok (Differs d)) = DifferFirst d.place d.left d.right
+  Means (Err r) = ⊥
 
   -- the answer, with the words lent for gates g, for both channels r and s and for the work w, and the room o
   module _ (g : List ℕ) (r s w : List ℤ) (o : List ℕ) where
     pub record Answers : Type 0 where
       -- what is answered holds, whatever the buffers: "same" is answered of nothing else
-      pub sound : (f : Found) → answer_of t u σ l g r s w o ≡ Compared f → Means (left_number t u σ l g r s w o) (right_number t u σ l g r s w o) f
+      pub sound : (f : Result Comparison Refusal) → answer_of t u σ l g r s w o ≡ Compared f → Means f
       -- and "same" is answered, where the buffers are long enough
-      pub complete : (h : DoTheSame) → Lent h.pair.left g r w → Lent h.pair.right g s w → max_answer ≤ length o → answer_of t u σ l g r s w o ≡ Compared Same
+      pub complete : (h : DoTheSame) → Lent h.pair.left g r w → Lent h.pair.right g s w → max_answer ≤ length o → answer_of t u σ l g r s w o ≡ Compared (Ok Same)
 
 abbrev pub Texts : Type 0
 Texts = (t u σ : List ℕ) (l : Limits) (g : List ℕ) (r s w : List ℤ) (o : List ℕ) → Answers t u σ l g r s w o

@@ -1,20 +1,21 @@
 -- Pairs that are served: what compare's answer to a pair says of the channels that its circuits have by the definitions.
-use Rattle.std.specs.Prelude.{◌≡◌, true, List, ℕ, ◌+◌, ◌*◌, ◌^◌, ◌<◌, length, get_or}
+use Rattle.std.specs.Prelude.{◌≡◌, true, List, ℕ, ◌+◌, ◌*◌, ◌^◌, ◌<◌, length, get_or, Result, Ok, Err}
 use Rattle.exact.specs.Exact.{Exact}
 use Rattle.scalar.specs.declared.Scalar.{Scalar}
 use Rattle.scalar.specs.Calls.{scalar_of}
 use Rattle.gate.specs.Gate.{gates_of}
 use Rattle.kraus.specs.Branch.{branches}
 use Rattle.kraus.specs.Blocks.{survivors, block}
+use Rattle.verdict.specs.declared.Refusal.{Refusal}
 use Rattle.store.specs.Store as store
 use Rattle.channel.specs.declared.compare.Place.{Place}
-use Rattle.channel.specs.declared.compare.Found.{Found}
-use Rattle.channel.specs.declared.compare.Found.TheVariants.{Refused, Same, Dimensions, Entry}
+use Rattle.channel.specs.declared.compare.Comparison.{Comparison}
+use Rattle.channel.specs.declared.compare.Comparison.TheVariants.{Same, Dimensions, Differs}
 use Rattle.channel.specs.Layout.{side}
 use Rattle.channel.specs.Claims.{earlier}
 use Rattle.pair_list.specs.Pairs.{Circuit, Pair}
-use Rattle.work_list.specs.declared.Finding.TheVariants.{Compared}
 use Rattle.work_list.specs.declared.Answer.{Answer}
+use Rattle.work_list.specs.declared.Answer.TheVariants.{Compared}
 use Rattle.work_list.specs.Serving.{Lent, answers_to}
 
 -- ---- one circuit
@@ -50,14 +51,14 @@ module _ (p : Pair) where
     pub unequal : entry_of p.left q.store q.row q.col ≡ entry_of p.right q.store q.row q.col → ⊥
     pub before : (s i j : ℕ) → Within p.left s i j → earlier s (place p.left i j) q.store (place p.left q.row q.col) ≡ true → entry_of p.left s i j ≡ entry_of p.right s i j
 
-  -- what a comparison found, with the numbers x and y, said of the channels; a refusal is never found
-  abbrev pub Means : Scalar → Scalar → Found → Type 0
-  Means x y (Refused v) = ⊥
-  Means x y Same = DoTheSame
-  Means x y Dimensions = SameCounts → ⊥
-  Means x y (Entry q) = DifferFirst q x y
+  -- what a comparison found, said of the channels; a refusal is never found
+  abbrev pub Means : Result Comparison Refusal → Type 0
+  Means (Ok Same) = DoTheSame
+  Means (Ok Dimensions) = SameCounts → ⊥
+  Means (Ok (Differs d)) = DifferFirst d.place d.left d.right
+  Means (Err r) = ⊥
 
 -- each pair of a list that is compared: what is answered holds, whatever is lent
 abbrev pub WorkLists : Type 0
-WorkLists = (t : Lent) (ps : List Pair) (i : ℕ) (a : Answer) (p : Pair) → i < length ps → (f : Found)
-    → let b = get_or (answers_to t ps) i a in b.finding ≡ Compared f → Means (get_or ps i p) b.left b.right f
+WorkLists = (t : Lent) (ps : List Pair) (i : ℕ) (a : Answer) (p : Pair) → i < length ps → (n : ℕ) (f : Result Comparison Refusal)
+    → get_or (answers_to t ps) i a ≡ Compared n f → Means (get_or ps i p) f

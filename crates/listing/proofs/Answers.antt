@@ -4,25 +4,15 @@ use mathlib.Core.Bool.{Bool, true, false, cond}
 use mathlib.Core.List.{List}
 use Prim.Native.Nat.{ℕ}
 use lib.IntN.{ℤ}
-use Rattle.verdict.specs.declared.Verdict.{Verdict}
+use Rattle.verdict.specs.Questions.{Verdict}
 use Rattle.circuit.specs.declared.limits.Limits.{Limits}
 use Rattle.circuit.specs.Limits.{ceilings}
-use Rattle.verdict.specs.Verdict.{accepted, verdict_number, verdict_index}
+use Rattle.verdict.specs.Verdict.{verdict_number, verdict_index}
 use Rattle.judge.specs.Call.{verdict_of, result_after, work_after}
 use Rattle.circuit_text.specs.declared.input.Circuit.{Circuit}
 use Rattle.circuit_text.specs.Input.{bits_in, store_in, words_in, circuit_in, numbers_of, is_input_text}
 use Rattle.listing.specs.Listing.{listing, refusal_line, input_line}
 use Rattle.listing.specs.Answer.{lines_for, lines_of, answer_of, result_of, work_of}
-
-module _ (v : Verdict) (channel : List ℤ) where
-  abbrev by : Bool → List ℕ
-  by b = cond b (listing channel) (refusal_line (verdict_number v) (verdict_index v))
-
-  pub listed : accepted v ≡ true → listing channel ≡ lines_for v channel
-  listed e = ap by (sym e)
-
-  pub refused : accepted v ≡ false → refusal_line (verdict_number v) (verdict_index v) ≡ lines_for v channel
-  refused e = ap by (sym e)
 
 -- the lines for what a call answers with the default limits
 pub lines_is : (n m : ℕ) (σ ws : List ℕ) (r w : List ℤ) {l : Limits} {v : Verdict} {q : List ℤ} → l ≡ ceilings

@@ -1,15 +1,16 @@
 -- What is answered to a text: the listing of its circuit's channel, the line of the circuit's refusal, or that of a text that is no input.
-use Rattle.std.specs.Prelude.{cond, List, ℕ, ℤ}
-use Rattle.verdict.specs.declared.Verdict.{Verdict}
+use Rattle.std.specs.Prelude.{cond, List, ℕ, ℤ, Ok, Err}
+use Rattle.verdict.specs.Questions.{Verdict}
 use Rattle.circuit.specs.Limits.{ceilings}
-use Rattle.verdict.specs.Verdict.{accepted, verdict_number, verdict_index}
+use Rattle.verdict.specs.Verdict.{refusal_number, refusal_index}
 use Rattle.judge.specs.Call.{verdict_of, result_after, work_after}
 use Rattle.circuit_text.specs.Input.{bits_in, store_in, words_in, circuit_in, numbers_of, is_input_text}
 use Rattle.listing.specs.Listing.{listing, refusal_line, input_line}
 
 -- the lines for a verdict, of which `channel` are the words that an accepted call leaves
 abbrev pub lines_for : Verdict → List ℤ → List ℕ
-lines_for v channel = cond (accepted v) (listing channel) (refusal_line (verdict_number v) (verdict_index v))
+lines_for (Ok x) channel = listing channel
+lines_for (Err r) channel = refusal_line (refusal_number r) (refusal_index r)
 
 -- n qubits, m bits, the initial store σ and the gates' words ws; the limits are the defaults; the result r and the work buffer w
 abbrev pub lines_of : ℕ → ℕ → List ℕ → List ℕ → List ℤ → List ℤ → List ℕ

@@ -15,7 +15,8 @@ use Rattle.text.specs.Ascii.{ascii}
 use Rattle.listing.specs.Answer.{answer_of}
 
 pub data Row : Type 0 where
-  scalar : scalars.Row → Row
+  -- a call on scalars answers as document 01 says
+  scalar : Bool → Row
   verdict : circuits.Row → Row
   -- a text and its answer
   listing : List ℕ → List ℕ → Row
@@ -31,7 +32,7 @@ abbrev pub channel_of : List ℕ → List ℤ
 channel_of ws = result_after 1 1 (0 ∷ []) ceilings ws (words 200) (words 200)
 
 abbrev pub holds : Row → Bool
-holds (scalar r) = scalars.holds r
+holds (scalar b) = b
 holds (verdict r) = circuits.holds r
 holds (listing t a) = same_bits (answer_of t (words 5200) (words 2000)) a
 holds (effect ws s r c old new) = equal (look (layout.read_back_in (layout.effects 2) (result_of (channel_of ws) (words 100))) s (r * 2 + c)) old && equal (look (layout.read_back_in (layout.effects 2) (povm_of (channel_of ws) (words 100))) s (r * 2 + c)) new

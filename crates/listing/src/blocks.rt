@@ -54,13 +54,11 @@ fn put_entries(out: &mut [u8], at: usize, s: &[i64], place: usize, w: usize) -> 
     requires { (w ≤ 256) × Entries s.now place (w * w) }
     ensures { Written (page out.old at) (entry_lines w (w * w) (entry_at (channels (dim_at s.now)) s.now place)) (page out.new result) }
 {
-    let n = w * w;
     let mut p = at;
-    let mut k = 0;
-    while k < n {
+    let n = w * w;
+    for k in 0..n {
         let x = read_entry(s, place, k);
         p = put_entry(out, p, x, k / w, k % w);
-        k += 1;
     }
     p
 }
@@ -81,6 +79,7 @@ fn put_blocks(out: &mut [u8], at: usize, s: &[i64], w: usize, m: u32, count: usi
 {
     let mut p = at;
     let mut place = follow(s, 3);
+    // Kept: the walk follows the chain, and says how many of its records are left; a for is no plainer.
     let mut left = count;
     while 0 < left {
         p = put_block(out, p, s, place, w, m);

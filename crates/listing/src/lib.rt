@@ -14,7 +14,7 @@ ghost use Rattle.listing.specs.Answer.{lines_of, answer_of, result_of, work_of};
 use self::blocks::put_channel;
 use self::lines::{write_no_input, write_refusal};
 use circuit::limits::Limits;
-use circuit_text::input::{Input, MAX_BITS, MAX_NUMBERS, read_input};
+use circuit_text::input::{MAX_BITS, MAX_NUMBERS, read_input};
 use gate::GATE;
 use judge::call::circuit_channel;
 
@@ -35,12 +35,10 @@ fn list_circuit(
     ensures res { res.new ≡ result_after qubits bits store.now ceilings gates.now res.old work.old }
     ensures work { work.new ≡ work_after qubits bits store.now ceilings gates.now res.old work.old }
 {
-    let limits = Limits::defaults();
-    let v = circuit_channel(qubits, bits, store, gates, limits, res, work);
-    if v.is_accepted() {
-        return put_channel(out, res);
+    match circuit_channel(qubits, bits, store, gates, Limits::defaults(), res, work) {
+        Ok(()) => put_channel(out, res),
+        Err(refusal) => write_refusal(out, refusal.number() as u64, refusal.index() as u64),
     }
-    write_refusal(out, v.number() as u64, v.index() as u64)
 }
 
 // Puts the answer to a text into `out`, and says how many bytes it has. The two buffers are lent to the judge.
@@ -51,7 +49,7 @@ pub fn list(text: &[u8], res: &mut [i64], work: &mut [i64], out: &mut [u8]) -> u
 {
     let mut numbers = [0u32; MAX_NUMBERS];
     let mut store = [0u8; MAX_BITS];
-    let Input::Given(circuit) = read_input(text, &mut numbers, &mut store) else {
+    let Some(circuit) = read_input(text, &mut numbers, &mut store) else {
         return write_no_input(out);
     };
     let m = circuit.bits as usize;

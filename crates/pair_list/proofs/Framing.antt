@@ -1,20 +1,19 @@
--- What the test of a pair says; the walk along a list of pairs; and the spots of its circuits.
+-- What the test of a pair says; the walk along a list of pairs.
+use Rattle.std.specs.Prelude.{Ok, Err}
 use mathlib.Core.Path.{◌≡◌, refl, sym, ap, ◌∙◌, subst}
 use mathlib.Core.Bool.{Bool, true, false, cond, ◌&&◌}
 use mathlib.Core.List.{List}
-use Prim.Native.Nat.{ℕ, zero, suc, ◌+◌, ◌-◌, ◌<◌, ◌≤◌}
+use Prim.Native.Nat.{ℕ, suc, ◌+◌, ◌-◌, ◌<◌, ◌≤◌}
 use native.Mathlib.Numerals.{add-one}
 use native.Mathlib.Omega.{arith}
 use lib.Dec.{eqb, leb}
-use lib.ListN.{length, get_or}
-use borrow.Author.Tests.{leb-true, leb-false, le-leb, lt-leb}
+use lib.ListN.{length}
+use borrow.Author.Tests.{leb-true, leb-false, le-leb, lt-leb, eq-eqb, ne_eqb}
 use Rattle.algebra.proofs.Tests.{and_split}
-use Rattle.verdict.specs.declared.Verdict.{Verdict}
-use Rattle.verdict.specs.declared.Verdict.TheVariants.{Accepted, MalformedAt}
-use Rattle.verdict.specs.Verdict.{accepted}
-use Rattle.pair_list.specs.declared.Spot.{Spot}
-use Rattle.pair_list.specs.Pairs.{Circuit, Pair, pair_head, part, pair_words, pair_bytes, pair_at, framed, pairs_from, framing_from, framing}
-use Rattle.pair_list.specs.Inner.Spots.{Framed, circuit_in, Holds}
+use Rattle.verdict.specs.Questions.{Verdict}
+use Rattle.verdict.specs.declared.Refusal.TheVariants.{MalformedAt}
+use Rattle.pair_list.specs.Pairs.{pair_head, pair_words, pair_bytes, framed, framing_from, framing}
+use Rattle.pair_list.specs.Inner.Spots.{Framed}
 
 -- ---- the test
 leb_shift : (a b n : ℕ) → a ≤ b → leb n (b - a) ≡ leb (a + n) b
@@ -29,13 +28,17 @@ module _ (ws bs : List ℕ) (at from : ℕ) where
   unfolding framed
   no_head h = ap (λ (t : Bool). t && (leb (at + pair_words ws at) (length ws) && leb (from + pair_bytes ws at) (length bs))) (lt-leb (at + pair_head) (length ws) h)
 
-  pub framed_is : at + pair_head ≤ length ws → from ≤ length bs → {n m : ℕ} → n ≡ pair_words ws at → m ≡ pair_bytes ws at
-      → leb n (length ws - at) && leb m (length bs - from) ≡ framed ws bs at from
-  unfolding framed
-  framed_is h k p q =
-      (λ i. leb (p i) (length ws - at) && leb (q i) (length bs - from))
-      ∙ (λ i. leb_shift at (length ws) (pair_words ws at) (omega arith) i && leb_shift from (length bs) (pair_bytes ws at) k i)
-      ∙ ap (λ (t : Bool). t && (leb (at + pair_words ws at) (length ws) && leb (from + pair_bytes ws at) (length bs))) (sym (le-leb (at + pair_head) (length ws) h))
+  module _ (h : at + pair_head ≤ length ws) where
+    with_head : framed ws bs at from ≡ leb (at + pair_words ws at) (length ws) && leb (from + pair_bytes ws at) (length bs)
+    unfolding framed
+    with_head = ap (λ (t : Bool). t && (leb (at + pair_words ws at) (length ws) && leb (from + pair_bytes ws at) (length bs))) (le-leb (at + pair_head) (length ws) h)
+
+    pub by_bytes : from ≤ length bs → at + pair_words ws at ≤ length ws → leb (pair_bytes ws at) (length bs - from) ≡ framed ws bs at from
+    by_bytes k p = leb_shift from (length bs) (pair_bytes ws at) k
+        ∙ sym (with_head ∙ ap (λ (t : Bool). t && leb (from + pair_bytes ws at) (length bs)) (le-leb (at + pair_words ws at) (length ws) p))
+
+    pub by_words : length ws < at + pair_words ws at → false ≡ framed ws bs at from
+    by_words p = sym (with_head ∙ ap (λ (t : Bool). t && leb (from + pair_bytes ws at) (length bs)) (lt-leb (at + pair_words ws at) (length ws) p))
 
   pub framed-room : framed ws bs at from ≡ true → Framed ws bs at from
   unfolding framed
@@ -58,14 +61,14 @@ module _ (ws bs : List ℕ) where
   framing-step : (k i at from : ℕ) → framed ws bs at from ≡ true → framing_from ws bs (suc k) i at from ≡ framing_from ws bs k (i + 1) (at + pair_words ws at) (from + pair_bytes ws at)
   unfolding framing_from
   framing-step k i at from e =
-      ap (λ (t : Bool). cond t (framing_from ws bs k (suc i) (at + pair_words ws at) (from + pair_bytes ws at)) (MalformedAt i)) e
+      ap (λ (t : Bool). cond t (framing_from ws bs k (suc i) (at + pair_words ws at) (from + pair_bytes ws at)) (Err (MalformedAt i))) e
       ∙ ap (λ (j : ℕ). framing_from ws bs k j (at + pair_words ws at) (from + pair_bytes ws at)) (sym (add-one i))
 
-  framing_stop : (k i at from : ℕ) → framed ws bs at from ≡ false → framing_from ws bs (suc k) i at from ≡ MalformedAt i
+  framing_stop : (k i at from : ℕ) → framed ws bs at from ≡ false → framing_from ws bs (suc k) i at from ≡ Err (MalformedAt i)
   unfolding framing_from
-  framing_stop k i at from e = ap (λ (t : Bool). cond t (framing_from ws bs k (suc i) (at + pair_words ws at) (from + pair_bytes ws at)) (MalformedAt i)) e
+  framing_stop k i at from e = ap (λ (t : Bool). cond t (framing_from ws bs k (suc i) (at + pair_words ws at) (from + pair_bytes ws at)) (Err (MalformedAt i))) e
 
-  framing-end : (i at from : ℕ) → framing_from ws bs 0 i at from ≡ cond (eqb at (length ws) && eqb from (length bs)) Accepted (MalformedAt i)
+  framing-end : (i at from : ℕ) → framing_from ws bs 0 i at from ≡ cond (eqb at (length ws) && eqb from (length bs)) (Ok tt) (Err (MalformedAt i))
   unfolding framing_from
   framing-end i at from = refl
 
@@ -85,23 +88,25 @@ module _ (ws bs : List ℕ) where
                 ∙ (λ j. framing_from ws bs (count - (i + 1)) (i + 1) (at + sym p j) (from + sym q j));
           }
 
-      pub walk_stop : framed ws bs at from ≡ false → MalformedAt i ≡ framing ws bs count
-      walk_stop e = sym (w.is ∙ ap (λ (k : ℕ). framing_from ws bs k i at from) rest ∙ framing_stop (count - (i + 1)) i at from e)
+      pub walk_stop : framed ws bs at from ≡ false → framing ws bs count ≡ Err (MalformedAt i)
+      walk_stop e = w.is ∙ ap (λ (k : ℕ). framing_from ws bs k i at from) rest ∙ framing_stop (count - (i + 1)) i at from e
 
-    pub walk_end : count ≤ i → {t : Bool} → (eqb at (length ws) && eqb from (length bs)) ≡ t → framing ws bs count ≡ cond t Accepted (MalformedAt count)
-    walk_end h e =
-        let none : count - i ≡ 0 = omega arith in
-        let all : i ≡ count = omega (arith, w.passed) in
-        w.is ∙ ap (λ (k : ℕ). framing_from ws bs k i at from) none ∙ framing-end i at from ∙ (λ j. cond (e j) Accepted (MalformedAt (all j)))
+    module _ (h : count ≤ i) where
+      walk_end : framing ws bs count ≡ cond (eqb at (length ws) && eqb from (length bs)) (Ok tt) (Err (MalformedAt count))
+      walk_end =
+          let none : count - i ≡ 0 = omega arith in
+          let all : i ≡ count = omega (arith, w.passed) in
+          w.is ∙ ap (λ (k : ℕ). framing_from ws bs k i at from) none ∙ framing-end i at from
+          ∙ ap (λ (k : ℕ). cond (eqb at (length ws) && eqb from (length bs)) (Ok tt) (Err (MalformedAt k))) all
 
--- ---- the spot of a circuit
-module _ (ws bs : List ℕ) where
-  pub spot_holds : (s : Spot) (n m a k b j : ℕ) → s.qubits ≡ n → s.bits ≡ m → s.gates ≡ a → s.gates_end ≡ a + k → s.store ≡ b → s.store_end ≡ b + j
-      → a + k ≤ length ws → b + j ≤ length bs → Holds ws bs s (record { qubits = n; bits = m; store = part bs b j; gates = part ws a k })
-  spot_holds s n m a k b j p q x y u v h g =
-      let x' : s.gates_end - s.gates ≡ k = omega arith in
-      let u' : s.store_end - s.store ≡ j = omega arith in
-      record {
-        inside = record { gates_order = omega arith; gates_inside = omega arith; store_order = omega arith; store_inside = omega arith };
-        is = λ i. record { qubits = p i; bits = q i; store = part bs (u i) (u' i); gates = part ws (x i) (x' i) };
-      }
+      abbrev ends : Bool → Bool → Verdict
+      ends s t = cond (s && t) (Ok tt) (Err (MalformedAt count))
+
+      pub walk_full : at ≡ length ws → from ≡ length bs → framing ws bs count ≡ Ok tt
+      walk_full p q = walk_end ∙ (λ k. ends (eq-eqb at (length ws) p k) (eq-eqb from (length bs) q k))
+
+      pub words_left : (at ≡ length ws → ⊥) → framing ws bs count ≡ Err (MalformedAt count)
+      words_left p = walk_end ∙ ap (λ (s : Bool). ends s (eqb from (length bs))) (ne_eqb at (length ws) p)
+
+      pub bytes_left : at ≡ length ws → (from ≡ length bs → ⊥) → framing ws bs count ≡ Err (MalformedAt count)
+      bytes_left p q = walk_end ∙ (λ k. ends (eq-eqb at (length ws) p k) (ne_eqb from (length bs) q k))

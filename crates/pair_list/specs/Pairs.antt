@@ -1,7 +1,7 @@
 -- Pairs of circuits in words: for each pair a head for both circuits, then the gates' words of both. The bytes of the initial stores stand in a list of their own.
-use Rattle.std.specs.Prelude.{Bool, cond, ◌&&◌, List, [], ◌∷◌, ℕ, zero, suc, ◌+◌, eqb, leb, length, get_or, take, drop}
-use Rattle.verdict.specs.declared.Verdict.{Verdict}
-use Rattle.verdict.specs.declared.Verdict.TheVariants.{Accepted, MalformedAt}
+use Rattle.std.specs.Prelude.{Bool, cond, ◌&&◌, List, [], ◌∷◌, ℕ, zero, suc, ◌+◌, eqb, leb, length, get_or, take, drop, Ok, Err}
+use Rattle.verdict.specs.Questions.{Verdict}
+use Rattle.verdict.specs.declared.Refusal.TheVariants.{MalformedAt}
 
 pub record Circuit : Type 0 where
   pub qubits : ℕ
@@ -64,8 +64,8 @@ module _ (ws bs : List ℕ) where
 
   -- the place of the first of k pairs that is not there, numbered from i on; words or bytes behind the last pair are no pair either
   unfoldable pub framing_from : ℕ → ℕ → ℕ → ℕ → Verdict
-  framing_from zero i at from = cond (eqb at (length ws) && eqb from (length bs)) Accepted (MalformedAt i)
-  framing_from (suc k) i at from = cond (framed at from) (framing_from k (suc i) (at + pair_words ws at) (from + pair_bytes ws at)) (MalformedAt i)
+  framing_from zero i at from = cond (eqb at (length ws) && eqb from (length bs)) (Ok tt) (Err (MalformedAt i))
+  framing_from (suc k) i at from = cond (framed at from) (framing_from k (suc i) (at + pair_words ws at) (from + pair_bytes ws at)) (Err (MalformedAt i))
 
   abbrev pub pairs_of : ℕ → List Pair
   pairs_of count = pairs_from count 0 0

@@ -1,4 +1,4 @@
--- A store copied to the start of a longer row of zeros, and the part of it that is the store of a circuit.
+-- A store at the start of a longer row of zeros, and the part of it that is the store of a circuit.
 use mathlib.Core.Path.{◌≡◌, refl, sym, ap, ◌∙◌, subst}
 use mathlib.Core.List.{List, ◌++◌, append-nil}
 use Prim.Native.Nat.{ℕ, ◌+◌, ◌-◌, ◌<◌, ◌≤◌, min}
@@ -8,31 +8,10 @@ use native.Mathlib.Omega.{arith}
 use lib.ListN.{length, get_or, take, drop, set, length-set, replicate, length-replicate, replicate-append-replicate}
 use lib.Seq.{sets, sets-eq, drop-cons, drop-length, take-append-add, take-append_seam, take_at, drop_at}
 use lib.IntN.{ℤ}
-use Rattle.verdict.specs.declared.Verdict.{Verdict}
+use Rattle.verdict.specs.Questions.{Verdict}
 use Rattle.circuit.specs.declared.limits.Limits.{Limits}
 use Rattle.judge.specs.Call.{verdict_of, result_after, work_after}
 use Rattle.text_sides.specs.Sides.{max_bits, store_for}
-
--- ---- bytes copied, i of them
-pub record Copied (from to₀ to : List ℕ) (i : ℕ) : Type 0 where
-  pub count : i ≤ length from
-  pub is : sets to₀ 0 from ≡ sets to i (drop i from)
-  pub same : length to ≡ length to₀
-
-module _ (from to₀ : List ℕ) where
-  pub copied_none : Copied from to₀ to₀ 0
-  copied_none = record { count = omega arith; is = refl; same = refl }
-
-  module _ {to : List ℕ} {i : ℕ} (g : Copied from to₀ to i) where
-    pub copied_more : i < length from → Copied from to₀ (set to i (get_or from i 0)) (i + 1)
-    copied_more h = record {
-      count = omega arith;
-      is = g.is ∙ ap (sets to i) (drop-cons from i 0 h) ∙ ap (λ (k : ℕ). sets (set to i (get_or from i 0)) k (drop k from)) (sym (add-one i));
-      same = length-set to i (get_or from i 0) ∙ g.same;
-    }
-
-    pub copied_all : length from ≤ i → to ≡ sets to₀ 0 from
-    copied_all h = let e : i ≡ length from = omega (arith, g.count) in sym (g.is ∙ ap (sets to i) (ap (λ (k : ℕ). drop k from) e ∙ drop-length from))
 
 -- ---- what was put at the start of a room
 module _ (bs room : List ℕ) (h : length bs ≤ length room) where
@@ -43,7 +22,7 @@ module _ (bs room : List ℕ) (h : length bs ≤ length room) where
   at-start = ap (take (length bs)) whole ∙ take-append_seam bs (drop (length bs) room)
 
 -- k bytes of n: the store, and zeros behind it
-pub padded : (σ : List ℕ) (k n : ℕ) → length σ ≤ k → k ≤ n → take k (sets (replicate n 0) 0 σ) ≡ σ ++ replicate (k - length σ) 0
+pub padded : (σ : List ℕ) (k n : ℕ) → length σ ≤ k → k ≤ n → take k (σ ++ drop (length σ) (replicate n 0)) ≡ σ ++ replicate (k - length σ) 0
 padded σ k n h q =
     let a = length σ in
     let b = k - a in
@@ -56,13 +35,13 @@ padded σ k n h q =
     ∙ ap (drop a) (sym (replicate-append-replicate a (b + c) zero))
     ∙ drop_at (replicate a zero) (replicate (b + c) zero) a (length-replicate a zero)
     ∙ sym (replicate-append-replicate b c zero) in
-    ap (take k) (whole σ (replicate n zero) (omega (arith, length-replicate n zero)) ∙ ap (λ (l : List ℕ). σ ++ l) rest)
+    ap (take k) (ap (λ (l : List ℕ). σ ++ l) rest)
     ∙ ap (λ (j : ℕ). take j (σ ++ (replicate b zero ++ replicate c zero))) f
     ∙ take-append-add σ (replicate b zero ++ replicate c zero) b
     ∙ ap (λ (l : List ℕ). σ ++ l) (take_at (replicate b zero) (replicate c zero) b (length-replicate b zero))
 
 -- the store of a circuit of m bits: short of them it is filled up, and else it is as given
-pub filled-up : (σ : List ℕ) (m : ℕ) {k : ℕ} {z : List ℕ} → k ≡ min m max_bits → length σ < k → z ≡ sets (replicate max_bits 0) 0 σ → take k z ≡ store_for m σ
+pub filled-up : (σ : List ℕ) (m : ℕ) {k : ℕ} {z : List ℕ} → k ≡ min m max_bits → length σ < k → z ≡ σ ++ drop (length σ) (replicate max_bits 0) → take k z ≡ store_for m σ
 filled-up σ m {k} {z} e h q =
     ap (take k) q ∙ padded σ k max_bits (omega arith) (omega (arith, e)) ∙ ap (λ (j : ℕ). σ ++ replicate (j - length σ) 0) e
 

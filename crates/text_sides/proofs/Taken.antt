@@ -1,6 +1,8 @@
--- What is read of a text, from the reader's reply: a circuit that is run, or a refusal.
+-- What is read of a text, from the reader's reply: a circuit that is run, or a fault.
+use Rattle.std.specs.Prelude.{Ok, Err}
+use Rattle.std.specs.Result.{result_map_both}
 use mathlib.Core.Path.{◌≡◌, refl, sym, ap, ◌∙◌}
-use mathlib.Core.Bool.{Bool, true, false, cond, true≢false}
+use mathlib.Core.Bool.{Bool, true, false, cond}
 use mathlib.Core.List.{List}
 use Prim.Native.Nat.{ℕ, ◌≤◌}
 use native.Mathlib.Omega.{arith}
@@ -9,17 +11,16 @@ use lib.ListN.{length, take}
 use lib.Seq.{sets, length-sets}
 use lib.IntN.{ℤ}
 use borrow.Author.Tests.{leb-true}
-use Rattle.verdict.specs.declared.Verdict.{Verdict}
-use Rattle.verdict.specs.declared.Verdict.TheVariants.{Accepted, ShortBuffer}
-use Rattle.verdict.specs.Verdict.{accepted}
+use Rattle.verdict.specs.Questions.{Verdict}
+use Rattle.verdict.specs.declared.Refusal.TheVariants.{ShortBuffer}
 use Rattle.circuit.specs.declared.limits.Limits.{Limits}
 use Rattle.judge.specs.Call.{verdict_of, result_after, work_after}
 use Rattle.qasm.specs.declared.reader.Reading.{Reading}
-use Rattle.qasm.specs.Reading.{Outcome, circuit, refused, refusal, reply, filled}
-use Rattle.text_sides.specs.declared.Side.{Side}
+use Rattle.qasm.specs.declared.reader.Fault.{Fault}
+use Rattle.qasm.specs.Reading.{Outcome, circuit, refused, fault_at, reply, filled}
+use Rattle.text_sides.specs.declared.NoChannel.TheVariants.{Faulty, Refused}
 use Rattle.text_sides.specs.Sides.{store_for, side_by, result_by, work_by}
 use Rattle.text_sides.proofs.Padding.{at-start}
-use Rattle.text_sides.proofs.Faults.{Refused}
 
 -- a circuit of the words ws
 pub record Taken (g : List ℕ) (o : Outcome) (r : Reading) : Type 0 where
@@ -29,16 +30,19 @@ pub record Taken (g : List ℕ) (o : Outcome) (r : Reading) : Type 0 where
   pub words : r.words ≡ length ws
 
 module _ (g : List ℕ) (r : Reading) where
-  abbrev circuit_reply : ℕ → ℕ → List ℕ → Reading
-  circuit_reply n m ws = record { qubits = n; bits = m; words = length ws; verdict = Accepted; position = 0 }
+  abbrev reading : ℕ → ℕ → List ℕ → Reading
+  reading n m ws = record { qubits = n; bits = m; words = length ws }
 
-  pub taken : (o : Outcome) → Refused o → r ≡ reply (length g) o → accepted r.verdict ≡ true → Taken g o r
-  taken (refused v at) h e a = absurd (true≢false (sym a ∙ ap (λ (x : Reading). accepted x.verdict) e ∙ h))
-  taken (circuit n m ws) h e a = by (leb (length ws) (length g)) refl e
+  read_circuit : (n m : ℕ) (ws : List ℕ) → leb (length ws) (length g) ≡ true → r ≡ reading n m ws → Taken g (circuit n m ws) r
+  read_circuit n m ws f e = record { ws = ws; is = ap (λ (x : Reading). circuit x.qubits x.bits ws) (sym e); fits = f; words = ap (λ (x : Reading). x.words) e }
+
+  pub taken : (o : Outcome) → Ok r ≡ reply (length g) o → Taken g o r
+  taken (refused x at) e = absurd (cc)
+  taken (circuit n m ws) e = by (leb (length ws) (length g)) refl e
     where
-      by : (b : Bool) → leb (length ws) (length g) ≡ b → r ≡ cond b (circuit_reply n m ws) (refusal ShortBuffer 0) → Taken g (circuit n m ws) r
-      by true f e = record { ws = ws; is = ap (λ (x : Reading). circuit x.qubits x.bits ws) (sym e); fits = f; words = ap (λ (x : Reading). x.words) e }
-      by false f e = absurd (true≢false (sym a ∙ ap (λ (x : Reading). accepted x.verdict) e))
+      by : (b : Bool) → leb (length ws) (length g) ≡ b → Ok r ≡ cond b (Ok (reading n m ws)) (Err (fault_at ShortBuffer 0)) → Taken g (circuit n m ws) r
+      by true f h = read_circuit n m ws f (cc)
+      by false f h = absurd (cc)
 
 -- ---- a circuit that is run, on the words that were read
 module _ {g : List ℕ} {o : Outcome} {r : Reading} (k : Taken g o r) {g' : List ℕ} (f : g' ≡ filled g o) where
@@ -55,15 +59,11 @@ module _ (σ : List ℕ) (l : Limits) {g : List ℕ} (res w : List ℤ) {o : Out
   abbrev store : List ℕ
   store = store_for r.bits σ
 
-  pub side-run : {v : Verdict} → v ≡ verdict_of r.qubits r.bits store l gs res w
-      → ◌≡◌ {A = Side} (record { read = true; qubits = r.qubits; bits = r.bits; words = r.words; position = 0; verdict = v }) (side_by σ l g res w o)
-  side-run {v} q =
-      let yes : Side = record { read = true; qubits = r.qubits; bits = r.bits; words = length k.ws; position = 0; verdict = verdict_of r.qubits r.bits store l k.ws res w } in
-      let short : Side = record { read = false; qubits = 0; bits = 0; words = 0; position = 0; verdict = ShortBuffer } in
-      let judged : v ≡ verdict_of r.qubits r.bits store l k.ws res w = q ∙ ap (λ (x : List ℕ). verdict_of r.qubits r.bits store l x res w) e in
-      let same : ◌≡◌ {A = Side} (record { read = true; qubits = r.qubits; bits = r.bits; words = r.words; position = 0; verdict = v }) yes =
-      λ i. record { read = true; qubits = r.qubits; bits = r.bits; words = k.words i; position = 0; verdict = judged i } in
-      same ∙ sym (ap (side_by σ l g res w) k.is ∙ ap (λ (b : Bool). cond b yes short) k.fits)
+  pub side-run : (v : Verdict) → v ≡ verdict_of r.qubits r.bits store l gs res w → result_map_both (λ _. r) (Refused r) v ≡ side_by σ l g res w o
+  side-run v q =
+      (λ i. result_map_both (λ _. record { qubits = r.qubits; bits = r.bits; words = k.words i }) (Refused (record { qubits = r.qubits; bits = r.bits; words = k.words i })) ((q ∙ ap (λ (x : List ℕ). verdict_of r.qubits r.bits store l x res w) e) i))
+      ∙ sym (ap (side_by σ l g res w) k.is
+      ∙ ap (λ (b : Bool). cond b (result_map_both (λ _. record { qubits = r.qubits; bits = r.bits; words = length k.ws }) (Refused (record { qubits = r.qubits; bits = r.bits; words = length k.ws })) (verdict_of r.qubits r.bits store l k.ws res w)) (Err (Faulty (fault_at ShortBuffer 0)))) k.fits)
 
   pub result_run : {x : List ℤ} → x ≡ result_after r.qubits r.bits store l gs res w → x ≡ result_by σ l g res w o
   result_run q =
@@ -75,24 +75,22 @@ module _ (σ : List ℕ) (l : Limits) {g : List ℕ} (res w : List ℤ) {o : Out
       q ∙ ap (λ (x : List ℕ). work_after r.qubits r.bits store l x res w) e
       ∙ sym (ap (work_by σ l g res w) k.is ∙ ap (λ (b : Bool). cond b (work_after r.qubits r.bits store l k.ws res w) w) k.fits)
 
--- ---- a text that is refused
-pub record Stopped (σ : List ℕ) (l : Limits) (g : List ℕ) (res w : List ℤ) (o : Outcome) (r : Reading) : Type 0 where
-  pub side : ◌≡◌ {A = Side} (record { read = false; qubits = 0; bits = 0; words = 0; position = r.position; verdict = r.verdict }) (side_by σ l g res w o)
-  pub result : res ≡ result_by σ l g res w o
-  pub work : w ≡ work_by σ l g res w o
+-- ---- a text that is faulty leaves both buffers as they were
+abbrev read_as : ℕ → ℕ → List ℕ → Reading
+read_as n m ws = record { qubits = n; bits = m; words = length ws }
 
-module _ (σ : List ℕ) (l : Limits) (g : List ℕ) (res w : List ℤ) (r : Reading) where
-  abbrev stopped : Reading → Side
-  stopped x = record { read = false; qubits = 0; bits = 0; words = 0; position = x.position; verdict = x.verdict }
-
-  pub stop : (o : Outcome) → r ≡ reply (length g) o → accepted r.verdict ≡ false → Stopped σ l g res w o r
-  stop (refused v at) e a = record { side = ap stopped e; result = refl; work = refl }
-  stop (circuit n m ws) e a = by (leb (length ws) (length g)) refl e
+module _ (σ : List ℕ) (l : Limits) (g : List ℕ) (res w : List ℤ) {f : Fault} where
+  untouched : (o : Outcome) → Err f ≡ reply (length g) o → (res ≡ result_by σ l g res w o) × (w ≡ work_by σ l g res w o)
+  untouched (refused x at) e = (refl, refl)
+  untouched (circuit n m ws) e = by (leb (length ws) (length g)) e
     where
-      by : (b : Bool) → leb (length ws) (length g) ≡ b → r ≡ cond b (circuit_reply g r n m ws) (refusal ShortBuffer 0) → Stopped σ l g res w (circuit n m ws) r
-      by true f e = absurd (true≢false (ap (λ (x : Reading). accepted x.verdict) (sym e) ∙ a))
-      by false f e = record {
-        side = ap stopped e ∙ sym (ap (λ (b : Bool). cond b (record { read = true; qubits = n; bits = m; words = length ws; position = 0; verdict = verdict_of n m (store_for m σ) l ws res w }) (stopped (refusal ShortBuffer 0))) f);
-        result = sym (ap (λ (b : Bool). cond b (result_after n m (store_for m σ) l ws res w) res) f);
-        work = sym (ap (λ (b : Bool). cond b (work_after n m (store_for m σ) l ws res w) w) f);
-      }
+      by : (b : Bool) → Err f ≡ cond b (Ok (read_as n m ws)) (Err (fault_at ShortBuffer 0))
+          → (res ≡ cond b (result_after n m (store_for m σ) l ws res w) res) × (w ≡ cond b (work_after n m (store_for m σ) l ws res w) w)
+      by true e = absurd (cc)
+      by false e = (refl, refl)
+
+  pub result_stays : (o : Outcome) → Err f ≡ reply (length g) o → res ≡ result_by σ l g res w o
+  result_stays o e = (untouched o e).0
+
+  pub work_stays : (o : Outcome) → Err f ≡ reply (length g) o → w ≡ work_by σ l g res w o
+  work_stays o e = (untouched o e).1

@@ -1,4 +1,5 @@
--- Which answer is given to a pair.
+-- Which answer is given to a pair, by what its circuits weigh and by the test of the code.
+use Rattle.std.specs.Prelude.{Result, Ok, Err}
 use mathlib.Core.Path.{◌≡◌, refl, sym, ap, ◌∙◌}
 use mathlib.Core.Bool.{Bool, true, false, cond}
 use mathlib.Core.List.{List}
@@ -8,76 +9,71 @@ use lib.Dec.{leb}
 use lib.ListN.{length}
 use lib.IntN.{ℤ}
 use borrow.Author.Tests.{le-leb, lt-leb}
-use Rattle.verdict.specs.declared.Verdict.{Verdict}
-use Rattle.verdict.specs.Verdict.{accepted}
+use Rattle.verdict.specs.declared.Refusal.{Refusal}
+use Rattle.verdict.specs.Questions.{Verdict, Question, granted}
+use Rattle.verdict.proofs.Questions.{refused_alike, handed}
 use Rattle.circuit.specs.declared.limits.Limits.{Limits}
-use Rattle.channel.specs.declared.compare.Difference.{Difference}
+use Rattle.circuit.specs.Questions.{channel_questions}
+use Rattle.channel.specs.declared.compare.Comparison.{Comparison}
 use Rattle.channel.specs.Compare.{compare_of}
-use Rattle.pair_list.specs.declared.Spot.{Spot}
 use Rattle.pair_list.specs.Pairs.{Circuit, Pair}
-use Rattle.pair_list.specs.Inner.Spots.{circuit_in}
-use Rattle.work_list.specs.declared.Finding.TheVariants.{LeftRefused, RightRefused, PassedOver}
 use Rattle.work_list.specs.declared.Answer.{Answer}
-use Rattle.work_list.specs.Serving.{cost, plainly, served, Lent, lent, channel_on, left_verdict, right_verdict, difference, answer_to}
-use Rattle.work_list.specs.Inner.Weighing.{Blank, delivers, Weight, pair_in, Ready}
+use Rattle.work_list.specs.declared.Answer.TheVariants.{LeftRefused, RightRefused, PassedOver, Compared}
+use Rattle.work_list.specs.Serving.{terms, cost, unless_refused, Lent, lent, left_verdict, right_verdict, comparison, answer_to}
+use Rattle.work_list.specs.Inner.Weighing.{Blank, delivers, weighed, Ready}
 
 module _ (t : Lent) (spent : ℕ) (p : Pair) where
-  abbrev in_time : Answer
-  in_time = cond (leb (spent + cost p) t.allowance) (served (cost p) (difference t p)) (plainly PassedOver (cost p))
+  -- with the verdicts and the test as they may be
+  abbrev by : Verdict → Verdict → Bool → Answer
+  by a b c = unless_refused LeftRefused a (unless_refused RightRefused b (cond c (Compared (cost p) (comparison t p)) (PassedOver (cost p))))
 
-  abbrev on_right : Bool → Answer → Answer
-  on_right b x = cond b x (plainly (RightRefused (right_verdict t p)) 0)
-
-  abbrev on_left : Bool → Answer → Answer
-  on_left a x = cond a x (plainly (LeftRefused (left_verdict t p)) 0)
-
-  pub answer-left : accepted (left_verdict t p) ≡ false → answer_to t spent p ≡ plainly (LeftRefused (left_verdict t p)) 0
+  is-by : by (left_verdict t p) (right_verdict t p) (leb (spent + cost p) t.allowance) ≡ answer_to t spent p
   unfolding answer_to
-  answer-left e = ap (λ (a : Bool). on_left a (on_right (accepted (right_verdict t p)) in_time)) e
+  is-by = refl
 
-  module _ (e : accepted (left_verdict t p) ≡ true) where
-    pub answer-right : accepted (right_verdict t p) ≡ false → answer_to t spent p ≡ plainly (RightRefused (right_verdict t p)) 0
-    unfolding answer_to
-    answer-right f = λ i. on_left (e i) (on_right (f i) in_time)
+  abbrev left_asked : List Question
+  left_asked = channel_questions p.left.qubits p.left.bits p.left.store t.limits p.left.gates t.left t.work
 
-    pub answer-both : accepted (right_verdict t p) ≡ true → answer_to t spent p ≡ cond (leb (spent + cost p) t.allowance) (served (cost p) (difference t p)) (plainly PassedOver (cost p))
-    unfolding answer_to
-    answer-both f = λ i. on_left (e i) (on_right (f i) in_time)
+  abbrev right_asked : List Question
+  right_asked = channel_questions p.right.qubits p.right.bits p.right.store t.limits p.right.gates t.right t.work
 
--- ---- by the code's tests
-module _ {ws bs : List ℕ} (l : Limits) (bound spent : ℕ) {a b : Spot} {r s w : List ℤ} (k : Ready ws bs a b spent bound r s w) where
-  abbrev t : Lent
-  t = lent l r s w bound
+  pub by_left : {r : Refusal} → Err r ≡ weighed p.left t.limits t.left t.work → LeftRefused r ≡ answer_to t spent p
+  by_left e = ap (λ (v : Verdict). by v (right_verdict t p) (leb (spent + cost p) t.allowance)) (refused_alike (terms p.left) tt left_asked e) ∙ is-by
 
-  abbrev p : Pair
-  p = pair_in ws bs a b
+  module _ {x : ℕ} (e : Ok x ≡ weighed p.left t.limits t.left t.work) where
+    left_terms : x ≡ terms p.left
+    left_terms = let h = handed (terms p.left) (terms p.left) left_asked e in cc
 
-  module _ {v : Verdict} {x : ℕ} (g : Weight (circuit_in ws bs a) l (length r) (length w) v x) where
-    pub by_left : accepted v ≡ false → {z : Answer} → z ≡ plainly (LeftRefused v) 0 → z ≡ answer_to (lent l r s w bound) spent (pair_in ws bs a b)
-    by_left e q = q ∙ ap (λ (u : Verdict). plainly (LeftRefused u) 0) g.verdict ∙ sym (answer-left t spent p (sym (ap accepted g.verdict) ∙ e))
+    abbrev after : Verdict → Bool → Answer
+    after b c = by (Ok tt) b c
 
-    module _ (yes : accepted v ≡ true) {u : Verdict} {y : ℕ} (h : Weight (circuit_in ws bs b) l (length s) (length w) u y) where
-      left-yes : accepted (left_verdict t p) ≡ true
-      left-yes = sym (ap accepted g.verdict) ∙ yes
+    is_after : after (right_verdict t p) (leb (spent + cost p) t.allowance) ≡ answer_to t spent p
+    is_after = ap (λ (v : Verdict). by v (right_verdict t p) (leb (spent + cost p) t.allowance)) (handed (terms p.left) tt left_asked e) ∙ is-by
 
-      pub by_right : accepted u ≡ false → {z : Answer} → z ≡ plainly (RightRefused u) 0 → z ≡ answer_to (lent l r s w bound) spent (pair_in ws bs a b)
-      by_right e q = q ∙ ap (λ (u : Verdict). plainly (RightRefused u) 0) h.verdict ∙ sym (answer-right t spent p left-yes (sym (ap accepted h.verdict) ∙ e))
+    pub by_right : {r : Refusal} → Err r ≡ weighed p.right t.limits t.right t.work → RightRefused r ≡ answer_to t spent p
+    by_right f = ap (λ (v : Verdict). after v (leb (spent + cost p) t.allowance)) (refused_alike (terms p.right) tt right_asked f) ∙ is_after
 
-      module _ (also : accepted u ≡ true) where
-        cost_is : x + y ≡ cost p
-        cost_is = λ i. g.counted yes i + h.counted also i
+    module _ {y : ℕ} (f : Ok y ≡ weighed p.right t.limits t.right t.work) (within : spent ≤ t.allowance) where
+      right_terms : y ≡ terms p.right
+      right_terms = let h = handed (terms p.right) (terms p.right) right_asked f in cc
 
-        both : answer_to t spent p ≡ cond (leb (spent + cost p) bound) (served (cost p) (difference t p)) (plainly PassedOver (cost p))
-        both = answer-both t spent p left-yes (sym (ap accepted h.verdict) ∙ also)
+      cost_is : x + y ≡ cost p
+      cost_is = λ i. left_terms i + right_terms i
 
-        pub by-cost : bound - spent < x + y → {z : Answer} → z ≡ plainly PassedOver (x + y) → z ≡ answer_to (lent l r s w bound) spent (pair_in ws bs a b)
-        by-cost e q =
-            let over : leb (spent + cost p) bound ≡ false = lt-leb (spent + cost p) bound (omega (arith, cost_is, k.within)) in
-            q ∙ ap (plainly PassedOver) cost_is ∙ sym (both ∙ ap (λ (c : Bool). cond c (served (cost p) (difference t p)) (plainly PassedOver (cost p))) over)
+      is-both : cond (leb (spent + cost p) t.allowance) (Compared (cost p) (comparison t p)) (PassedOver (cost p)) ≡ answer_to t spent p
+      is-both = ap (λ (v : Verdict). after v (leb (spent + cost p) t.allowance)) (handed (terms p.right) tt right_asked f) ∙ is_after
 
-        pub by_serving : x + y ≤ bound - spent → {z : Answer} {d : Difference} → z ≡ served (x + y) d
-            → d ≡ compare_of (delivers l (circuit_in ws bs a) r w) (delivers l (circuit_in ws bs b) s w) → z ≡ answer_to (lent l r s w bound) spent (pair_in ws bs a b)
-        by_serving e q f =
-            let under : leb (spent + cost p) bound ≡ true = le-leb (spent + cost p) bound (omega (arith, cost_is, k.within)) in
-            let found = f ∙ (λ i. compare_of (delivers l (circuit_in ws bs a) (k.left_blank i) (k.work_blank i)) (delivers l (circuit_in ws bs b) (k.right_blank i) (k.work_blank i))) in
-            q ∙ (λ i. served (cost_is i) (found i)) ∙ sym (both ∙ ap (λ (c : Bool). cond c (served (cost p) (difference t p)) (plainly PassedOver (cost p))) under)
+      pub by-cost : t.allowance - spent < x + y → PassedOver (x + y) ≡ answer_to t spent p
+      by-cost h =
+          let over : leb (spent + cost p) t.allowance ≡ false = lt-leb (spent + cost p) t.allowance (omega (arith, cost_is, within)) in
+          ap PassedOver cost_is ∙ ap (λ (c : Bool). cond c (Compared (cost p) (comparison t p)) (PassedOver (cost p))) (sym over) ∙ is-both
+
+      pub by_serving : x + y ≤ t.allowance - spent → {d : Result Comparison Refusal} → d ≡ comparison t p → Compared (x + y) d ≡ answer_to t spent p
+      by_serving h k =
+          let under : leb (spent + cost p) t.allowance ≡ true = le-leb (spent + cost p) t.allowance (omega (arith, cost_is, within)) in
+          (λ i. Compared (cost_is i) (k i)) ∙ ap (λ (c : Bool). cond c (Compared (cost p) (comparison t p)) (PassedOver (cost p))) (sym under) ∙ is-both
+
+-- what was run in buffers that are zero
+pub in_blanks : (l : Limits) (n : ℕ) (p : Pair) {r s w : List ℤ} → Blank r → Blank s → Blank w
+    → compare_of (delivers l p.left r w) (delivers l p.right s w) ≡ comparison (lent l r s w n) p
+in_blanks l n p a b c = λ i. compare_of (delivers l p.left (a i) (c i)) (delivers l p.right (b i) (c i))

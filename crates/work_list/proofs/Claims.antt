@@ -1,4 +1,5 @@
 -- The claims on a list that is served.
+use Rattle.std.specs.Prelude.{Ok, Err}
 use mathlib.Core.Path.{◌≡◌, refl, sym, ap, ◌∙◌, subst}
 use mathlib.Core.Bool.{Bool, true, false, cond, ◌&&◌, true≢false}
 use mathlib.Core.List.{List, [], ◌∷◌}
@@ -10,32 +11,29 @@ use lib.ListN.{length, get_or, take}
 use borrow.Author.Tests.{leb-true, le-leb}
 use Rattle.algebra.specs.Lists.{total, every}
 use Rattle.algebra.proofs.Tests.{and_split}
-use Rattle.verdict.specs.declared.Verdict.{Verdict}
-use Rattle.verdict.specs.Verdict.{accepted}
-use Rattle.channel.specs.declared.compare.Difference.{Difference}
+use Rattle.verdict.specs.Questions.{Verdict}
 use Rattle.pair_list.specs.Pairs.{Pair}
-use Rattle.work_list.specs.declared.Finding.{Finding}
-use Rattle.work_list.specs.declared.Finding.TheVariants.{LeftRefused, RightRefused, PassedOver, Compared}
 use Rattle.work_list.specs.declared.Answer.{Answer}
-use Rattle.work_list.specs.Serving.{cost, plainly, served, charge, Lent, left_verdict, right_verdict, difference, answer_to, answers_from, answers_to}
+use Rattle.work_list.specs.declared.Answer.TheVariants.{LeftRefused, RightRefused, PassedOver, Compared}
+use Rattle.work_list.specs.Serving.{cost, charge, unless_refused, Lent, left_verdict, right_verdict, comparison, answer_to, answers_from, answers_to}
 use Rattle.work_list.specs.Claims.{spent_before, InOrder, WithinAllowance, stays, more, LongerServes}
 
 -- ---- one answer
 module _ (t : Lent) where
-  -- with the tests as they may be
-  by : Bool → Bool → Bool → Pair → Answer
-  by a b c p = cond a (cond b (cond c (served (cost p) (difference t p)) (plainly PassedOver (cost p))) (plainly (RightRefused (right_verdict t p)) 0)) (plainly (LeftRefused (left_verdict t p)) 0)
+  -- with the verdicts and the test as they may be
+  by : Verdict → Verdict → Bool → Pair → Answer
+  by a b c p = unless_refused LeftRefused a (unless_refused RightRefused b (cond c (Compared (cost p) (comparison t p)) (PassedOver (cost p))))
 
-  charge-by : (spent : ℕ) (p : Pair) (a b c : Bool) → leb (spent + cost p) t.allowance ≡ c → spent ≤ t.allowance → spent + charge (by a b c p) ≤ t.allowance
+  charge-by : (spent : ℕ) (p : Pair) (a b : Verdict) (c : Bool) → leb (spent + cost p) t.allowance ≡ c → spent ≤ t.allowance → spent + charge (by a b c p) ≤ t.allowance
   unfolding by
-  charge-by spent p true true true e h = leb-true (spent + cost p) t.allowance e
-  charge-by spent p true true false e h = omega arith
-  charge-by spent p true false c e h = omega arith
-  charge-by spent p false b c e h = omega arith
+  charge-by spent p (Ok x) (Ok y) true e h = leb-true (spent + cost p) t.allowance e
+  charge-by spent p (Ok x) (Ok y) false e h = omega arith
+  charge-by spent p (Ok x) (Err r) c e h = omega arith
+  charge-by spent p (Err r) b c e h = omega arith
 
   pub charge-within : (spent : ℕ) (p : Pair) → spent ≤ t.allowance → spent + charge (answer_to t spent p) ≤ t.allowance
   unfolding answer_to by
-  charge-within spent p h = charge-by spent p (accepted (left_verdict t p)) (accepted (right_verdict t p)) (leb (spent + cost p) t.allowance) refl h
+  charge-within spent p h = charge-by spent p (left_verdict t p) (right_verdict t p) (leb (spent + cost p) t.allowance) refl h
 
   -- ---- all of them
   total-within : (spent : ℕ) (ps : List Pair) → spent ≤ t.allowance → spent + total charge (answers_from t spent ps) ≤ t.allowance
@@ -65,25 +63,25 @@ in_order_lem t ps = (answers_long t 0 ps, λ i a p h. answers_at t 0 ps i a p h 
 
 -- ---- a longer allowance
 module _ (t : Lent) (n : ℕ) (h : t.allowance ≤ n) where
-  same_by : (spent : ℕ) (p : Pair) (a b c d : Bool) → leb (spent + cost p) t.allowance ≡ c → leb (spent + cost p) n ≡ d → stays (by t a b c p).finding ≡ true → by (more t n) a b d p ≡ by t a b c p
+  same_by : (spent : ℕ) (p : Pair) (a b : Verdict) (c d : Bool) → leb (spent + cost p) t.allowance ≡ c → leb (spent + cost p) n ≡ d → stays (by t a b c p) ≡ true → by (more t n) a b d p ≡ by t a b c p
   unfolding by
-  same_by spent p true true true true e f g = refl
-  same_by spent p true true true false e f g = absurd (true≢false (sym (le-leb (spent + cost p) n (omega (arith, leb-true (spent + cost p) t.allowance e))) ∙ f))
-  same_by spent p true true false d e f g = absurd (true≢false (sym g))
-  same_by spent p true false c d e f g = refl
-  same_by spent p false b c d e f g = refl
+  same_by spent p (Ok x) (Ok y) true true e f g = refl
+  same_by spent p (Ok x) (Ok y) true false e f g = absurd (true≢false (sym (le-leb (spent + cost p) n (omega (arith, leb-true (spent + cost p) t.allowance e))) ∙ f))
+  same_by spent p (Ok x) (Ok y) false d e f g = absurd (true≢false (sym g))
+  same_by spent p (Ok x) (Err r) c d e f g = refl
+  same_by spent p (Err r) b c d e f g = refl
 
-  same_answer : (spent : ℕ) (p : Pair) → stays (answer_to t spent p).finding ≡ true → answer_to (more t n) spent p ≡ answer_to t spent p
+  same_answer : (spent : ℕ) (p : Pair) → stays (answer_to t spent p) ≡ true → answer_to (more t n) spent p ≡ answer_to t spent p
   unfolding answer_to by
-  same_answer spent p g = same_by spent p (accepted (left_verdict t p)) (accepted (right_verdict t p)) (leb (spent + cost p) t.allowance) (leb (spent + cost p) n) refl refl g
+  same_answer spent p g = same_by spent p (left_verdict t p) (right_verdict t p) (leb (spent + cost p) t.allowance) (leb (spent + cost p) n) refl refl g
 
-  same-answers : (spent : ℕ) (ps : List Pair) (k : ℕ) → every (λ (a : Answer). stays a.finding) (take k (answers_from t spent ps)) ≡ true
+  same-answers : (spent : ℕ) (ps : List Pair) (k : ℕ) → every stays (take k (answers_from t spent ps)) ≡ true
       → take k (answers_from (more t n) spent ps) ≡ take k (answers_from t spent ps)
   unfolding answers_from
   same-answers spent [] k g = refl
   same-answers spent (p ∷ ps) zero g = refl
   same-answers spent (p ∷ ps) (suc k) g =
-      let (x, y) = and_split (stays (answer_to t spent p).finding) _ g in
+      let (x, y) = and_split (stays (answer_to t spent p)) _ g in
       let e = same_answer spent p x in
       (λ i. e i ∷ take k (answers_from (more t n) (spent + charge (e i)) ps)) ∙ ap (λ (r : List Answer). answer_to t spent p ∷ r) (same-answers (spent + charge (answer_to t spent p)) ps k y)
 

@@ -1,4 +1,4 @@
 pub mod Zeros
 pub mod Weighing
-pub mod Answering
 pub mod Claims
+pub mod Answering

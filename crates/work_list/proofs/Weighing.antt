@@ -1,4 +1,5 @@
 -- What acceptance says of the numbers of a circuit; and its terms, counted.
+use Rattle.std.specs.Prelude.{is_ok, Ok}
 use mathlib.Core.Path.{◌≡◌, refl, sym, ap, ◌∙◌, subst}
 use mathlib.Core.Bool.{Bool, true, false, ◌&&◌, true≢false}
 use mathlib.Core.List.{List}
@@ -11,9 +12,8 @@ use lib.IntN.{pos}
 use borrow.Author.Tests.{leb-true}
 use Rattle.algebra.specs.Lists.{every, total}
 use Rattle.algebra.proofs.Tests.{and_split}
-use Rattle.verdict.specs.declared.Verdict.{Verdict}
-use Rattle.verdict.specs.Verdict.{accepted}
-use Rattle.verdict.proofs.Questions.{yes, every_append}
+use Rattle.verdict.specs.Questions.{Question, granted}
+use Rattle.verdict.proofs.Questions.{yes, every_append, handed}
 use Rattle.gate.specs.declared.judge.Asking.TheVariants.{Channel}
 use Rattle.gate.specs.Gate.{gate_size, gates_of, splits}
 use Rattle.gate.proofs.Listed.{gates-length}
@@ -30,9 +30,9 @@ use Rattle.store.specs.Store.{store_fits}
 use Rattle.judge.specs.Call.{accepts}
 use Rattle.judge.specs.Inner.Accepted.{Accepted}
 use Rattle.judge.proofs.Running.{few_qubits, few-splits}
-use Rattle.pair_list.specs.Pairs.{Circuit, part}
+use Rattle.pair_list.specs.Pairs.{Circuit}
 use Rattle.work_list.specs.Serving.{terms, zeros}
-use Rattle.work_list.specs.Inner.Weighing.{Weight}
+use Rattle.work_list.specs.Inner.Weighing.{weighed}
 
 -- the numbers of a circuit that is accepted are small
 pub record Small (n : ℕ) (ws : List ℕ) (terms : ℕ) : Type 0 where
@@ -43,8 +43,8 @@ pub record Small (n : ℕ) (ws : List ℕ) (terms : ℕ) : Type 0 where
 
 module _ (n m : ℕ) (σ : List ℕ) (l : Limits) (ws : List ℕ) (result work : ℕ) where
   -- in buffers of zeros
-  pub in_zeros : accepts n m σ l ws (zeros result) (zeros work) ≡ accepted (channel_verdict n m σ l ws result work)
-  in_zeros i = accepted (channel_verdict n m σ l ws (length-replicate result (pos 0) i) (length-replicate work (pos 0) i))
+  pub in_zeros : accepts n m σ l ws (zeros result) (zeros work) ≡ is_ok (channel_verdict n m σ l ws result work)
+  in_zeros i = is_ok (channel_verdict n m σ l ws (length-replicate result (pos 0) i) (length-replicate work (pos 0) i))
 
   abbrev foot : Footprint
   foot = footprint_of m (gates_of ws)
@@ -52,7 +52,7 @@ module _ (n m : ℕ) (σ : List ℕ) (l : Limits) (ws : List ℕ) (result work :
   abbrev sizes : Sizes
   sizes = sizes_of foot n
 
-  pub small : accepted (channel_verdict n m σ l ws result work) ≡ true → let f = footprint_of m (gates_of ws) in let s = sizes_of f n in Small n ws (terms_needed f.gates s.branches s.rows)
+  pub small : is_ok (channel_verdict n m σ l ws result work) ≡ true → let f = footprint_of m (gates_of ws) in let s = sizes_of f n in Small n ws (terms_needed f.gates s.branches s.rows)
   small e =
       let all : every yes (channel_questions n m σ l ws result work) ≡ true = sym (channel_accepts n m σ l ws result work) ∙ e in
       let q1 = and_split (matrix_ceilings l && branch_ceilings l) _ all in
@@ -77,20 +77,29 @@ module _ (n m : ℕ) (σ : List ℕ) (l : Limits) (ws : List ℕ) (result work :
         cheap = omega (arith, leb-true (terms_needed foot.gates sizes.branches sizes.rows) l.max_multiply_terms in4.1, leb-true l.max_multiply_terms ceilings.max_multiply_terms low3.0);
       }
 
--- a part of words is as long as it is to be
-pub part_long : (ws : List ℕ) (a k : ℕ) → a + k ≤ length ws → length (part ws a k) ≡ k
-part_long ws a k h = length-take-le k (drop a ws) (omega (arith, length-drop a ws))
+-- the terms of a circuit that is accepted, from its splits
+module _ (c : Circuit) (l : Limits) (result work : ℕ) where
+  abbrev pub asked : List Question
+  asked = channel_questions c.qubits c.bits c.store l c.gates result work
 
--- the terms, by counts of gates and splits
-module _ (c : Circuit) (l : Limits) (result work : ℕ) {v : Verdict} (e : v ≡ channel_verdict c.qubits c.bits c.store l c.gates result work) where
-  pub weight-yes : accepted v ≡ true → {g s x : ℕ} → g ≡ length c.gates / gate_size → s ≡ total splits (gates_of c.gates) → x ≡ terms_needed g (2 ^ s) (2 ^ c.qubits) → Weight c l result work v x
-  weight-yes h {g} {s} {x} p q t =
-      let is : x ≡ terms c = t ∙ (λ i. terms_needed ((p ∙ sym (gates-length c.gates 0 (length c.gates / gate_size))) i) (2 ^ q i) (2 ^ c.qubits)) in
-      record {
-        verdict = e;
-        counted = λ k. is;
-        small = subst (λ (y : ℕ). y ≤ ceilings.max_multiply_terms) (sym is) (small c.qubits c.bits c.store l c.gates result work (sym (ap accepted e) ∙ h)).cheap;
-      }
+  abbrev pub all_splits : ℕ
+  all_splits = total splits (gates_of c.gates)
 
-  pub weight_no : accepted v ≡ false → Weight c l result work v 0
-  weight_no h = record { verdict = e; counted = λ k. absurd (true≢false (sym k ∙ h)); small = omega arith }
+  module _ {z : ℕ} (e : Ok z ≡ granted all_splits asked) where
+    pub splits_are : z ≡ all_splits
+    splits_are = let h = handed all_splits all_splits asked e in cc
+
+    pub few : Small c.qubits c.gates (terms c)
+    few = small c.qubits c.bits c.store l c.gates result work (sym (ap is_ok (handed all_splits tt asked e)))
+
+    pub gates-few : length c.gates / gate_size ≤ max_gates
+    gates-few = few.gates
+
+    terms_are : {x : ℕ} → x ≡ terms_needed (length c.gates / gate_size) (2 ^ z) (2 ^ c.qubits) → x ≡ terms c
+    terms_are t = t ∙ (λ i. terms_needed (sym (gates-length c.gates 0 (length c.gates / gate_size)) i) (2 ^ splits_are i) (2 ^ c.qubits))
+
+    pub weighed-yes : {x : ℕ} → x ≡ terms_needed (length c.gates / gate_size) (2 ^ z) (2 ^ c.qubits) → Ok x ≡ weighed c l result work
+    weighed-yes t = ap Ok (terms_are t) ∙ handed all_splits (terms c) asked e
+
+    pub terms-few : {x : ℕ} → x ≡ terms_needed (length c.gates / gate_size) (2 ^ z) (2 ^ c.qubits) → x ≤ ceilings.max_multiply_terms
+    terms-few t = subst (λ (y : ℕ). y ≤ ceilings.max_multiply_terms) (sym (terms_are t)) few.cheap

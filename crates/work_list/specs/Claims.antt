@@ -2,9 +2,8 @@
 use Rattle.std.specs.Prelude.{◌≡◌, Bool, true, false, List, ℕ, ◌≤◌, ◌<◌, length, get_or, take}
 use Rattle.algebra.specs.Lists.{total, every}
 use Rattle.pair_list.specs.Pairs.{Pair}
-use Rattle.work_list.specs.declared.Finding.{Finding}
-use Rattle.work_list.specs.declared.Finding.TheVariants.{LeftRefused, RightRefused, PassedOver, Compared}
 use Rattle.work_list.specs.declared.Answer.{Answer}
+use Rattle.work_list.specs.declared.Answer.TheVariants.{LeftRefused, RightRefused, PassedOver, Compared}
 use Rattle.work_list.specs.Serving.{charge, Lent, answer_to, answers_to}
 
 -- what is spent on the first i pairs
@@ -20,16 +19,16 @@ InOrder = (t : Lent) (ps : List Pair) → (length (answers_to t ps) ≡ length p
 abbrev pub WithinAllowance : Type 0
 WithinAllowance = (t : Lent) (ps : List Pair) → total charge (answers_to t ps) ≤ t.allowance
 
-abbrev pub stays : Finding → Bool
-stays (LeftRefused v) = true
-stays (RightRefused v) = true
-stays PassedOver = false
-stays (Compared f) = true
+abbrev pub stays : Answer → Bool
+stays (LeftRefused r) = true
+stays (RightRefused r) = true
+stays (PassedOver n) = false
+stays (Compared n c) = true
 
 -- a longer allowance changes none of the first k answers, where the shorter one passes over none of them
 abbrev pub more : Lent → ℕ → Lent
 more t n = record { limits = t.limits; left = t.left; right = t.right; work = t.work; allowance = n }
 
 abbrev pub LongerServes : Type 0
-LongerServes = (t : Lent) (n : ℕ) (ps : List Pair) (k : ℕ) → t.allowance ≤ n → every (λ (a : Answer). stays a.finding) (take k (answers_to t ps)) ≡ true
+LongerServes = (t : Lent) (n : ℕ) (ps : List Pair) (k : ℕ) → t.allowance ≤ n → every stays (take k (answers_to t ps)) ≡ true
     → take k (answers_to (more t n) ps) ≡ take k (answers_to t ps)

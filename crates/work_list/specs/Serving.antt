@@ -1,22 +1,18 @@
 -- A list of pairs served under one allowance of multiply terms.
-use Rattle.std.specs.Prelude.{cond, List, [], ◌∷◌, ℕ, ◌+◌, leb, length, replicate, ℤ, pos}
-use Rattle.verdict.specs.declared.Verdict.{Verdict}
-use Rattle.verdict.specs.Verdict.{accepted}
-use Rattle.exact.specs.Exact.{exact}
-use Rattle.scalar.specs.Calls.{scalar_of}
+use Rattle.std.specs.Prelude.{cond, List, [], ◌∷◌, ℕ, ◌+◌, leb, length, replicate, ℤ, pos, Result, Ok, Err}
+use Rattle.verdict.specs.Questions.{Verdict}
+use Rattle.verdict.specs.declared.Refusal.{Refusal}
 use Rattle.gate.specs.Gate.{gates_of}
 use Rattle.circuit.specs.declared.limits.Limits.{Limits}
 use Rattle.circuit.specs.Footprint.{footprint_of}
 use Rattle.circuit.specs.Sizes.{terms_needed}
 use Rattle.circuit.specs.Questions.{sizes_of, channel_verdict}
-use Rattle.channel.specs.declared.compare.Found.{Found}
-use Rattle.channel.specs.declared.compare.Difference.{Difference}
+use Rattle.channel.specs.declared.compare.Comparison.{Comparison}
 use Rattle.channel.specs.Compare.{compare_of}
 use Rattle.judge.specs.Call.{result_after}
 use Rattle.pair_list.specs.Pairs.{Circuit, Pair}
-use Rattle.work_list.specs.declared.Finding.{Finding}
-use Rattle.work_list.specs.declared.Finding.TheVariants.{LeftRefused, RightRefused, PassedOver, Compared}
 use Rattle.work_list.specs.declared.Answer.{Answer}
+use Rattle.work_list.specs.declared.Answer.TheVariants.{LeftRefused, RightRefused, PassedOver, Compared}
 
 -- ---- costs
 -- the terms of question 8
@@ -30,22 +26,17 @@ abbrev pub cost : Pair → ℕ
 cost p = terms p.left + terms p.right
 
 -- ---- answers
--- no entry differs
-abbrev pub plainly : Finding → ℕ → Answer
-plainly f n = record { finding = f; cost = n; left = scalar_of exact.𝟘; right = scalar_of exact.𝟘 }
-
-abbrev pub served : ℕ → Difference → Answer
-served n d = record { finding = Compared d.found; cost = n; left = d.left; right = d.right }
-
 -- what is spent on an answer: the cost of a pair that is served
-abbrev pub charge_by : ℕ → Finding → ℕ
-charge_by n (LeftRefused v) = 0
-charge_by n (RightRefused v) = 0
-charge_by n PassedOver = 0
-charge_by n (Compared f) = n
-
 abbrev pub charge : Answer → ℕ
-charge a = charge_by a.cost a.finding
+charge (LeftRefused r) = 0
+charge (RightRefused r) = 0
+charge (PassedOver n) = 0
+charge (Compared n c) = n
+
+-- the answer f gives to a refusal, and otherwise this one
+abbrev pub unless_refused : (Refusal → Answer) → Verdict → Answer → Answer
+unless_refused f (Ok x) a = a
+unless_refused f (Err r) a = f r
 
 -- ---- serving
 -- the most pairs of a list
@@ -82,17 +73,15 @@ module _ (t : Lent) where
   right_verdict p = verdict_on t.right p.right
 
   -- what compare finds of both channels
-  abbrev pub difference : Pair → Difference
-  difference p = compare_of (channel_on t.left p.left) (channel_on t.right p.right)
+  abbrev pub comparison : Pair → Result Comparison Refusal
+  comparison p = compare_of (channel_on t.left p.left) (channel_on t.right p.right)
 
   -- the answer to a pair, where so much is spent: the left circuit's refusal, the right one's, passed over, or compared
   unfoldable pub answer_to : ℕ → Pair → Answer
   answer_to spent p =
-      cond (accepted (left_verdict p))
-      (cond (accepted (right_verdict p))
-      (cond (leb (spent + cost p) t.allowance) (served (cost p) (difference p)) (plainly PassedOver (cost p)))
-      (plainly (RightRefused (right_verdict p)) 0))
-      (plainly (LeftRefused (left_verdict p)) 0)
+      unless_refused LeftRefused (left_verdict p)
+      (unless_refused RightRefused (right_verdict p)
+      (cond (leb (spent + cost p) t.allowance) (Compared (cost p) (comparison p)) (PassedOver (cost p))))
 
   -- the answers to pairs in their order
   unfoldable pub answers_from : ℕ → List Pair → List Answer

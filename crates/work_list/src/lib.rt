@@ -3,24 +3,36 @@
 
 pub mod serving;
 
-use channel::compare::Found;
-use scalar::Scalar;
-use verdict::Verdict;
+ghost use Rattle.std.specs.Prelude.{◌≡◌};
+ghost use Rattle.work_list.specs.Serving.{charge};
 
-// The answer to a pair: the left circuit is refused, or the right one; the pair is passed over; or both channels are compared.
+use channel::compare::Comparison;
+use verdict::Refusal;
+
+// The answer to a pair: the left circuit is refused, or the right one; the pair is passed over, at this cost; or both channels are compared.
 #[derive(Clone, Copy)]
-pub enum Finding {
-    LeftRefused(Verdict),
-    RightRefused(Verdict),
-    PassedOver,
-    Compared(Found),
+pub enum Answer {
+    LeftRefused(Refusal),
+    RightRefused(Refusal),
+    PassedOver {
+        cost: u64,
+    },
+    Compared {
+        cost: u64,
+        comparison: Result<Comparison, Refusal>,
+    },
 }
 
-// With the pair's cost, which is 0 where a circuit is refused. Both scalars are zero unless an entry differs.
-#[derive(Clone, Copy)]
-pub struct Answer {
-    pub finding: Finding,
-    pub cost: u64,
-    pub left: Scalar,
-    pub right: Scalar,
+impl Answer {
+    // What is spent on an answer.
+    pub fn charge(self) -> u64
+        ensures { result ≡ charge self }
+    {
+        match self {
+            Answer::LeftRefused(_) => 0,
+            Answer::RightRefused(_) => 0,
+            Answer::PassedOver { .. } => 0,
+            Answer::Compared { cost, .. } => cost,
+        }
+    }
 }

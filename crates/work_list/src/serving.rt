@@ -1,162 +1,74 @@
 // The answer to one pair: both circuits judged and weighed, and, where the allowance reaches, run and compared. The lent buffers are zero before and after.
-ghost use Rattle.std.specs.Prelude.{◌≡◌, ◌≤◌, ◌^◌, length};
+ghost use Rattle.std.specs.Prelude.{◌≡◌, ◌≤◌, ◌^◌, length, IfOk};
+ghost use Rattle.circuit.specs.Limits.{ceilings};
 ghost use Rattle.circuit.specs.Inner.Small.{max_splits, max_qubits, max_gates};
 ghost use Rattle.circuit.specs.Sizes.{terms_needed};
 ghost use Rattle.channel.specs.Compare.{compare_of};
-ghost use Rattle.pair_list.specs.Inner.Spots.{circuit_in, Inside};
-ghost use Rattle.work_list.specs.Serving.{zeros, lent, plainly, served, charge, answer_to};
-ghost use Rattle.work_list.specs.Inner.Weighing.{Blank, delivers, Weight, pair_in, Ready};
+ghost use Rattle.pair_list.specs.Inner.Spots.{circuit_in, pair_in};
+ghost use Rattle.work_list.specs.Serving.{lent, answer_to};
+ghost use Rattle.work_list.specs.Inner.Weighing.{Blank, delivers, weighed, Ready};
 
-use crate::{Answer, Finding};
-use channel::compare::{Difference, compare};
+use crate::Answer;
+use channel::compare::{Comparison, compare};
 use circuit::limits::Limits;
 use circuit::questions::judge_circuit;
 use circuit::sizes::{power, terms_needed};
 use gate::GATE;
 use judge::call::circuit_channel;
-use matrix::words::clear;
-use pair_list::Spot;
-use scalar::ZERO;
-use verdict::Verdict;
-
-// The verdict on a circuit and, where that accepts, its multiply terms.
-#[derive(Clone, Copy)]
-struct Weighed {
-    pub verdict: Verdict,
-    pub terms: u64,
-}
+use pair_list::{Circuit, Pair};
+use verdict::Refusal;
 
 // Document 01's count of multiply terms.
 fn count_terms(qubits: u32, splits: u64, gates: u64) -> u64
     requires { (qubits ≤ max_qubits) × (splits ≤ max_splits) × (gates ≤ max_gates) }
     ensures { result ≡ terms_needed gates (2 ^ splits) (2 ^ qubits) }
 {
-    let d = power(qubits as u64);
-    let b = power(splits);
-    terms_needed(gates, b, d)
+    terms_needed(gates, power(splits), power(qubits as u64))
 }
 
 // Asks the questions of circuit_channel, and counts the terms of what is accepted.
-fn weigh(c: Spot, words: &[u32], stores: &[u8], limits: Limits, res: u64, work: u64) -> Weighed
-    requires { Inside words.now stores.now c }
-    ensures { Weight (circuit_in words.now stores.now c) limits res work result.verdict result.terms }
+fn weigh(c: Circuit, limits: Limits, res: u64, work: u64) -> Result<u64, Refusal>
+    ensures value { result ≡ weighed (circuit_in c.entry) limits res work }
+    ensures small { IfOk result (λ terms. terms ≤ ceilings.max_multiply_terms) }
 {
-    let a = c.gates;
-    let e = c.gates_end;
-    let b = c.store;
-    let f = c.store_end;
-    let j = judge_circuit(
-        c.qubits,
-        c.bits,
-        &stores[b..f],
-        limits,
-        &words[a..e],
-        res,
-        work,
-    );
-    let v = j.verdict;
-    if v.is_accepted() {
-        let gates = (e - a) / GATE;
-        return Weighed {
-            verdict: v,
-            terms: count_terms(c.qubits, j.splits, gates as u64),
-        };
-    }
-    Weighed {
-        verdict: v,
-        terms: 0,
-    }
+    let splits = judge_circuit(c.qubits, c.bits, c.store, limits, c.gates, res, work)?;
+    Ok(count_terms(c.qubits, splits, (c.gates.len() / GATE) as u64))
 }
 
 // The channel of a circuit, in work words that are zero before and after.
-fn run(c: Spot, words: &[u32], stores: &[u8], limits: Limits, res: &mut [i64], work: &mut [i64])
-    requires { Inside words.now stores.now c × Blank work.old }
-    ensures res_after { res.new ≡ delivers limits (circuit_in words.now stores.now c) res.old work.old }
+fn run(c: Circuit, limits: Limits, res: &mut [i64], work: &mut [i64])
+    requires { Blank work.old }
+    ensures res_after { res.new ≡ delivers limits (circuit_in c.entry) res.old work.old }
     ensures work_unchanged { work.new ≡ work.old }
 {
-    let a = c.gates;
-    let e = c.gates_end;
-    let b = c.store;
-    let f = c.store_end;
-    circuit_channel(
-        c.qubits,
-        c.bits,
-        &stores[b..f],
-        &words[a..e],
-        limits,
-        res,
-        work,
-    );
-}
-
-// Sets all words to zero.
-pub fn wipe(s: &mut [i64])
-    ensures { s.new ≡ zeros (length s.old) }
-{
-    let n = s.len();
-    clear(s, 0, n);
+    let _ = circuit_channel(c.qubits, c.bits, c.store, c.gates, limits, res, work);
 }
 
 // Runs both circuits of a pair and compares their channels.
 fn run_pair(
-    l: Spot,
-    r: Spot,
-    words: &[u32],
-    stores: &[u8],
+    pair: Pair,
     limits: Limits,
     left: &mut [i64],
     right: &mut [i64],
     work: &mut [i64],
-) -> Difference
-    requires { (Inside words.now stores.now l × Inside words.now stores.now r) × (Blank left.old × (Blank right.old × Blank work.old)) }
-    ensures value { result ≡ compare_of (delivers limits (circuit_in words.now stores.now l) left.old work.old)
-        (delivers limits (circuit_in words.now stores.now r) right.old work.old) }
+) -> Result<Comparison, Refusal>
+    requires { Blank left.old × (Blank right.old × Blank work.old) }
+    ensures value { result ≡ compare_of (delivers limits (circuit_in pair.entry.left) left.old work.old) (delivers limits (circuit_in pair.entry.right) right.old work.old) }
     ensures left_unchanged { left.new ≡ left.old }
     ensures right_unchanged { right.new ≡ right.old }
     ensures work_unchanged { work.new ≡ work.old }
 {
-    run(l, words, stores, limits, left, work);
-    run(r, words, stores, limits, right, work);
-    let d = compare(left, right);
-    wipe(left);
-    wipe(right);
-    d
-}
-
-// An answer with no entry that differs.
-fn without_entry(f: Finding, cost: u64) -> Answer
-    ensures { result ≡ plainly f cost }
-{
-    let z = ZERO;
-    Answer {
-        finding: f,
-        cost: cost,
-        left: z,
-        right: z,
-    }
-}
-
-// An answer with what compare found.
-fn with_difference(d: Difference, cost: u64) -> Answer
-    ensures { result ≡ served cost d }
-{
-    let f = d.found;
-    let x = d.left;
-    let y = d.right;
-    Answer {
-        finding: Finding::Compared(f),
-        cost: cost,
-        left: x,
-        right: y,
-    }
+    run(pair.left, limits, left, work);
+    run(pair.right, limits, right, work);
+    let comparison = compare(left, right);
+    left.fill(0);
+    right.fill(0);
+    comparison
 }
 
 // The answer to a pair, where `spent` of the allowance is spent: the left circuit's refusal, the right one's, passed over, or what compare finds.
 pub fn serve(
-    l: Spot,
-    r: Spot,
-    words: &[u32],
-    stores: &[u8],
+    pair: Pair,
     limits: Limits,
     allowance: u64,
     spent: u64,
@@ -164,42 +76,25 @@ pub fn serve(
     right: &mut [i64],
     work: &mut [i64],
 ) -> Answer
-    requires { Ready words.now stores.now l r spent allowance left.old right.old work.old }
-    ensures value { result ≡ answer_to (lent limits left.old right.old work.old allowance) spent (pair_in words.now stores.now l r) }
+    requires { Ready spent allowance left.old right.old work.old }
+    ensures value { result ≡ answer_to (lent limits left.old right.old work.old allowance) spent (pair_in pair.entry) }
     ensures left_unchanged { left.new ≡ left.old }
     ensures right_unchanged { right.new ≡ right.old }
     ensures work_unchanged { work.new ≡ work.old }
 {
-    let room = left.len();
-    let scratch = work.len();
-    let x = weigh(l, words, stores, limits, room as u64, scratch as u64);
-    let v = x.verdict;
-    if v.is_accepted() {
-        let other = right.len();
-        let y = weigh(r, words, stores, limits, other as u64, scratch as u64);
-        let u = y.verdict;
-        if u.is_accepted() {
-            let cost = x.terms + y.terms;
-            if cost <= allowance - spent {
-                let d = run_pair(l, r, words, stores, limits, left, right, work);
-                return with_difference(d, cost);
-            }
-            return without_entry(Finding::PassedOver, cost);
-        }
-        return without_entry(Finding::RightRefused(u), 0);
+    let scratch = work.len() as u64;
+    let x = match weigh(pair.left, limits, left.len() as u64, scratch) {
+        Ok(terms) => terms,
+        Err(refusal) => return Answer::LeftRefused(refusal),
+    };
+    let y = match weigh(pair.right, limits, right.len() as u64, scratch) {
+        Ok(terms) => terms,
+        Err(refusal) => return Answer::RightRefused(refusal),
+    };
+    let cost = x + y;
+    if allowance - spent < cost {
+        return Answer::PassedOver { cost };
     }
-    without_entry(Finding::LeftRefused(v), 0)
-}
-
-// What is spent on an answer.
-pub fn charge_of(a: Answer) -> u64
-    ensures { result ≡ charge a }
-{
-    let f = a.finding;
-    match f {
-        Finding::LeftRefused(_) => 0,
-        Finding::RightRefused(_) => 0,
-        Finding::PassedOver => 0,
-        Finding::Compared(_) => a.cost,
-    }
+    let comparison = run_pair(pair, limits, left, right, work);
+    Answer::Compared { cost, comparison }
 }

@@ -1,13 +1,13 @@
 -- `serve_all` meets its contract.
 use mathlib.Core.Path.{◌≡◌}
-use Prim.Native.Nat.{◌-◌}
 use Rattle.work_list.specs.Serving.{lent}
 use Rattle.compare_list.proofs.Along.{Along}
 use Rattle.compare_list.proofs.serve_all.Given as goal
 
 abbrev pub invariant-loop-i : goal.invariant-loop-i
-invariant-loop-i l =
-    Along l.words l.stores (lent l.limits l.initial.left l.initial.right l.initial.work l.allowance) l.count l.initial.answers l.initial.scalars l.i l.at l.from l.spent l.answers l.scalars × ((l.left ≡ l.initial.left) × ((l.right ≡ l.initial.right) × (l.work ≡ l.initial.work)))
-
-abbrev pub decreases-loop-i : goal.decreases-loop-i
-decreases-loop-i l = l.count - l.i
+invariant-loop-i l = record {
+  along : Along l.words l.stores (lent l.limits l.initial.left l.initial.right l.initial.work l.allowance) l.count l.initial.answers l.initial.scalars l.i l.at l.from l.spent l.answers l.scalars;
+  left_stays : l.left ≡ l.initial.left;
+  right_stays : l.right ≡ l.initial.right;
+  work_stays : l.work ≡ l.initial.work;
+}

@@ -1,4 +1,5 @@
 -- `list` meets its contract.
+use Rattle.std.specs.Prelude.{Option, Some}
 use Prim.Native.Nat.{ℕ, ◌+◌, ◌*◌, ◌-◌, ◌≤◌}
 use mathlib.Core.Path.{◌≡◌, sym, ap, ◌∙◌, subst}
 use mathlib.Core.Bool.{true}
@@ -8,7 +9,6 @@ use native.Mathlib.Omega.{arith}
 use lib.ListN.{length, take, drop}
 use lib.Seq.{length-take-le}
 use Rattle.circuit_text.specs.declared.input.Circuit.{Circuit}
-use Rattle.circuit_text.specs.declared.input.Input.{Input}
 use Rattle.text.specs.Page.{page, write}
 use Rattle.circuit_text.specs.Input.{max_bits, max_gates, number_count, numbers_of, circuit_in, store_in, words_in, is_input_text, input_of}
 use Rattle.circuit_text.specs.Inner.Reading.{filled, stored, max_numbers}
@@ -20,8 +20,8 @@ use borrow.Author.Rules.{rules}
 use Rattle.listing.proofs.list.Goals as goal
 
 -- a text in which a circuit was read
-module _ (t : List ℕ) {x : Input} (answer : x ≡ input_of t) {circuit : Circuit} (given : x ≡ Input.Given circuit) where
-  told : input_of t ≡ Input.Given circuit
+module _ (t : List ℕ) {x : Option Circuit} (answer : x ≡ input_of t) {circuit : Circuit} (given : x ≡ Some circuit) where
+  told : input_of t ≡ Some circuit
   told = sym answer ∙ given
 
   yes : is_input_text t ≡ true
@@ -50,26 +50,26 @@ returns-in_default c =
     record { answer = c.write_no_input.ensures ∙ ap (write (page a.out.now 0)) (no_answer t a.res.now a.work.now no); res = no_result t a.res.now a.work.now no; work = no_work t a.res.now a.work.now no }
 
 pub overflow_mul-end : goal.overflow_mul-end
-overflow_mul-end c = let g = gates-few c.args.text.now c.read_input.ensures.answer c.in-Given.is in record { fits = omega arith }
+overflow_mul-end c = let g = gates-few c.args.text.now c.read_input.ensures.answer c.in-Some.is in record { fits = omega arith }
 
 pub overflow_add-end : goal.overflow_add-end
 overflow_add-end c =
-    let b = bits-few c.args.text.now c.read_input.ensures.answer c.in-Given.is in
-    let g = gates-few c.args.text.now c.read_input.ensures.answer c.in-Given.is in
+    let b = bits-few c.args.text.now c.read_input.ensures.answer c.in-Some.is in
+    let g = gates-few c.args.text.now c.read_input.ensures.answer c.in-Some.is in
     record { fits = omega arith }
 
 pub slice_bounds-store-end : goal.slice_bounds-store-end
 slice_bounds-store-end c =
-    omega (arith, bits-few c.args.text.now c.read_input.ensures.answer c.in-Given.is, ap length c.read_input.ensures.store ∙ stored_long c.args.text.now _)
+    omega (arith, bits-few c.args.text.now c.read_input.ensures.answer c.in-Some.is, ap length c.read_input.ensures.store ∙ stored_long c.args.text.now _)
 
 pub slice_bounds-list_circuit-end : goal.slice_bounds-list_circuit-end
 slice_bounds-list_circuit-end c =
-    sym (length-take-le _ _ (omega (arith, bits-few c.args.text.now c.read_input.ensures.answer c.in-Given.is, ap length c.read_input.ensures.store ∙ stored_long c.args.text.now _)))
+    sym (length-take-le _ _ (omega (arith, bits-few c.args.text.now c.read_input.ensures.answer c.in-Some.is, ap length c.read_input.ensures.store ∙ stored_long c.args.text.now _)))
 
 pub slice_bounds-list_circuit-end-2 : goal.slice_bounds-list_circuit-end-2
 slice_bounds-list_circuit-end-2 c =
-    let b = bits-few c.args.text.now c.read_input.ensures.answer c.in-Given.is in
-    let g = gates-few c.args.text.now c.read_input.ensures.answer c.in-Given.is in
+    let b = bits-few c.args.text.now c.read_input.ensures.answer c.in-Some.is in
+    let g = gates-few c.args.text.now c.read_input.ensures.answer c.in-Some.is in
     let n = ap length c.read_input.ensures.numbers ∙ filled_long c.args.text.now _ in search rules
 
 pub returns : goal.returns
@@ -78,13 +78,13 @@ returns c =
     let t = a.text.now in
     let r = a.res.now in
     let w = a.work.now in
-    let k = c.in-Given.circuit in
+    let k = c.in-Some.circuit in
     let p = c.read_input.ensures in
-    let y = yes t p.answer c.in-Given.is in
-    let d = is t p.answer c.in-Given.is in
-    let s = store-part t p.answer c.in-Given.is _ (le_refl max_bits) p.store in
+    let y = yes t p.answer c.in-Some.is in
+    let d = is t p.answer c.in-Some.is in
+    let s = store-part t p.answer c.in-Some.is _ (le_refl max_bits) p.store in
     let e : number_count k.bits k.gates - (3 + k.bits) ≡ gate_size * k.gates = omega arith in
-    let ws = ap (λ (j : ℕ). take j (drop (3 + k.bits) c.read_input.new.numbers)) e ∙ words-part t p.answer c.in-Given.is _ (le_refl max_numbers) p.numbers in
+    let ws = ap (λ (j : ℕ). take j (drop (3 + k.bits) c.read_input.new.numbers)) e ∙ words-part t p.answer c.in-Some.is _ (le_refl max_numbers) p.numbers in
     record {
       answer = c.list_circuit.ensures.lines ∙ ap (write (page a.out.now 0)) (an_answer t r w y d s ws);
       res = c.list_circuit.ensures.res ∙ a_result t r w y d s ws;

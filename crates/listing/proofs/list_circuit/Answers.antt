@@ -1,10 +1,10 @@
 -- `list_circuit` meets its contract.
+use Rattle.std.specs.Prelude.{is_ok}
 use Prim.Native.Nat.{ℕ}
 use mathlib.Core.Path.{◌≡◌, sym, ap, ◌∙◌, subst}
 use mathlib.Core.Bool.{true}
 use mathlib.Core.List.{List}
 use lib.IntN.{ℤ}
-use Rattle.verdict.specs.Verdict.{accepted}
 use Rattle.circuit.specs.declared.limits.Limits.{Limits}
 use Rattle.circuit.specs.Limits.{ceilings}
 use Rattle.channel.specs.WellFormed.{well_formed}
@@ -12,7 +12,7 @@ use Rattle.demands.proofs.Demands.{demand2}
 use Rattle.judge.specs.Call.{result_after, work_after}
 use Rattle.text.specs.Page.{page, write}
 use Rattle.listing.specs.Listing.{refusal_line}
-use Rattle.listing.proofs.Answers.{listed, refused, lines_is}
+use Rattle.listing.proofs.Answers.{lines_is}
 use Rattle.listing.proofs.list_circuit.Goals as goal
 
 -- what a call with the default limits leaves
@@ -27,32 +27,29 @@ module _ (qubits bits : ℕ) (store gates : List ℕ) (result work : List ℤ) {
 pub put_channel-requires : goal.put_channel-requires
 put_channel-requires c =
     let a = c.args in
-    let v = c.circuit_channel-v in
-    let e : accepted v.result ≡ true = sym c.is_accepted.ensures ∙ c.if-is_accepted.true in
-    subst (λ (q : List ℤ). well_formed q ≡ true) (sym v.ensures.res_after)
-    (demand2 a.qubits a.bits a.store.now c.defaults-limits.result a.gates.now a.res.now a.work.now (ap accepted (sym v.ensures.value) ∙ e)).formed
+    subst (λ (q : List ℤ). well_formed q ≡ true) (sym c.circuit_channel.ensures.res_after)
+    (demand2 a.qubits a.bits a.store.now c.defaults.result a.gates.now a.res.now a.work.now (ap is_ok (sym c.in-Ok.ensures.value))).formed
 
-pub returns-then-is_accepted : goal.returns-then-is_accepted
-returns-then-is_accepted c =
+pub returns-in-Ok : goal.returns-in-Ok
+returns-in-Ok c =
     let a = c.args in
-    let v = c.circuit_channel-v in
-    let d = c.defaults-limits.ensures in
-    let is = lines_is a.qubits a.bits a.store.now a.gates.now a.res.now a.work.now d v.ensures.value v.ensures.res_after in
+    let d = c.defaults.ensures in
+    let v = c.circuit_channel.ensures in
+    let is = lines_is a.qubits a.bits a.store.now a.gates.now a.res.now a.work.now d c.in-Ok.ensures.value v.res_after in
     record {
-      lines = c.put_channel.ensures.is ∙ ap (write (page a.out.now 0)) (listed v.result v.new.res (sym c.is_accepted.ensures ∙ c.if-is_accepted.true) ∙ is);
-      res = result_is a.qubits a.bits a.store.now a.gates.now a.res.now a.work.now d v.ensures.res_after;
-      work = work_is a.qubits a.bits a.store.now a.gates.now a.res.now a.work.now d v.ensures.work_after;
+      lines = c.put_channel.ensures.is ∙ ap (write (page a.out.now 0)) is;
+      res = result_is a.qubits a.bits a.store.now a.gates.now a.res.now a.work.now d v.res_after;
+      work = work_is a.qubits a.bits a.store.now a.gates.now a.res.now a.work.now d v.work_after;
     }
 
-pub returns : goal.returns
-returns c =
+pub returns-in-Err : goal.returns-in-Err
+returns-in-Err c =
     let a = c.args in
-    let v = c.circuit_channel-v in
-    let d = c.defaults-limits.ensures in
-    let is = lines_is a.qubits a.bits a.store.now a.gates.now a.res.now a.work.now d v.ensures.value v.ensures.res_after in
+    let d = c.defaults.ensures in
+    let v = c.circuit_channel.ensures in
+    let is = lines_is a.qubits a.bits a.store.now a.gates.now a.res.now a.work.now d c.in-Err.ensures.value v.res_after in
     record {
-      lines = c.write_refusal.ensures ∙ (λ k. write (page a.out.now 0) (refusal_line (c.number.ensures k) (c.index.ensures k)))
-          ∙ ap (write (page a.out.now 0)) (refused v.result v.new.res (sym c.is_accepted.ensures ∙ c.if-is_accepted.false) ∙ is);
-      res = result_is a.qubits a.bits a.store.now a.gates.now a.res.now a.work.now d v.ensures.res_after;
-      work = work_is a.qubits a.bits a.store.now a.gates.now a.res.now a.work.now d v.ensures.work_after;
+      lines = c.write_refusal.ensures ∙ (λ k. write (page a.out.now 0) (refusal_line (c.number.ensures k) (c.index.ensures k))) ∙ ap (write (page a.out.now 0)) is;
+      res = result_is a.qubits a.bits a.store.now a.gates.now a.res.now a.work.now d v.res_after;
+      work = work_is a.qubits a.bits a.store.now a.gates.now a.res.now a.work.now d v.work_after;
     }

@@ -1,6 +1,6 @@
 -- `blocks::put_entries` meets its contract.
 use mathlib.Core.Path.{◌≡◌, ap}
-use Prim.Native.Nat.{ℕ, ◌*◌, ◌-◌, ◌/◌, ◌%◌}
+use Prim.Native.Nat.{ℕ, ◌*◌, ◌/◌, ◌%◌}
 use native.Mathlib.Nat.{mul-le-mul}
 use native.Mathlib.Omega.{arith}
 use Rattle.scalar.specs.Calls.{value}
@@ -15,7 +15,7 @@ pub overflow_mul-n : goal.overflow_mul-n
 overflow_mul-n c = let q = c.requires.0 in let r = mul-le-mul q q in omega arith
 
 pub loop-k-init : goal.loop-k-init
-loop-k-init c = (omega arith, text (entries_none c.args.w (entry_at (channels (dim_at c.args.s.now)) c.args.s.now c.args.place)) (none _))
+loop-k-init c = text (entries_none c.args.w (entry_at (channels (dim_at c.args.s.now)) c.args.s.now c.args.place)) (none _)
 
 pub read_entry-x-requires : goal.read_entry-x-requires
 read_entry-x-requires c =
@@ -27,21 +27,15 @@ nonzero_div-k c = let q = side-some c.args.w c.loop-k.k c.loop-k-test.true in om
 pub nonzero_rem-k : goal.nonzero_rem-k
 nonzero_rem-k c = let q = side-some c.args.w c.loop-k.k c.loop-k-test.true in omega arith
 
-pub overflow_add-k : goal.overflow_add-k
-overflow_add-k c = omega arith
-
-pub loop-k-smaller : goal.loop-k-smaller
-loop-k-smaller c = omega arith
-
 pub loop-k-preserved : goal.loop-k-preserved
 loop-k-preserved c =
     let line = ap (λ (x : Scalar). entry_line (c.loop-k.k / c.args.w) (c.loop-k.k % c.args.w) (value x)) c.read_entry-x.ensures in
-    (omega arith, text (entries-more c.args.w c.loop-k.k (entry_at (channels (dim_at c.args.s.now)) c.args.s.now c.args.place)) (then c.loop-k.invariant.1 (text line c.put_entry-p.ensures)))
+    text (entries-more c.args.w c.loop-k.k (entry_at (channels (dim_at c.args.s.now)) c.args.s.now c.args.place)) (then c.loop-k.invariant (text line c.put_entry-p.ensures))
 
 pub shape_of-out : goal.shape_of-out
-shape_of-out c = long c.loop-k.invariant.1
+shape_of-out c = long c.loop-k.invariant
 
 pub returns : goal.returns
 returns c =
     let e : c.loop-k.k ≡ c.args.w * c.args.w = omega arith in
-    text (ap (λ (n : ℕ). entry_lines c.args.w n (entry_at (channels (dim_at c.args.s.now)) c.args.s.now c.args.place)) e) c.loop-k.invariant.1
+    text (ap (λ (n : ℕ). entry_lines c.args.w n (entry_at (channels (dim_at c.args.s.now)) c.args.s.now c.args.place)) e) c.loop-k.invariant

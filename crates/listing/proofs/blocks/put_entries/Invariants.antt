@@ -1,5 +1,4 @@
 -- `blocks::put_entries` meets its contract.
-use Prim.Native.Nat.{◌-◌, ◌≤◌}
 use Rattle.channel.specs.Layout.{channels, entry_at, dim_at}
 use Rattle.text.specs.Page.{page}
 use Rattle.text.specs.Inner.Written.{Written}
@@ -7,7 +6,4 @@ use Rattle.listing.specs.Listing.{entry_lines}
 use Rattle.listing.proofs.blocks.put_entries.Given as goal
 
 abbrev pub invariant-loop-k : goal.invariant-loop-k
-invariant-loop-k l = (l.k ≤ l.n) × Written (page l.initial.out l.at) (entry_lines l.w l.k (entry_at (channels (dim_at l.s)) l.s l.place)) (page l.out l.p)
-
-abbrev pub decreases-loop-k : goal.decreases-loop-k
-decreases-loop-k l = l.n - l.k
+invariant-loop-k l = Written (page l.initial.out l.at) (entry_lines l.w l.k (entry_at (channels (dim_at l.s)) l.s l.place)) (page l.out l.p)

@@ -1,48 +1,28 @@
 -- `serve` meets its contract.
-use mathlib.Core.Path.{refl, sym, ◌∙◌}
-use Rattle.work_list.proofs.Answering.{by_left, by_right, by-cost, by_serving}
+use mathlib.Core.Path.{◌∙◌}
+use Rattle.pair_list.specs.Inner.Spots.{pair_in}
+use Rattle.work_list.specs.Serving.{lent}
+use Rattle.work_list.proofs.Answering.{by_left, by_right, by-cost, by_serving, in_blanks}
 use Rattle.work_list.proofs.serving.serve.Goals as goal
 
-pub returns-then-cost-allowance : goal.returns-then-cost-allowance
-returns-then-cost-allowance c =
+pub returns-in-Err-clause-value : goal.returns-in-Err-clause-value
+returns-in-Err-clause-value c =
     let a = c.args in
-    let e = c.run_pair-d.ensures in
-    record {
-      value = by_serving a.limits a.allowance a.spent c.requires c.weigh-x.ensures (sym c.is_accepted.ensures ∙ c.if-is_accepted.true) c.weigh-y.ensures
-          (sym c.is_accepted-then-is_accepted.ensures ∙ c.if-is_accepted-2.true) c.if-cost-allowance.true c.with_difference.ensures e.value;
-      left_unchanged = e.left_unchanged;
-      right_unchanged = e.right_unchanged;
-      work_unchanged = e.work_unchanged;
-    }
+    by_left (lent a.limits a.left.now a.right.now a.work.now a.allowance) a.spent (pair_in a.pair) c.in-Err.ensures.value
 
-pub returns-then-is_accepted-2 : goal.returns-then-is_accepted-2
-returns-then-is_accepted-2 c =
+pub returns-in-Err-weigh-clause-value : goal.returns-in-Err-weigh-clause-value
+returns-in-Err-weigh-clause-value c =
     let a = c.args in
-    record {
-      value = by-cost a.limits a.allowance a.spent c.requires c.weigh-x.ensures (sym c.is_accepted.ensures ∙ c.if-is_accepted.true) c.weigh-y.ensures
-          (sym c.is_accepted-then-is_accepted.ensures ∙ c.if-is_accepted-2.true) c.if-cost-allowance.false c.without_entry.ensures;
-      left_unchanged = refl;
-      right_unchanged = refl;
-      work_unchanged = refl;
-    }
+    by_right (lent a.limits a.left.now a.right.now a.work.now a.allowance) a.spent (pair_in a.pair) c.in-Ok.ensures.value c.in-Err-weigh.ensures.value
 
-pub returns-then-is_accepted : goal.returns-then-is_accepted
-returns-then-is_accepted c =
+pub returns-then-allowance-spent-clause-value : goal.returns-then-allowance-spent-clause-value
+returns-then-allowance-spent-clause-value c =
     let a = c.args in
-    record {
-      value = by_right a.limits a.allowance a.spent c.requires c.weigh-x.ensures (sym c.is_accepted.ensures ∙ c.if-is_accepted.true) c.weigh-y.ensures
-          (sym c.is_accepted-then-is_accepted.ensures ∙ c.if-is_accepted-2.false) c.without_entry-then-is_accepted.ensures;
-      left_unchanged = refl;
-      right_unchanged = refl;
-      work_unchanged = refl;
-    }
+    by-cost (lent a.limits a.left.now a.right.now a.work.now a.allowance) a.spent (pair_in a.pair) c.in-Ok.ensures.value c.in-Ok-weigh.ensures.value c.requires.within c.if-allowance-spent.true
 
-pub returns : goal.returns
-returns c =
+pub returns-clause-value : goal.returns-clause-value
+returns-clause-value c =
     let a = c.args in
-    record {
-      value = by_left a.limits a.allowance a.spent c.requires c.weigh-x.ensures (sym c.is_accepted.ensures ∙ c.if-is_accepted.false) c.without_entry-2.ensures;
-      left_unchanged = refl;
-      right_unchanged = refl;
-      work_unchanged = refl;
-    }
+    let r = c.requires in
+    by_serving (lent a.limits a.left.now a.right.now a.work.now a.allowance) a.spent (pair_in a.pair) c.in-Ok.ensures.value c.in-Ok-weigh.ensures.value r.within c.if-allowance-spent.false
+    (c.run_pair-comparison.ensures.value ∙ in_blanks a.limits a.allowance (pair_in a.pair) r.left_blank r.right_blank r.work_blank)
