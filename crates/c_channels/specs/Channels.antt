@@ -1,26 +1,45 @@
--- What compare replies and writes: a number, the place of an entry, and two scalars as words.
-use Rattle.std.specs.Prelude.{List, [], ◌∷◌, ◌++◌, ℕ, ℤ}
+-- What compare replies and writes: a number, the place of an entry, and two scalars as words; and what a look-up replies.
+use Rattle.std.specs.Prelude.{List, [], ◌∷◌, ◌++◌, ℕ, ℤ, Option, Some, None, Result, Ok, Err}
+use Rattle.exact.specs.Exact.{exact}
 use Rattle.scalar.specs.declared.Scalar.{Scalar}
-use Rattle.scalar.specs.Calls.{value}
+use Rattle.scalar.specs.Calls.{value, scalar_of}
 use Rattle.cells.specs.Cells.{cell_words}
-use Rattle.verdict.specs.Verdict.{verdict_number}
-use Rattle.channel.specs.declared.compare.Found.{Found}
-use Rattle.channel.specs.declared.compare.Found.TheVariants.{Refused, Same, Dimensions, Entry}
+use Rattle.verdict.specs.declared.Refusal.{Refusal}
+use Rattle.verdict.specs.Verdict.{refusal_number}
+use Rattle.channel.specs.declared.compare.Comparison.{Comparison}
+use Rattle.channel.specs.declared.compare.Comparison.TheVariants.{Same, Dimensions, Differs}
+use Rattle.channel.specs.declared.compare.Difference.{Difference}
+use Rattle.channel.specs.declared.lookup.Span.{Span}
 use Rattle.c_words.specs.Replies.{same, dimensions, entry}
 
-abbrev pub finding_number : Found → ℕ
-finding_number (Refused v) = verdict_number v
-finding_number Same = same
-finding_number Dimensions = dimensions
-finding_number (Entry p) = entry
+abbrev pub finding_number : Result Comparison Refusal → ℕ
+finding_number (Ok Same) = same
+finding_number (Ok Dimensions) = dimensions
+finding_number (Ok (Differs d)) = entry
+finding_number (Err r) = refusal_number r
+
+-- the entry that differs, if one does
+abbrev pub difference : Result Comparison Refusal → Option Difference
+difference (Ok Same) = None
+difference (Ok Dimensions) = None
+difference (Ok (Differs d)) = Some d
+difference (Err r) = None
 
 -- store, row and column; zero where no entry differs
-abbrev pub place_words : Found → List ℕ
-place_words (Refused v) = 0 ∷ 0 ∷ 0 ∷ []
-place_words Same = 0 ∷ 0 ∷ 0 ∷ []
-place_words Dimensions = 0 ∷ 0 ∷ 0 ∷ []
-place_words (Entry p) = p.store ∷ p.row ∷ p.col ∷ []
+abbrev pub place_words : Option Difference → List ℕ
+place_words (Some d) = d.place.store ∷ d.place.row ∷ d.place.col ∷ []
+place_words None = 0 ∷ 0 ∷ 0 ∷ []
 
 -- the left scalar, then the right one
 abbrev pub two_scalars : Scalar → Scalar → List ℤ
 two_scalars x y = cell_words (value x) ++ cell_words (value y)
+
+-- of the entry that differs; zero where none does
+abbrev pub scalar_words : Option Difference → List ℤ
+scalar_words (Some d) = two_scalars d.left d.right
+scalar_words None = two_scalars (scalar_of exact.𝟘) (scalar_of exact.𝟘)
+
+-- where a part starts, or 0
+abbrev pub start_of : Option Span → ℕ
+start_of (Some s) = s.start
+start_of None = 0

@@ -6,35 +6,44 @@ ghost use Rattle.verdict.specs.Verdict.{verdict_number};
 ghost use Rattle.channel.specs.Compare.{compare_of};
 ghost use Rattle.channel.specs.Lookup.{lookup_of, span_of};
 ghost use Rattle.effects.specs.Effects.{effects_verdict, result_of, povm_of};
-ghost use Rattle.c_channels.specs.Channels.{finding_number, place_words, two_scalars};
+ghost use Rattle.c_channels.specs.Channels.{finding_number, difference, place_words, two_scalars, scalar_words, start_of};
 
 use c_words::replies::{DIMENSIONS, ENTRY, SAME};
 use cells::{CELL, write_cell};
-use channel::compare::Found;
+use channel::compare::{Comparison, Difference};
 use channel::lookup::locate;
-use scalar::Scalar;
+use scalar::{Scalar, ZERO};
+use verdict::Refusal;
 
-// The reply for what a comparison found.
-pub fn finding_number(f: Found) -> u32
-    ensures { result ≡ finding_number f }
+// The reply for what a comparison found, or the refusal's number.
+pub fn finding_number(answer: &Result<Comparison, Refusal>) -> u32
+    ensures { result ≡ finding_number answer.now }
 {
-    match f {
-        Found::Refused(v) => v.number(),
-        Found::Same => SAME,
-        Found::Dimensions => DIMENSIONS,
-        Found::Entry(_) => ENTRY,
+    match answer {
+        Ok(Comparison::Same) => SAME,
+        Ok(Comparison::Dimensions) => DIMENSIONS,
+        Ok(Comparison::Differs(_)) => ENTRY,
+        Err(refusal) => refusal.number(),
     }
 }
 
-// The store, row and column of an entry; zero where no entry differs.
-fn place_words(f: Found) -> [u64; 3]
-    ensures { result ≡ place_words f }
+// The entry that differs, if one does.
+pub fn difference(answer: &Result<Comparison, Refusal>) -> Option<Difference>
+    ensures { result ≡ difference answer.now }
 {
-    match f {
-        Found::Refused(_) => [0; 3],
-        Found::Same => [0; 3],
-        Found::Dimensions => [0; 3],
-        Found::Entry(p) => [p.store, p.row as u64, p.col as u64],
+    match answer {
+        Ok(Comparison::Differs(d)) => Some(*d),
+        _ => None,
+    }
+}
+
+// The store, row and column of an entry that differs; zero where none does.
+pub fn place_words(entry: Option<Difference>) -> [u64; 3]
+    ensures { result ≡ place_words entry }
+{
+    match entry {
+        Some(d) => [d.place.store, d.place.row as u64, d.place.col as u64],
+        None => [0; 3],
     }
 }
 
@@ -48,6 +57,16 @@ pub fn two_scalars(x: Scalar, y: Scalar) -> [i64; 2 * CELL]
     words
 }
 
+// The words of the two scalars of an entry that differs; those of zero where none does.
+pub fn scalar_words(entry: Option<Difference>) -> [i64; 2 * CELL]
+    ensures { result ≡ scalar_words entry }
+{
+    match entry {
+        Some(d) => two_scalars(d.left, d.right),
+        None => two_scalars(ZERO, ZERO),
+    }
+}
+
 // Compare two channels: what was found, the store, row and column of the first unequal entry in `place`, and its two scalars in `scalars`.
 pub fn compare(
     left: &[i64],
@@ -55,17 +74,15 @@ pub fn compare(
     place: &mut [u64; 3],
     scalars: &mut [i64; 2 * CELL],
 ) -> u32
-    ensures value { result ≡ finding_number (compare_of left.now right.now).found }
-    ensures place_after { place.new ≡ place_words (compare_of left.now right.now).found }
-    ensures scalars_after { scalars.new ≡ two_scalars (compare_of left.now right.now).left (compare_of left.now right.now).right }
+    ensures value { result ≡ finding_number (compare_of left.now right.now) }
+    ensures place_after { place.new ≡ place_words (difference (compare_of left.now right.now)) }
+    ensures scalars_after { scalars.new ≡ scalar_words (difference (compare_of left.now right.now)) }
 {
-    let d = channel::compare::compare(left, right);
-    let f = d.found;
-    let x = d.left;
-    let y = d.right;
-    *place = place_words(f);
-    *scalars = two_scalars(x, y);
-    finding_number(f)
+    let answer = channel::compare::compare(left, right);
+    let entry = difference(&answer);
+    *place = place_words(entry);
+    *scalars = scalar_words(entry);
+    finding_number(&answer)
 }
 
 // The transposed effects of a channel's blocks: the verdict's number.
@@ -73,8 +90,7 @@ pub fn classical_blocks(channel: &[i64], res: &mut [i64]) -> u32
     ensures value { result ≡ verdict_number (effects_verdict channel.now res.old) }
     ensures res_after { res.new ≡ result_of channel.now res.old }
 {
-    let v = effects::classical_blocks(channel, res);
-    v.number()
+    verdict::number(&effects::classical_blocks(channel, res))
 }
 
 // The effects of a channel's blocks as the textbook has them: the verdict's number.
@@ -82,14 +98,15 @@ pub fn povm_effects(channel: &[i64], res: &mut [i64]) -> u32
     ensures value { result ≡ verdict_number (effects_verdict channel.now res.old) }
     ensures res_after { res.new ≡ povm_of channel.now res.old }
 {
-    let answer = effects::povm_effects(channel, res);
-    answer.number()
+    verdict::number(&effects::povm_effects(channel, res))
 }
 
 // The index of a store's block, its exponent and then its numerators, or 0 where there is none.
 pub fn lookup(channel: &[i64], store: &[u8]) -> usize
-    ensures { result ≡ (span_of channel.now (lookup_of channel.now store.now)).start }
+    ensures { result ≡ start_of (span_of channel.now (lookup_of channel.now store.now)) }
 {
-    let p = locate(channel, store);
-    p.start
+    match locate(channel, store) {
+        Some(p) => p.start,
+        None => 0,
+    }
 }

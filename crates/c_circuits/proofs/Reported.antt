@@ -4,7 +4,7 @@ use mathlib.Core.List.{List}
 use Prim.Native.Nat.{ℕ}
 use lib.IntN.{ℤ}
 use Rattle.circuit.specs.declared.limits.Limits.{Limits}
-use Rattle.verdict.specs.declared.Verdict.{Verdict}
+use Rattle.verdict.specs.Questions.{Verdict}
 use Rattle.verdict.specs.Verdict.{verdict_number, verdict_index}
 
 -- under the limits l the call's verdict is verdict l

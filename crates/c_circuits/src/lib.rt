@@ -17,19 +17,13 @@ use circuit::questions::judge_layered_channel;
 pub fn read_limits(limits: &[u64; 6]) -> Limits
     ensures { result ≡ limits_of limits.now }
 {
-    let a = limits[0];
-    let b = limits[1];
-    let c = limits[2];
-    let d = limits[3];
-    let e = limits[4];
-    let f = limits[5];
     Limits {
-        max_qubits: a,
-        max_matrix_cells: b,
-        max_multiply_terms: c,
-        max_operations: d,
-        max_branches: e,
-        max_classical_bits: f,
+        max_qubits: limits[0],
+        max_matrix_cells: limits[1],
+        max_multiply_terms: limits[2],
+        max_operations: limits[3],
+        max_branches: limits[4],
+        max_classical_bits: limits[5],
     }
 }
 
@@ -51,7 +45,7 @@ pub fn circuit_channel(
 {
     let l = read_limits(limits);
     let v = judge::call::circuit_channel(qubits, bits, store, gates, l, res, work);
-    report(v, index)
+    report(&v, index)
 }
 
 // The channel of a layered circuit, whose layers end at `ends`: the verdict's number, and its index in `index`.
@@ -73,7 +67,7 @@ pub fn layered_channel(
 {
     let l = read_limits(limits);
     let v = judge::call::layered_channel(qubits, bits, store, gates, ends, l, res, work);
-    report(v, index)
+    report(&v, index)
 }
 
 // The verdict of a layered circuit alone, for buffers of so many words: its number, and its index in `index`.
@@ -102,7 +96,7 @@ pub fn layered_verdict(
         result_words as u64,
         work_words as u64,
     );
-    report(v, index)
+    report(&v, index)
 }
 
 // The unitary of a circuit: the verdict's number, and its index in `index`.
@@ -121,5 +115,5 @@ pub fn circuit_unitary(
 {
     let l = read_limits(limits);
     let v = unitary::circuit_unitary(qubits, gates, l, res, work);
-    report(v, index)
+    report(&v, index)
 }

@@ -10,14 +10,15 @@ ghost use Rattle.kept_verdict.specs.Questions.{kept_verdict, copy_verdict, copie
 
 use c_circuits::read_limits;
 use c_words::report;
+use gate::judge::read_gate;
+use verdict::number;
 
 // Start empty: the verdict's number.
 pub fn start(qubits: u32, bits: u32, words: &mut [i64]) -> u32
     ensures value { result ≡ verdict_number (start_verdict qubits bits words.old) }
     ensures words_after { words.new ≡ started qubits bits words.old }
 {
-    let v = kept_circuit::edits::start(qubits, bits, words);
-    v.number()
+    number(&kept_circuit::edits::start(qubits, bits, words))
 }
 
 // Append a gate: the verdict's number, and its index in `index`.
@@ -26,8 +27,8 @@ pub fn append(words: &mut [i64], gate: &[u32; 5], index: &mut u64) -> u32
     ensures index_after { index.new ≡ verdict_index (append_verdict words.old (gate_at gate.now 0)) }
     ensures words_after { words.new ≡ appended words.old (gate_at gate.now 0) }
 {
-    let v = kept_circuit::edits::append(words, gate[0], gate[1], gate[2], gate[3], gate[4]);
-    report(v, index)
+    let answer = kept_circuit::edits::append(words, read_gate(gate, 0));
+    report(&answer, index)
 }
 
 // Remove the last gate: the verdict's number.
@@ -35,8 +36,7 @@ pub fn remove_last(words: &mut [i64]) -> u32
     ensures value { result ≡ verdict_number (remove_verdict words.old) }
     ensures words_after { words.new ≡ removed words.old }
 {
-    let v = kept_circuit::edits::remove_last(words);
-    v.number()
+    number(&kept_circuit::edits::remove_last(words))
 }
 
 // Replace the gate at a position: the verdict's number, and its index in `index`.
@@ -45,10 +45,8 @@ pub fn replace(words: &mut [i64], position: usize, gate: &[u32; 5], index: &mut 
     ensures index_after { index.new ≡ verdict_index (replace_verdict words.old position (gate_at gate.now 0)) }
     ensures words_after { words.new ≡ replaced words.old position (gate_at gate.now 0) }
 {
-    let v = kept_circuit::edits::replace(
-        words, position, gate[0], gate[1], gate[2], gate[3], gate[4],
-    );
-    report(v, index)
+    let answer = kept_circuit::edits::replace(words, position, read_gate(gate, 0));
+    report(&answer, index)
 }
 
 // The verdict on the circuit, from its counts, for buffers of so many words: its number.
@@ -62,8 +60,7 @@ pub fn verdict(
     ensures { result ≡ verdict_number (kept_verdict words.now store.now (limits_of limits.now) result_words work_words) }
 {
     let l = read_limits(limits);
-    let v = kept_verdict::judge_kept(words, store, l, result_words as u64, work_words as u64);
-    v.number()
+    number(&kept_verdict::judge_kept(words, store, l, result_words as u64, work_words as u64))
 }
 
 // Copy the gates out: the verdict's number.
@@ -71,6 +68,5 @@ pub fn copy_gates(words: &[i64], out: &mut [u32]) -> u32
     ensures value { result ≡ verdict_number (copy_verdict words.now out.old) }
     ensures out_after { out.new ≡ copied_to words.now out.old }
 {
-    let v = kept_verdict::copy_gates(words, out);
-    v.number()
+    number(&kept_verdict::copy_gates(words, out))
 }

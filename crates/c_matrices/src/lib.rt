@@ -6,7 +6,8 @@ ghost use Rattle.matrix.specs.Phase.{phase_answer};
 ghost use Rattle.c_matrices.specs.Matrices.{found_number, phase_number};
 
 use c_words::replies::{DIFFERENT, EQUIVALENT};
-use matrix::{Phase, PhaseAnswer};
+use matrix::Phase;
+use verdict::Refusal;
 
 fn found_number(p: Phase) -> u32
     ensures { result ≡ found_number p }
@@ -17,15 +18,12 @@ fn found_number(p: Phase) -> u32
     }
 }
 
-fn phase_number(a: PhaseAnswer) -> u32
-    ensures { result ≡ phase_number a.verdict a.phase }
+fn phase_number(a: Result<Phase, Refusal>) -> u32
+    ensures { result ≡ phase_number a }
 {
-    let v = a.verdict;
-    let p = a.phase;
-    if v.is_accepted() {
-        found_number(p)
-    } else {
-        v.number()
+    match a {
+        Ok(p) => found_number(p),
+        Err(r) => r.number(),
     }
 }
 
@@ -36,7 +34,7 @@ pub fn equivalent_up_to_global_phase(
     right_dim: usize,
     right: &[i64],
 ) -> u32
-    ensures { result ≡ phase_number (phase_answer left_dim left.now right_dim right.now).verdict (phase_answer left_dim left.now right_dim right.now).phase }
+    ensures { result ≡ phase_number (phase_answer left_dim left.now right_dim right.now) }
 {
     let a = matrix::global_phase::equivalent_up_to_global_phase(left_dim, left, right_dim, right);
     phase_number(a)

@@ -14,8 +14,7 @@ pub fn pack_channel(channel: &[i64], res: &mut [i64], index: &mut u64) -> u32
     ensures index_after { index.new ≡ verdict_index (pack_verdict channel.now res.old) }
     ensures res_after { res.new ≡ pack_result channel.now res.old }
 {
-    let v = packed::pack_channel(channel, res);
-    report(v, index)
+    report(&packed::pack_channel(channel, res), index)
 }
 
 // Unpack packed words: the verdict's number, and its index in `index`.
@@ -24,8 +23,7 @@ pub fn unpack_channel(words: &[i64], res: &mut [i64], index: &mut u64) -> u32
     ensures index_after { index.new ≡ verdict_index (unpack_verdict words.now res.old) }
     ensures res_after { res.new ≡ unpack_result words.now res.old }
 {
-    let v = packed::unpack_channel(words, res);
-    report(v, index)
+    report(&packed::unpack_channel(words, res), index)
 }
 
 // Write a channel without √2 parts: the verdict's number, and its index in `index`.
@@ -34,8 +32,7 @@ pub fn write_plain(channel: &[i64], res: &mut [i64], index: &mut u64) -> u32
     ensures index_after { index.new ≡ verdict_index (plain_write_verdict channel.now res.old) }
     ensures res_after { res.new ≡ plain_write_result channel.now res.old }
 {
-    let v = plain_words::write_plain(channel, res);
-    report(v, index)
+    report(&plain_words::write_plain(channel, res), index)
 }
 
 // Read such words: the verdict's number, and its index in `index`.
@@ -44,6 +41,5 @@ pub fn read_plain(words: &[i64], res: &mut [i64], index: &mut u64) -> u32
     ensures index_after { index.new ≡ verdict_index (plain_read_verdict words.now res.old) }
     ensures res_after { res.new ≡ plain_read_result words.now res.old }
 {
-    let v = plain_words::read_plain(words, res);
-    report(v, index)
+    report(&plain_words::read_plain(words, res), index)
 }

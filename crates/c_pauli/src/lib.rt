@@ -27,7 +27,7 @@ pub fn pauli_verdict(
     ensures index_after { index.new ≡ verdict_index (pauli_verdict qubits bits store.now (limits_of limits.now) nodes.now operations.now result_words work_words) }
 {
     let l = read_limits(limits);
-    let v = judge_pauli(
+    let answer = judge_pauli(
         qubits,
         bits,
         store,
@@ -37,7 +37,7 @@ pub fn pauli_verdict(
         result_words as u64,
         work_words as u64,
     );
-    report(v, index)
+    report(&answer, index)
 }
 
 // The channel of a Pauli program: the verdict's number, and its index in `index`.
@@ -58,6 +58,6 @@ pub fn pauli_channel(
     ensures work_after { work.new ≡ pauli.work_after qubits bits store.now (limits_of limits.now) nodes.now operations.now res.old work.old }
 {
     let l = read_limits(limits);
-    let v = pauli::call::pauli_channel(qubits, bits, store, nodes, operations, l, res, work);
-    report(v, index)
+    let answer = pauli::call::pauli_channel(qubits, bits, store, nodes, operations, l, res, work);
+    report(&answer, index)
 }

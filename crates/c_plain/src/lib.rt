@@ -29,7 +29,7 @@ pub fn plain_channel(
 {
     let l = read_limits(limits);
     let v = plain::plain_channel(qubits, bits, store, gates, l, res, work);
-    report(v, index)
+    report(&v, index)
 }
 
 // The verdict alone, for buffers of so many words: its number, and its index in `index`.
@@ -56,5 +56,5 @@ pub fn plain_verdict(
         result_words as u64,
         work_words as u64,
     );
-    report(v, index)
+    report(&v, index)
 }

@@ -2,10 +2,11 @@
 #![tactic(auto)]
 
 ghost use Rattle.std.specs.Prelude.{◌≡◌};
+ghost use Rattle.std.specs.Result.{result_unwrap_or};
 ghost use Rattle.verdict.specs.Verdict.{verdict_number, verdict_index};
 ghost use Rattle.qasm.specs.Reading.{read_of, filled};
-ghost use Rattle.qasm_writer.specs.Call.{write_verdict, write_reply, room_after};
-ghost use Rattle.c_qasm.specs.Texts.{reading_of, count_words};
+ghost use Rattle.qasm_writer.specs.Call.{write_reply, room_after};
+ghost use Rattle.c_qasm.specs.Texts.{reading_of, number_of, count_words, words_in, position_in};
 
 use c_words::report;
 
@@ -17,18 +18,26 @@ pub fn read_qasm(
     words: &mut usize,
     position: &mut usize,
 ) -> u32
-    ensures value { result ≡ verdict_number (reading_of text.now gates.old).verdict }
+    ensures value { result ≡ number_of (reading_of text.now gates.old) }
     ensures gates_after { gates.new ≡ filled gates.old (read_of text.now) }
     ensures counts_after { counts.new ≡ count_words (reading_of text.now gates.old) }
-    ensures words_after { words.new ≡ (reading_of text.now gates.old).words }
-    ensures position_after { position.new ≡ (reading_of text.now gates.old).position }
+    ensures words_after { words.new ≡ words_in (reading_of text.now gates.old) }
+    ensures position_after { position.new ≡ position_in (reading_of text.now gates.old) }
 {
-    let r = qasm::reader::read_qasm(text, gates);
-    *counts = [r.qubits, r.bits];
-    *words = r.words;
-    *position = r.position;
-    let v = r.verdict;
-    v.number()
+    match qasm::reader::read_qasm(text, gates) {
+        Ok(reading) => {
+            *counts = [reading.qubits, reading.bits];
+            *words = reading.words;
+            *position = 0;
+            0
+        }
+        Err(fault) => {
+            *counts = [0, 0];
+            *words = 0;
+            *position = fault.position;
+            fault.refusal.number()
+        }
+    }
 }
 
 // A circuit written as its text: the verdict's number, its index in `index`, and how many bytes the text has in `bytes`.
@@ -40,13 +49,12 @@ pub fn write_qasm(
     bytes: &mut usize,
     index: &mut u64,
 ) -> u32
-    ensures value { result ≡ verdict_number (write_verdict qubits bits gates.now out.old) }
+    ensures value { result ≡ verdict_number (write_reply qubits bits gates.now out.old) }
     ensures out_after { out.new ≡ room_after qubits bits gates.now out.old }
-    ensures bytes_after { bytes.new ≡ (write_reply qubits bits gates.now out.old).bytes }
-    ensures index_after { index.new ≡ verdict_index (write_verdict qubits bits gates.now out.old) }
+    ensures bytes_after { bytes.new ≡ result_unwrap_or (write_reply qubits bits gates.now out.old) 0 }
+    ensures index_after { index.new ≡ verdict_index (write_reply qubits bits gates.now out.old) }
 {
-    let w = qasm_writer::write_qasm(qubits, bits, gates, out);
-    *bytes = w.bytes;
-    let v = w.verdict;
-    report(v, index)
+    let answer = qasm_writer::write_qasm(qubits, bits, gates, out);
+    *bytes = answer.unwrap_or(0);
+    report(&answer, index)
 }

@@ -1,102 +1,103 @@
-// The scalar calls of the C interface: a scalar is five words, n0 to n3 and e. One body for the calls that take no scalar, one, and two.
+// The scalar calls of the C interface: a scalar is five words, n0 to n3 and e. Each writes the scalar that it answers with, and zero where it refuses; its reply is the verdict's number.
 #![tactic(auto)]
 
 ghost use Rattle.std.specs.Prelude.{◌≡◌};
+ghost use Rattle.exact.specs.Exact.{exact, imaginary, inv_sqrt_two, omega};
 ghost use Rattle.verdict.specs.Verdict.{verdict_number};
-ghost use Rattle.scalar.specs.Calls.{value, integer_answer};
+ghost use Rattle.scalar.specs.Calls.{accepted, integer_answer, neg_answer, conj_answer, half_answer, add_answer, mul_answer};
 ghost use Rattle.c_words.specs.Words.{operand};
-ghost use Rattle.c_scalars.specs.Calls.{answer_words, constant_answer, unary_answer, binary_answer};
+ghost use Rattle.c_scalars.specs.Calls.{answer_words};
 
 use c_words::{read_operand, scalar_words};
 use cells::CELL;
-use scalar::{Answer, Scalar};
+use scalar::{Scalar, ZERO};
+use verdict::Refusal;
 
-#[derive(Clone, Copy)]
-pub enum Constant {
-    Zero,
-    I,
-    InvSqrtTwo,
-    Omega(u32),
-}
-
-#[derive(Clone, Copy)]
-pub enum Unary {
-    Neg,
-    Conj,
-    Half,
-}
-
-#[derive(Clone, Copy)]
-pub enum Binary {
-    Add,
-    Mul,
-}
-
-// Write an answer's scalar; the number of its verdict.
-fn answer(a: Answer, out: &mut [i64; CELL]) -> u32
-    ensures value { result ≡ verdict_number a.verdict }
+// Write an answer's scalar, or zero for a refusal; the number of its verdict.
+fn answer(a: Result<Scalar, Refusal>, out: &mut [i64; CELL]) -> u32
+    ensures value { result ≡ verdict_number a }
     ensures out_after { out.new ≡ answer_words a }
 {
-    let s = a.value;
-    let v = a.verdict;
-    *out = scalar_words(s);
-    v.number()
+    *out = scalar_words(a.unwrap_or(ZERO));
+    verdict::number(&a)
 }
 
-fn constant_answer(f: Constant) -> Answer
-    ensures { result ≡ constant_answer f }
-{
-    match f {
-        Constant::Zero => Scalar::zero(),
-        Constant::I => Scalar::i(),
-        Constant::InvSqrtTwo => Scalar::inv_sqrt_two(),
-        Constant::Omega(k) => Scalar::omega(k),
-    }
-}
-
-fn unary_answer(f: Unary, x: Scalar) -> Answer
-    ensures { result ≡ unary_answer f (value x) }
-{
-    match f {
-        Unary::Neg => x.neg(),
-        Unary::Conj => x.conj(),
-        Unary::Half => x.half(),
-    }
-}
-
-fn binary_answer(f: Binary, x: Scalar, y: Scalar) -> Answer
-    ensures { result ≡ binary_answer f (value x) (value y) }
-{
-    match f {
-        Binary::Add => x.add(y),
-        Binary::Mul => x.mul(y),
-    }
-}
-
-pub fn write_integer(n: i64, out: &mut [i64; CELL]) -> u32
-    ensures value { result ≡ verdict_number (integer_answer n).verdict }
+// n
+pub fn integer(n: i64, out: &mut [i64; CELL]) -> u32
+    ensures value { result ≡ verdict_number (integer_answer n) }
     ensures out_after { out.new ≡ answer_words (integer_answer n) }
 {
     answer(Scalar::integer(n), out)
 }
 
-pub fn write_constant(f: Constant, out: &mut [i64; CELL]) -> u32
-    ensures value { result ≡ verdict_number (constant_answer f).verdict }
-    ensures out_after { out.new ≡ answer_words (constant_answer f) }
+// 0
+pub fn zero(out: &mut [i64; CELL]) -> u32
+    ensures value { result ≡ verdict_number (accepted exact.𝟘) }
+    ensures out_after { out.new ≡ answer_words (accepted exact.𝟘) }
 {
-    answer(constant_answer(f), out)
+    answer(Ok(Scalar::zero()), out)
 }
 
-pub fn write_unary(f: Unary, x: &[i64; CELL], out: &mut [i64; CELL]) -> u32
-    ensures value { result ≡ verdict_number (unary_answer f (operand x.now)).verdict }
-    ensures out_after { out.new ≡ answer_words (unary_answer f (operand x.now)) }
+// i
+pub fn i(out: &mut [i64; CELL]) -> u32
+    ensures value { result ≡ verdict_number (accepted imaginary) }
+    ensures out_after { out.new ≡ answer_words (accepted imaginary) }
 {
-    answer(unary_answer(f, read_operand(x)), out)
+    answer(Ok(Scalar::i()), out)
 }
 
-pub fn write_binary(f: Binary, x: &[i64; CELL], y: &[i64; CELL], out: &mut [i64; CELL]) -> u32
-    ensures value { result ≡ verdict_number (binary_answer f (operand x.now) (operand y.now)).verdict }
-    ensures out_after { out.new ≡ answer_words (binary_answer f (operand x.now) (operand y.now)) }
+// √2 / 2
+pub fn inv_sqrt_two(out: &mut [i64; CELL]) -> u32
+    ensures value { result ≡ verdict_number (accepted inv_sqrt_two) }
+    ensures out_after { out.new ≡ answer_words (accepted inv_sqrt_two) }
 {
-    answer(binary_answer(f, read_operand(x), read_operand(y)), out)
+    answer(Ok(Scalar::inv_sqrt_two()), out)
+}
+
+// ((1 + i) / √2)^(k mod 8)
+pub fn omega(k: u32, out: &mut [i64; CELL]) -> u32
+    ensures value { result ≡ verdict_number (accepted (omega k)) }
+    ensures out_after { out.new ≡ answer_words (accepted (omega k)) }
+{
+    answer(Ok(Scalar::omega(k)), out)
+}
+
+// −x
+pub fn neg(x: &[i64; CELL], out: &mut [i64; CELL]) -> u32
+    ensures value { result ≡ verdict_number (neg_answer (operand x.now)) }
+    ensures out_after { out.new ≡ answer_words (neg_answer (operand x.now)) }
+{
+    answer(read_operand(x).neg(), out)
+}
+
+// The conjugate of x.
+pub fn conj(x: &[i64; CELL], out: &mut [i64; CELL]) -> u32
+    ensures value { result ≡ verdict_number (conj_answer (operand x.now)) }
+    ensures out_after { out.new ≡ answer_words (conj_answer (operand x.now)) }
+{
+    answer(read_operand(x).conj(), out)
+}
+
+// x / 2
+pub fn half(x: &[i64; CELL], out: &mut [i64; CELL]) -> u32
+    ensures value { result ≡ verdict_number (half_answer (operand x.now)) }
+    ensures out_after { out.new ≡ answer_words (half_answer (operand x.now)) }
+{
+    answer(read_operand(x).half(), out)
+}
+
+// x + y
+pub fn add(x: &[i64; CELL], y: &[i64; CELL], out: &mut [i64; CELL]) -> u32
+    ensures value { result ≡ verdict_number (add_answer (operand x.now) (operand y.now)) }
+    ensures out_after { out.new ≡ answer_words (add_answer (operand x.now) (operand y.now)) }
+{
+    answer(read_operand(x).add(read_operand(y)), out)
+}
+
+// x·y
+pub fn mul(x: &[i64; CELL], y: &[i64; CELL], out: &mut [i64; CELL]) -> u32
+    ensures value { result ≡ verdict_number (mul_answer (operand x.now) (operand y.now)) }
+    ensures out_after { out.new ≡ answer_words (mul_answer (operand x.now) (operand y.now)) }
+{
+    answer(read_operand(x).mul(read_operand(y)), out)
 }

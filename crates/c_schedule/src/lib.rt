@@ -20,5 +20,5 @@ pub fn judge_schedule(
     ensures index_after { index.new ≡ verdict_index (schedule_verdict qubits bits old.now new.now table.now) }
 {
     let v = schedule::judge_schedule(qubits, bits, old, new, table);
-    report(v, index)
+    report(&v, index)
 }

@@ -1,28 +1,28 @@
 // The calls of the C interface on what texts say, and on the words of an answer.
 #![tactic(auto)]
 
-ghost use Rattle.std.specs.Prelude.{◌≡◌, ◌++◌};
-ghost use Rattle.verdict.specs.Verdict.{verdict_number};
+ghost use Rattle.std.specs.Prelude.{◌≡◌};
 ghost use Rattle.text.specs.Page.{page, write};
 ghost use Rattle.answers.specs.Numbers.{number_text};
 ghost use Rattle.answers.specs.States.{store_bits, entry_text};
-ghost use Rattle.judge_texts.specs.Call.{answer_of, left_number, right_number, text_of, gates_after, first_after, second_after, work_after_both};
-ghost use Rattle.text_channel.specs.Only.{only_refusal, only_text, only_gates, only_result, only_work};
+ghost use Rattle.judge_texts.specs.Call.{answer_of, text_of, gates_after, first_after, second_after, work_after_both};
+ghost use Rattle.text_channel.specs.Only.{only_reply, only_text, only_gates, only_result, only_work};
 ghost use Rattle.c_words.specs.Words.{operand};
-ghost use Rattle.c_channels.specs.Channels.{place_words, two_scalars};
+ghost use Rattle.c_channels.specs.Channels.{scalar_words};
 ghost use Rattle.c_circuits.specs.Circuits.{limits_of};
-ghost use Rattle.c_texts.specs.Answers.{answer_number, zeros, refusal_numbers, answer_numbers};
+ghost use Rattle.c_texts.specs.Answers.{answer_number, entry_of, fault_numbers, answer_numbers, reply_number, reply_numbers};
 
-use answer_lines::Refusal;
+use answer_lines::Fault;
 use answers::numbers::put_number;
 use answers::states::{put_bra_ket, put_store};
-use c_channels::{finding_number, two_scalars};
+use c_channels::{difference, finding_number, place_words, scalar_words};
 use c_circuits::read_limits;
 use c_words::read_operand;
 use c_words::replies::{LEFT_REFUSED, RIGHT_REFUSED};
 use cells::CELL;
-use channel::compare::Found;
+use channel::compare::Difference;
 use judge_texts::Answer;
+use verdict::{index, number};
 
 // The number of the refusal of a room that is too small.
 const SHORT: u32 = 8;
@@ -34,47 +34,46 @@ fn answer_number(a: Answer) -> u32
         Answer::NoRoom => SHORT,
         Answer::Left(_) => LEFT_REFUSED,
         Answer::Right(_) => RIGHT_REFUSED,
-        Answer::Compared(f) => finding_number(f),
+        Answer::Compared(found) => finding_number(&found),
+    }
+}
+
+// The entry that differs, if one does.
+fn entry_of(a: Answer) -> Option<Difference>
+    ensures { result ≡ entry_of a }
+{
+    match a {
+        Answer::Compared(found) => difference(&found),
+        _ => None,
     }
 }
 
 // The number and index of the verdict, the byte's position, line and column, and how many gates there are.
-fn refusal_numbers(r: Refusal) -> [u64; 6]
-    ensures { result ≡ refusal_numbers r }
+fn fault_numbers(f: Fault) -> [u64; 6]
+    ensures { result ≡ fault_numbers f }
 {
-    let v = r.verdict;
-    let number = v.number();
-    let index = v.index();
     [
-        number as u64,
-        index as u64,
-        r.position as u64,
-        r.line as u64,
-        r.column as u64,
-        r.gates as u64,
+        number(&f.verdict) as u64,
+        index(&f.verdict) as u64,
+        f.position as u64,
+        f.line as u64,
+        f.column as u64,
+        f.gates as u64,
     ]
 }
 
-// The store, row and column of an entry that differs.
-fn found_numbers(f: Found) -> [u64; 6]
-    ensures { result ≡ place_words f ++ zeros }
-{
-    match f {
-        Found::Refused(_) => [0; 6],
-        Found::Same => [0; 6],
-        Found::Dimensions => [0; 6],
-        Found::Entry(p) => [p.store, p.row as u64, p.col as u64, 0, 0, 0],
-    }
-}
-
+// Those of a refusal; else the store, row and column of an entry that differs.
 fn answer_numbers(a: Answer) -> [u64; 6]
     ensures { result ≡ answer_numbers a }
 {
     match a {
         Answer::NoRoom => [0; 6],
-        Answer::Left(r) => refusal_numbers(r),
-        Answer::Right(r) => refusal_numbers(r),
-        Answer::Compared(f) => found_numbers(f),
+        Answer::Left(fault) => fault_numbers(fault),
+        Answer::Right(fault) => fault_numbers(fault),
+        Answer::Compared(found) => {
+            let [store, row, column] = place_words(difference(&found));
+            [store, row, column, 0, 0, 0]
+        }
     }
 }
 
@@ -97,9 +96,8 @@ pub fn judge_texts(
         (answer_of left.now right.now store.now (limits_of limits.now) gates.old first.old second.old work.old answer.old) }
     ensures numbers_after { numbers.new ≡ answer_numbers
         (answer_of left.now right.now store.now (limits_of limits.now) gates.old first.old second.old work.old answer.old) }
-    ensures scalars_after { scalars.new ≡ two_scalars
-        (left_number left.now right.now store.now (limits_of limits.now) gates.old first.old second.old work.old answer.old)
-        (right_number left.now right.now store.now (limits_of limits.now) gates.old first.old second.old work.old answer.old) }
+    ensures scalars_after { scalars.new ≡ scalar_words (entry_of
+        (answer_of left.now right.now store.now (limits_of limits.now) gates.old first.old second.old work.old answer.old)) }
     ensures bytes_after { page answer.new bytes.new ≡ write (page answer.old 0)
         (text_of left.now right.now store.now (limits_of limits.now) gates.old first.old second.old work.old answer.old) }
     ensures gates_after { gates.new ≡
@@ -113,13 +111,10 @@ pub fn judge_texts(
 {
     let l = read_limits(limits);
     let j = judge_texts::judge_texts(left, right, store, l, gates, first, second, work, answer);
-    let a = j.answer;
-    let x = j.left;
-    let y = j.right;
     *bytes = j.bytes;
-    *numbers = answer_numbers(a);
-    *scalars = two_scalars(x, y);
-    answer_number(a)
+    *numbers = answer_numbers(j.answer);
+    *scalars = scalar_words(entry_of(j.answer));
+    answer_number(j.answer)
 }
 
 // The channel of the circuit in a text: the verdict's number, the numbers of its refusal, and how many bytes of `answer` say it.
@@ -134,8 +129,8 @@ pub fn text_channel(
     bytes: &mut usize,
     numbers: &mut [u64; 6],
 ) -> u32
-    ensures value { result ≡ verdict_number (only_refusal text.now store.now (limits_of limits.now) gates.old res.old work.old answer.old).verdict }
-    ensures numbers_after { numbers.new ≡ refusal_numbers (only_refusal text.now store.now (limits_of limits.now) gates.old res.old work.old answer.old) }
+    ensures value { result ≡ reply_number (only_reply text.now store.now (limits_of limits.now) gates.old res.old work.old answer.old) }
+    ensures numbers_after { numbers.new ≡ reply_numbers (only_reply text.now store.now (limits_of limits.now) gates.old res.old work.old answer.old) }
     ensures bytes_after { page answer.new bytes.new ≡ write (page answer.old 0)
         (only_text text.now store.now (limits_of limits.now) gates.old res.old work.old answer.old) }
     ensures gates_after { gates.new ≡ only_gates text.now store.now (limits_of limits.now) gates.old res.old work.old answer.old }
@@ -143,20 +138,25 @@ pub fn text_channel(
     ensures work_after { work.new ≡ only_work text.now store.now (limits_of limits.now) gates.old res.old work.old answer.old }
 {
     let l = read_limits(limits);
-    let d = text_channel::text_channel(text, store, l, gates, res, work, answer);
-    let r = d.refusal;
-    let v = r.verdict;
-    *bytes = d.bytes;
-    *numbers = refusal_numbers(r);
-    v.number()
+    match text_channel::text_channel(text, store, l, gates, res, work, answer) {
+        Ok(()) => {
+            *bytes = 0;
+            *numbers = [0; 6];
+            0
+        }
+        Err(refused) => {
+            *bytes = refused.bytes;
+            *numbers = fault_numbers(refused.fault);
+            number(&refused.fault.verdict)
+        }
+    }
 }
 
 // A scalar as mathematics writes it: how many bytes were put into `out`.
 pub fn number_text(x: &[i64; CELL], out: &mut [u8]) -> usize
     ensures { page out.new result ≡ write (page out.old 0) (number_text (operand x.now)) }
 {
-    let s = read_operand(x);
-    put_number(out, 0, s)
+    put_number(out, 0, read_operand(x))
 }
 
 // Row and column of a Choi block on so many qubits, as the input and the output that they mean.

@@ -10,7 +10,7 @@ ghost use Rattle.c_words.specs.Words.{exponent_of, operand};
 use cells::{CELL, write_cell};
 use exact::MAX_EXPONENT;
 use scalar::Scalar;
-use verdict::Verdict;
+use verdict::Refusal;
 
 pub mod replies;
 
@@ -18,23 +18,17 @@ pub mod replies;
 fn read_exponent(e: i64) -> u32
     ensures { result ≡ exponent_of e }
 {
-    if e < 0 {
-        return MAX_EXPONENT + 1;
+    if (0..=i64::from(MAX_EXPONENT)).contains(&e) {
+        e as u32
+    } else {
+        MAX_EXPONENT + 1
     }
-    if (MAX_EXPONENT as i64) < e {
-        return MAX_EXPONENT + 1;
-    }
-    e as u32
 }
 
 pub fn read_operand(x: &[i64; CELL]) -> Scalar
     ensures { result ≡ scalar_of (operand x.now) }
 {
-    let a = x[0];
-    let b = x[1];
-    let c = x[2];
-    let d = x[3];
-    let e = x[4];
+    let [a, b, c, d, e] = *x;
     Scalar {
         n: [a, b, c, d],
         e: read_exponent(e),
@@ -49,12 +43,11 @@ pub fn scalar_words(s: Scalar) -> [i64; CELL]
     words
 }
 
-// Write a verdict's index; its number.
-pub fn report(v: Verdict, index: &mut u64) -> u32
-    ensures value { result ≡ verdict_number v }
-    ensures index_after { index.new ≡ verdict_index v }
+// Write the index of an answer's refusal; its number. Both are 0 where the call was accepted.
+pub fn report<T>(answer: &Result<T, Refusal>, index: &mut u64) -> u32
+    ensures value { result ≡ verdict_number answer.now }
+    ensures index_after { index.new ≡ verdict_index answer.now }
 {
-    let i = v.index();
-    *index = i as u64;
-    v.number()
+    *index = verdict::index(answer) as u64;
+    verdict::number(answer)
 }

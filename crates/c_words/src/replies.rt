@@ -1,4 +1,5 @@
 // The numbers of replies that are no verdicts.
+// Kept: they are the C interface's.
 pub const SAME: u32 = 100;
 
 pub const DIMENSIONS: u32 = 101;

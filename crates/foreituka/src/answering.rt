@@ -1,16 +1,15 @@
 // Two texts judged, the channel of one, the words of an answer, and the listing of a circuit given by numbers.
 ghost use Rattle.std.specs.Prelude.{◌≡◌};
-ghost use Rattle.verdict.specs.Verdict.{verdict_number};
 ghost use Rattle.text.specs.Page.{page, write};
 ghost use Rattle.answers.specs.Numbers.{number_text};
 ghost use Rattle.answers.specs.States.{store_bits, entry_text};
 ghost use Rattle.judge_texts.specs.Call as both;
-ghost use Rattle.text_channel.specs.Only.{only_refusal, only_text, only_gates, only_result, only_work};
+ghost use Rattle.text_channel.specs.Only.{only_reply, only_text, only_gates, only_result, only_work};
 ghost use Rattle.listing.specs.Answer as listed;
 ghost use Rattle.c_words.specs.Words.{operand};
-ghost use Rattle.c_channels.specs.Channels.{two_scalars};
+ghost use Rattle.c_channels.specs.Channels.{scalar_words};
 ghost use Rattle.c_circuits.specs.Circuits.{limits_of};
-ghost use Rattle.c_texts.specs.Answers.{answer_number, refusal_numbers, answer_numbers};
+ghost use Rattle.c_texts.specs.Answers.{answer_number, entry_of, answer_numbers, reply_number, reply_numbers};
 
 // Judges two texts: a number for the answer, six numbers behind it, both scalars of an entry that differs, and how many bytes of `answer` say it.
 #[unsafe(no_mangle)]
@@ -34,9 +33,8 @@ pub extern "C" fn foreituka_judge_texts(
         answer_numbers
         (both.answer_of left.now right.now store.now (limits_of limits.now) gates.old first.old second.old work.old answer.old) }
     ensures scalars_after { scalars.new ≡
-        two_scalars
-        (both.left_number left.now right.now store.now (limits_of limits.now) gates.old first.old second.old work.old answer.old)
-        (both.right_number left.now right.now store.now (limits_of limits.now) gates.old first.old second.old work.old answer.old) }
+        scalar_words
+        (entry_of (both.answer_of left.now right.now store.now (limits_of limits.now) gates.old first.old second.old work.old answer.old)) }
     ensures bytes_after { page answer.new bytes.new ≡
         write (page answer.old 0)
         (both.text_of left.now right.now store.now (limits_of limits.now) gates.old first.old second.old work.old answer.old) }
@@ -67,8 +65,8 @@ pub extern "C" fn foreituka_text_channel(
     bytes: &mut usize,
     numbers: &mut [u64; 6],
 ) -> u32
-    ensures value { result ≡ verdict_number (only_refusal text.now store.now (limits_of limits.now) gates.old res.old work.old answer.old).verdict }
-    ensures numbers_after { numbers.new ≡ refusal_numbers (only_refusal text.now store.now (limits_of limits.now) gates.old res.old work.old answer.old) }
+    ensures value { result ≡ reply_number (only_reply text.now store.now (limits_of limits.now) gates.old res.old work.old answer.old) }
+    ensures numbers_after { numbers.new ≡ reply_numbers (only_reply text.now store.now (limits_of limits.now) gates.old res.old work.old answer.old) }
     ensures bytes_after { page answer.new bytes.new ≡ write (page answer.old 0)
         (only_text text.now store.now (limits_of limits.now) gates.old res.old work.old answer.old) }
     ensures gates_after { gates.new ≡ only_gates text.now store.now (limits_of limits.now) gates.old res.old work.old answer.old }

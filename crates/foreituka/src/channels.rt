@@ -4,7 +4,7 @@ ghost use Rattle.verdict.specs.Verdict.{verdict_number};
 ghost use Rattle.channel.specs.Compare.{compare_of};
 ghost use Rattle.channel.specs.Lookup.{lookup_of, span_of};
 ghost use Rattle.effects.specs.Effects.{effects_verdict, result_of, povm_of};
-ghost use Rattle.c_channels.specs.Channels.{finding_number, place_words, two_scalars};
+ghost use Rattle.c_channels.specs.Channels.{finding_number, difference, place_words, scalar_words, start_of};
 
 use cells::CELL;
 
@@ -16,9 +16,9 @@ pub extern "C" fn foreituka_compare(
     place: &mut [u64; 3],
     scalars: &mut [i64; 2 * CELL],
 ) -> u32
-    ensures value { result ≡ finding_number (compare_of left.now right.now).found }
-    ensures place_after { place.new ≡ place_words (compare_of left.now right.now).found }
-    ensures scalars_after { scalars.new ≡ two_scalars (compare_of left.now right.now).left (compare_of left.now right.now).right }
+    ensures value { result ≡ finding_number (compare_of left.now right.now) }
+    ensures place_after { place.new ≡ place_words (difference (compare_of left.now right.now)) }
+    ensures scalars_after { scalars.new ≡ scalar_words (difference (compare_of left.now right.now)) }
 {
     c_channels::compare(left, right, place, scalars)
 }
@@ -41,10 +41,10 @@ pub extern "C" fn foreituka_povm_effects(channel: &[i64], res: &mut [i64]) -> u3
     c_channels::povm_effects(channel, res)
 }
 
-// The index of the first entry of a store's block, or 0 where there is none.
+// The index of a store's block, its exponent and then its numerators, or 0 where there is none.
 #[unsafe(no_mangle)]
 pub extern "C" fn foreituka_lookup(channel: &[i64], store: &[u8]) -> usize
-    ensures { result ≡ (span_of channel.now (lookup_of channel.now store.now)).start }
+    ensures { result ≡ start_of (span_of channel.now (lookup_of channel.now store.now)) }
 {
     c_channels::lookup(channel, store)
 }

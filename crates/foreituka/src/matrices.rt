@@ -11,7 +11,7 @@ pub extern "C" fn foreituka_equivalent_up_to_global_phase(
     right_dim: usize,
     right: &[i64],
 ) -> u32
-    ensures { result ≡ phase_number (phase_answer left_dim left.now right_dim right.now).verdict (phase_answer left_dim left.now right_dim right.now).phase }
+    ensures { result ≡ phase_number (phase_answer left_dim left.now right_dim right.now) }
 {
     c_matrices::equivalent_up_to_global_phase(left_dim, left, right_dim, right)
 }

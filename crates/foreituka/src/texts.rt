@@ -1,9 +1,10 @@
 // read_qasm and write_qasm.
 ghost use Rattle.std.specs.Prelude.{◌≡◌};
+ghost use Rattle.std.specs.Result.{result_unwrap_or};
 ghost use Rattle.verdict.specs.Verdict.{verdict_number, verdict_index};
 ghost use Rattle.qasm.specs.Reading.{read_of, filled};
-ghost use Rattle.qasm_writer.specs.Call.{write_verdict, write_reply, room_after};
-ghost use Rattle.c_qasm.specs.Texts.{reading_of, count_words};
+ghost use Rattle.qasm_writer.specs.Call.{write_reply, room_after};
+ghost use Rattle.c_qasm.specs.Texts.{reading_of, number_of, count_words, words_in, position_in};
 
 // A circuit read from its text: the verdict's number, both counts in `counts`, how many words its gates have in `words`, and the place of a fault in `position`.
 #[unsafe(no_mangle)]
@@ -14,11 +15,11 @@ pub extern "C" fn foreituka_read_qasm(
     words: &mut usize,
     position: &mut usize,
 ) -> u32
-    ensures value { result ≡ verdict_number (reading_of text.now gates.old).verdict }
+    ensures value { result ≡ number_of (reading_of text.now gates.old) }
     ensures gates_after { gates.new ≡ filled gates.old (read_of text.now) }
     ensures counts_after { counts.new ≡ count_words (reading_of text.now gates.old) }
-    ensures words_after { words.new ≡ (reading_of text.now gates.old).words }
-    ensures position_after { position.new ≡ (reading_of text.now gates.old).position }
+    ensures words_after { words.new ≡ words_in (reading_of text.now gates.old) }
+    ensures position_after { position.new ≡ position_in (reading_of text.now gates.old) }
 {
     c_qasm::read_qasm(text, gates, counts, words, position)
 }
@@ -33,10 +34,10 @@ pub extern "C" fn foreituka_write_qasm(
     bytes: &mut usize,
     index: &mut u64,
 ) -> u32
-    ensures value { result ≡ verdict_number (write_verdict qubits bits gates.now out.old) }
+    ensures value { result ≡ verdict_number (write_reply qubits bits gates.now out.old) }
     ensures out_after { out.new ≡ room_after qubits bits gates.now out.old }
-    ensures bytes_after { bytes.new ≡ (write_reply qubits bits gates.now out.old).bytes }
-    ensures index_after { index.new ≡ verdict_index (write_verdict qubits bits gates.now out.old) }
+    ensures bytes_after { bytes.new ≡ result_unwrap_or (write_reply qubits bits gates.now out.old) 0 }
+    ensures index_after { index.new ≡ verdict_index (write_reply qubits bits gates.now out.old) }
 {
     c_qasm::write_qasm(qubits, bits, gates, out, bytes, index)
 }

@@ -1,10 +1,11 @@
 // compare_list.
 ghost use Rattle.std.specs.Prelude.{◌≡◌};
+ghost use Rattle.std.specs.Result.{result_unwrap_or};
 ghost use Rattle.verdict.specs.Verdict.{verdict_number, verdict_index};
 ghost use Rattle.c_circuits.specs.Circuits.{limits_of};
 ghost use Rattle.compare_list.specs.Call.{reply_of, answers_after, scalars_after, cleared};
 
-// Compares the pairs of a list under one allowance: the verdict's number, its index in `index`, and the sum of what is spent in `total`.
+// Compares the pairs of a list under one allowance: the verdict's number, its index in `index`, and the sum of what is spent in `total`, 0 where the list is refused.
 #[unsafe(no_mangle)]
 pub extern "C" fn foreituka_compare_list(
     count: usize,
@@ -21,11 +22,11 @@ pub extern "C" fn foreituka_compare_list(
     index: &mut u64,
 ) -> u32
     ensures value { result ≡
-        verdict_number (reply_of count words.now stores.now (limits_of limits.now) allowance left.old right.old work.old answers.old scalars.old).verdict }
+        verdict_number (reply_of count words.now stores.now (limits_of limits.now) allowance left.old right.old work.old answers.old scalars.old) }
     ensures index_after { index.new ≡
-        verdict_index (reply_of count words.now stores.now (limits_of limits.now) allowance left.old right.old work.old answers.old scalars.old).verdict }
-    ensures total_after { total.new ≡
-        (reply_of count words.now stores.now (limits_of limits.now) allowance left.old right.old work.old answers.old scalars.old).total }
+        verdict_index (reply_of count words.now stores.now (limits_of limits.now) allowance left.old right.old work.old answers.old scalars.old) }
+    ensures total_after { total.new ≡ result_unwrap_or
+        (reply_of count words.now stores.now (limits_of limits.now) allowance left.old right.old work.old answers.old scalars.old) 0 }
     ensures answers_after { answers.new ≡
         answers_after count words.now stores.now (limits_of limits.now) allowance left.old right.old work.old answers.old scalars.old }
     ensures scalars_after { scalars.new ≡

@@ -1,7 +1,0 @@
--- `place_words` meets its contract.
-use mathlib.Core.Path.{ap, sym}
-use Rattle.c_channels.specs.Channels.{place_words}
-use Rattle.c_channels.proofs.place_words.Goals as goal
-
-pub returns-in-Entry : goal.returns-in-Entry
-returns-in-Entry c = ap place_words (sym c.in-Entry.is)
