@@ -7,7 +7,7 @@ use judge_texts::judge_texts;
 use replay::input::read_full;
 use replay::lines::read_line;
 use replay::numeral::read;
-use replay::words::{fitting, read_bytes};
+use replay::words::{fitting, read_numbers};
 use std::io;
 use text_channel::MAX_ANSWER;
 
@@ -23,12 +23,11 @@ fn judge_pair(rt: &impl Print, store: &[u8], left: &[u8], right: &[u8]) -> io::R
     let mut second = [0i64; 5200];
     let mut work = [0i64; 3000];
     let mut out = [0u8; MAX_ANSWER];
-    let limits = Limits::defaults();
     let j = judge_texts(
         left,
         right,
         store,
-        limits,
+        Limits::defaults(),
         &mut gates,
         &mut first,
         &mut second,
@@ -43,15 +42,10 @@ fn judge_pair(rt: &impl Print, store: &[u8], left: &[u8], right: &[u8]) -> io::R
 // The pair that begins at `at`: where the next one begins.
 fn turn(rt: &impl Print, text: &[u8], at: usize) -> io::Result<usize> {
     let mut store = [0u8; BITS];
-    let given = read_bytes(text, at, &mut store);
+    let given = read_numbers(text, at, &mut store);
     let left = read_line(text, given.next);
     let right = read_line(text, left.next);
-    let n = given.len;
-    let a = left.start;
-    let b = left.end;
-    let c = right.start;
-    let d = right.end;
-    judge_pair(rt, &store[..n], &text[a..b], &text[c..d])?;
+    judge_pair(rt, given.words, left.bytes, right.bytes)?;
     Ok(right.next)
 }
 
@@ -59,9 +53,7 @@ fn turn(rt: &impl Print, text: &[u8], at: usize) -> io::Result<usize> {
 fn judge_all(rt: &impl Print, text: &[u8]) -> io::Result<()> {
     let count = read(text, 0);
     let mut at = count.next;
-    let mut rest = count.size;
-    while 0 < rest {
-        rest -= 1;
+    for _ in 0..count.size {
         at = turn(rt, text, at)?;
     }
     Ok(())

@@ -1,13 +1,14 @@
 -- Laws of words read into lent slices: one word more, and the last.
 use mathlib.Core.Path.{◌≡◌, refl, sym, ap, ◌∙◌}
-use mathlib.Core.List.{List}
-use Prim.Native.Nat.{ℕ, zero, suc, ◌+◌, ◌-◌, ◌%◌, ◌≤◌, ◌<◌, min}
+use mathlib.Core.List.{List, [], ◌∷◌, ◌++◌, append_assoc, append-nil}
+use Prim.Native.Nat.{ℕ, zero, suc, ◌+◌, ◌-◌, ◌≤◌, ◌<◌}
 use native.Mathlib.Omega.{arith}
-use lib.ListN.{length, set, length-set}
+use lib.ListN.{length, set, take, length-set}
 use lib.IntN.{ℤ}
+use Rattle.std.proofs.lemmas.List.{take_more_set}
 use Rattle.replay.specs.declared.numeral.Word.{Word}
 use Rattle.replay.specs.Numerals.{word_at, word_no}
-use Rattle.replay.specs.Words.{filled, placed, numbers, numbers_at}
+use Rattle.replay.specs.Words.{Filled, filled, placed, numbers}
 use Rattle.replay.proofs.Reading.{following}
 
 module _ (t : List ℕ) where
@@ -17,52 +18,53 @@ module _ (t : List ℕ) where
   placed_end zero at l h = refl
   placed_end (suc n) at l h = absurd (omega arith)
 
-  placed-step : (n at : ℕ) (l : List ℤ) → 0 < n → placed t n at l ≡ placed t (n - 1) (word_no t at 1).next (set l (word_no t at 0).size (word_no t at 1).value)
+  placed-step : (n k at : ℕ) (l : List ℤ) → n ≡ suc k → placed t n at l ≡ placed t k (word_no t at 1).next (set l (word_no t at 0).size (word_no t at 1).value)
   unfolding placed
-  placed-step zero at l h = absurd (omega arith)
-  placed-step (suc n) at l h = ap (λ (k : ℕ). placed t k (word_no t at 1).next (set l (word_no t at 0).size (word_no t at 1).value)) less
-    where
-      less : n ≡ suc n - 1
-      less = omega arith
+  placed-step n k at l e = ap (λ (j : ℕ). placed t j at l) e
 
-  pub placed-more : (n at : ℕ) (l : List ℤ) {p w : Word} {m : List ℤ} → 0 < n → p ≡ word_at t at → w ≡ word_at t p.next → m ≡ set l p.size w.value → placed t n at l ≡ placed t (n - 1) w.next m
-  placed-more n at l {p} {w} {m} h a b e =
+  pub placed-more : (n k at : ℕ) (l : List ℤ) {p w : Word} {m : List ℤ} → n ≡ suc k → p ≡ word_at t at → w ≡ word_at t p.next → m ≡ set l p.size w.value → placed t n at l ≡ placed t k w.next m
+  placed-more n k at l {p} {w} {m} h a b e =
       let q : w ≡ word_no t at 1 = following t at 0 a b in
       let r : m ≡ set l (word_no t at 0).size (word_no t at 1).value = e ∙ (λ i. set l (a i).size (q i).value) in
-      placed-step n at l h ∙ sym (λ i. placed t (n - 1) (q i).next (r i))
+      placed-step n k at l h ∙ sym (λ i. placed t k (q i).next (r i))
 
--- ---- numbers one after the other: of n numbers behind the count at `at`, i are in b, which was l
-module _ (m : ℕ) (t : List ℕ) where
-  numbers-end : (n i at : ℕ) (l : List ℕ) → n ≤ 0 → numbers m t n i at l ≡ filled l at
+-- ---- numbers one after the other: of n numbers from `from` on, i are in b, and the next begins at `next`
+module _ {A : Type 0} (low : ℕ → A) (t : List ℕ) where
+  numbers-end : (n at : ℕ) → n ≤ 0 → numbers low t n at ≡ filled [] at
   unfolding numbers
-  numbers-end zero i at l h = refl
-  numbers-end (suc n) i at l h = absurd (omega arith)
+  numbers-end zero at h = refl
+  numbers-end (suc n) at h = absurd (omega arith)
 
-  numbers-step : (n k i at : ℕ) (l : List ℕ) → n ≡ suc k → numbers m t n i at l ≡ numbers m t k (i + 1) (word_at t at).next (set l i ((word_at t at).size % m))
+  numbers-step : (n k at : ℕ) → n ≡ suc k
+      → numbers low t n at ≡ filled (low (word_at t at).size ∷ (numbers low t k (word_at t at).next).words) (numbers low t k (word_at t at).next).next
   unfolding numbers
-  numbers-step n k i at l e = ap (λ (j : ℕ). numbers m t j i at l) e
+  numbers-step n k at e = ap (λ (j : ℕ). numbers low t j at) e
 
-  module _ (at : ℕ) (l : List ℕ) (n : ℕ) where
-    pub record Numbers (b : List ℕ) (next i : ℕ) : Type 0 where
-      pub room : n ≤ length l
-      pub long : length b ≡ length l
-      pub is : numbers_at m t at l ≡ numbers m t (n - i) i next b
+  module _ (from n : ℕ) where
+    pub record Numbers (b : List A) (next i : ℕ) : Type 0 where
+      pub room : n ≤ length b
+      pub is : numbers low t n from ≡ filled (take i b ++ (numbers low t (n - i) next).words) (numbers low t (n - i) next).next
 
-    pub none_yet : {w : Word} → w ≡ word_at t at → n ≡ min w.size (length l) → Numbers l w.next 0
-    none_yet {w} e p =
-        let q : n - 0 ≡ min w.size (length l) = omega arith in
-        let r : n - 0 ≡ min (word_at t at).size (length l) = q ∙ ap (λ (v : Word). min v.size (length l)) e in
-        record { room = omega arith; long = refl; is = sym (λ k. numbers m t (r k) 0 (e k).next l) }
+    pub none_yet : (l : List A) → n ≤ length l → Numbers l from 0
+    none_yet l h = let q : n ≡ n - 0 = omega arith in record { room = h; is = ap (λ (k : ℕ). numbers low t k from) q }
 
-    module _ {b : List ℕ} {next i : ℕ} (h : Numbers b next i) where
-      pub one_more : {w : Word} {x : ℕ} → i < n → w ≡ word_at t next → x ≡ w.size % m → Numbers (set b i x) w.next (i + 1)
+    module _ {b : List A} {next i : ℕ} (h : Numbers b next i) where
+      pub one_more : {w : Word} {x : A} → i < n → w ≡ word_at t next → x ≡ low w.size → Numbers (set b i x) w.next (i + 1)
       one_more {w} {x} g e p =
-          let r : x ≡ (word_at t next).size % m = p ∙ ap (λ (v : Word). v.size % m) e in
+          let others : List A = (numbers low t (n - (i + 1)) w.next).words in
+          let r : low (word_at t next).size ≡ x = sym (p ∙ ap (λ (v : Word). low v.size) e) in
+          let step : numbers low t (n - i) next ≡ filled (x ∷ others) (numbers low t (n - (i + 1)) w.next).next =
+          numbers-step (n - i) (n - (i + 1)) next (omega arith)
+          ∙ (λ j. filled (r j ∷ (numbers low t (n - (i + 1)) (sym e j).next).words) (numbers low t (n - (i + 1)) (sym e j).next).next) in
+          let read : take i b ++ x ∷ others ≡ take (i + 1) (set b i x) ++ others =
+          sym (ap (λ (l : List A). l ++ others) (take_more_set b i x (omega (arith, h.room))) ∙ append_assoc (take i b) (x ∷ []) others) in
           record {
-            room = h.room;
-            long = length-set b i x ∙ h.long;
-            is = h.is ∙ numbers-step (n - i) (n - (i + 1)) i next b (omega arith) ∙ sym (λ k. numbers m t (n - (i + 1)) (i + 1) (e k).next (set b i (r k)));
+            room = omega (arith, h.room, length-set b i x);
+            is = h.is ∙ (λ j. filled (take i b ++ (step j).words) (step j).next) ∙ (λ j. filled (read j) (numbers low t (n - (i + 1)) w.next).next);
           }
 
-      pub all_read : n ≤ i → numbers_at m t at l ≡ filled b next
-      all_read g = h.is ∙ numbers-end (n - i) i next b (omega arith)
+      pub all_read : n ≤ i → i ≤ n → numbers low t n from ≡ filled (take n b) next
+      all_read g f =
+          let e : i ≡ n = omega arith in
+          let z : numbers low t (n - i) next ≡ filled [] next = numbers-end (n - i) next (omega arith) in
+          h.is ∙ (λ j. filled (take (e j) b ++ (z j).words) (z j).next) ∙ (λ j. filled (append-nil (take n b) j) next)

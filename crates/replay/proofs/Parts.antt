@@ -8,9 +8,6 @@ use lib.Dec.{leb}
 use lib.ListN.{length, take, drop, drop_of_length-le, length-drop}
 use lib.Seq.{take_all, take-nil}
 use borrow.Author.Tests.{leb-true, leb-false}
-use Rattle.replay.specs.declared.lines.Line.{Line}
-use Rattle.replay.specs.Numerals.{word_at}
-use Rattle.replay.specs.Lines.{line_at, line_bytes}
 
 -- as many places as fit behind a place that fits
 pub fitted : (n k most : ℕ) {s z : ℕ} → s ≡ min n most → z ≡ min k (most - s) → s + z ≡ min (n + k) most
@@ -26,7 +23,7 @@ take-fitting {A} k n l e = by (leb n (length l)) refl
     by true q = let h = leb-true n (length l) q in let p : k ≡ n = omega arith in ap (λ (j : ℕ). take j l) p
     by false q = let h = leb-false n (length l) q in take_all k l (omega arith) ∙ sym (take_all n l (omega arith))
 
-part_is : (t : List ℕ) (at n : ℕ) → take (min (at + n) (length t) - min at (length t)) (drop (min at (length t)) t) ≡ take n (drop at t)
+pub part_is : (t : List ℕ) (at n : ℕ) → take (min (at + n) (length t) - min at (length t)) (drop (min at (length t)) t) ≡ take n (drop at t)
 part_is t at n = by (leb at (length t)) refl
   where
     by : (b : Bool) → leb at (length t) ≡ b → take (min (at + n) (length t) - min at (length t)) (drop (min at (length t)) t) ≡ take n (drop at t)
@@ -39,6 +36,3 @@ part_is t at n = by (leb at (length t)) refl
         let h = leb-false at (length t) q in
         ap (take (min (at + n) (length t) - min at (length t))) (drop_of_length-le t {i = min at (length t)} (omega arith)) ∙ take-nil (min (at + n) (length t) - min at (length t))
         ∙ sym (ap (take n) (drop_of_length-le t {i = at} (omega arith)) ∙ take-nil n)
-
-pub line_is : (t : List ℕ) (at : ℕ) {l : Line} → l ≡ line_at t at → take (l.end - l.start) (drop l.start t) ≡ line_bytes t at
-line_is t at e = (λ i. take ((e i).end - (e i).start) (drop (e i).start t)) ∙ part_is t (word_at t at).next (word_at t at).size

@@ -1,7 +1,7 @@
--- Laws of a text's numbers: a byte more, where a number ends; and of a list that is folded place by place.
+-- Laws of a text's numbers: a byte more, where a number ends.
 use mathlib.Core.Path.{◌≡◌, refl, sym, ap, ◌∙◌, subst}
 use mathlib.Core.Bool.{Bool, true, false, cond}
-use mathlib.Core.List.{List, [], ◌∷◌, foldl}
+use mathlib.Core.List.{List, [], ◌∷◌}
 use Prim.Native.Nat.{ℕ, suc, ◌+◌, ◌≤◌, ◌<◌}
 use Prim.Native.Char.{code}
 use native.Mathlib.Numerals.{add-one}
@@ -26,14 +26,6 @@ byte_is d b m t f = λ i. cond (m i) (digits d.size true) (cond (t i) (cond (f i
 -- the rest of a list, from a place before its end
 pub next-drop : {A : Type 0} (l : List A) (i : ℕ) (z : A) → i < length l → drop i l ≡ get_or l i z ∷ drop (i + 1) l
 next-drop l i z h = drop-cons l i z h ∙ ap (λ (k : ℕ). get_or l i z ∷ drop k l) (sym (add-one i))
-
--- ---- a fold over the places from i on: one place more, and none left
-module _ {A B : Type 0} (f : B → A → B) (l : List A) where
-  pub fold_more : {b now : B} (i : ℕ) (z : A) → i < length l → now ≡ f b (get_or l i z) → foldl f b (drop i l) ≡ foldl f now (drop (i + 1) l)
-  fold_more {b} i z h e = ap (foldl f b) (next-drop l i z h) ∙ ap (λ (a : B). foldl f a (drop (i + 1) l)) (sym e)
-
-  pub fold_end : (b : B) (i : ℕ) → length l ≤ i → foldl f b (drop i l) ≡ b
-  fold_end b i h = ap (foldl f b) (drop_of_length-le l h)
 
 from-fits : (bs : List ℕ) (d : Digits) (at : ℕ) → SFits w64 (word_from d at bs).value
 unfolding word_from

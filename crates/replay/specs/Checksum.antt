@@ -1,6 +1,5 @@
 -- The checksum of words: two polynomial sums mod 2^31 − 1, over the low 31 bits and then the high bits of each word + 2^61.
-use Rattle.std.specs.Prelude.{cond, ℕ, ◌+◌, ◌*◌, ◌/◌, ◌%◌, ◌^◌, leb, ℤ, pos, nat_abs, ◌+ℤ◌}
-use mathlib.Core.List.{List, foldl}
+use Rattle.std.specs.Prelude.{cond, List, fold, ℕ, ◌+◌, ◌*◌, ◌/◌, ◌%◌, ◌^◌, leb, ℤ, pos, nat_abs, ◌+ℤ◌}
 use Rattle.replay.specs.declared.sum.Sums.{Sums}
 
 abbrev pub prime : ℕ
@@ -25,4 +24,4 @@ abbrev pub joined : Sums → ℕ
 joined s = s.a % prime * 2147483648 + s.b % prime
 
 abbrev pub checksum_of : List ℤ → ℕ
-checksum_of l = joined (foldl with_word (sums 0 0) l)
+checksum_of l = joined (fold with_word (sums 0 0) l)

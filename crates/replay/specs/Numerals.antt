@@ -1,5 +1,5 @@
 -- How a number of a text is read.
-use Rattle.std.specs.Prelude.{Bool, true, false, cond, List, [], ◌∷◌, ℕ, zero, suc, ◌+◌, ◌-◌, ◌^◌, eqb, ltb, drop, ℤ, pos, neg_ℤ}
+use Rattle.std.specs.Prelude.{Bool, true, false, cond, List, [], ◌∷◌, ℕ, zero, suc, ◌+◌, ◌-◌, ◌%◌, ◌^◌, eqb, ltb, drop, ℤ, pos, neg_ℤ}
 use Prim.Native.Char.{code}
 use Rattle.text.specs.Decimal.{is_blank, is_digit, digit}
 use Rattle.text.specs.Inner.Number.{max_tenth}
@@ -33,3 +33,10 @@ word_at t at = word_from (digits 0 false) at (drop at t)
 abbrev pub word_no : List ℕ → ℕ → ℕ → Word
 word_no t at zero = word_at t at
 word_no t at (suc k) = word_at t (word_no t at k).next
+
+-- what a byte and a 32-bit word keep of a number
+abbrev pub low_byte : ℕ → ℕ
+low_byte n = n % 256
+
+abbrev pub low_word : ℕ → ℕ
+low_word n = n % 4294967296

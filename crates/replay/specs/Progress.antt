@@ -1,11 +1,12 @@
 -- A replay under way: cases one after the other, counted by kind.
-use Rattle.std.specs.Prelude.{Bool, cond, List, ℕ, zero, suc, eqb}
+use Rattle.std.specs.Prelude.{Bool, cond, List, [], ◌++◌, ℕ, zero, suc, eqb, ◌==◌, if◌then◌else◌, codes}
+use Rattle.std.specs.Fmt.{decimal}
 use Rattle.replay.specs.declared.record.Record.{Record}
 use Rattle.replay.specs.declared.tally.Tally.{Tally}
 use Rattle.replay.specs.declared.progress.Heading.{Heading}
 use Rattle.replay.specs.declared.progress.Progress.{Progress}
 use Rattle.replay.specs.Numerals.{word_at, word_no}
-use Rattle.replay.specs.Tally.{none, with_case}
+use Rattle.replay.specs.Tally.{none, with_case, tally_text}
 
 -- how a case begins: its kind, then 0 for a record of the Rust's
 abbrev pub heading_at : List ℕ → ℕ → Heading
@@ -21,6 +22,10 @@ tally_for p kind = cond (eqb kind p.kind) p.tally none
 
 abbrev pub with_turn : Progress → Heading → Record → Progress
 with_turn p h r = progress_of h.kind (with_case (tally_for p h.kind) r h.rust) r.next
+
+-- what is printed of the last kind
+abbrev pub lines_of : Progress → List ℕ
+lines_of p = if p.tally.cases == 0 then [] else codes "kind " ++ (decimal p.kind ++ (codes ": " ++ (tally_text p.tally ++ codes "\n")))
 
 -- ---- the whole text, whose cases are held against their records as `case` says of their kind
 module _ (case : ℕ → List ℕ → ℕ → Record) (t : List ℕ) where

@@ -1,6 +1,5 @@
 -- What a text records: numbers, scalars and bytes, each held against what a call answered.
-use Rattle.std.specs.Prelude.{Bool, true, false, cond, ◌&&◌, ℕ, ◌+◌, ◌%◌, eqb, ltb, length, get_or}
-use mathlib.Core.List.{List, [], ◌∷◌, foldl}
+use Rattle.std.specs.Prelude.{Bool, true, false, cond, ◌&&◌, ℕ, ◌+◌, ◌%◌, eqb, ltb, List, [], ◌∷◌, fold, length, get_or}
 use Rattle.exact.specs.Exact.{equal}
 use Rattle.cells.specs.Cells.{cell_size}
 use Rattle.scalar.specs.declared.Scalar.{Scalar}
@@ -33,7 +32,11 @@ abbrev pub with_number : List ℕ → Record → ℕ → Record
 with_number t r n = record_of (r.agrees && eqb (word_at t r.next).size n) (word_at t r.next).next (added r.compared 1)
 
 abbrev pub with_numbers : List ℕ → Record → List ℕ → Record
-with_numbers t r ns = foldl (with_number t) r ns
+with_numbers t r ns = fold (with_number t) r ns
+
+-- the next numbers are the sizes of these
+abbrev pub with_sizes : {A : Type 0} → (A → ℕ) → List ℕ → Record → List A → Record
+with_sizes size t r ns = fold (λ s n. with_number t s (size n)) r ns
 
 -- the next scalar is s: five numbers
 abbrev pub with_scalar : List ℕ → Record → Scalar → Record
@@ -44,4 +47,4 @@ abbrev pub with_byte : List ℕ → Record → ℕ → Record
 with_byte t r b = cond (ltb r.next (length t)) (record_of (r.agrees && eqb (get_or t r.next 0) b) (r.next + 1) (added r.compared 1)) (record_of false r.next r.compared)
 
 abbrev pub with_bytes : List ℕ → Record → List ℕ → Record
-with_bytes t r bs = foldl (with_byte t) r bs
+with_bytes t r bs = fold (with_byte t) r bs

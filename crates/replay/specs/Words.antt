@@ -1,7 +1,6 @@
 -- Words read from a text into lent slices, and the contents that lent words have before a call.
-use Rattle.std.specs.Prelude.{List, ℕ, zero, suc, ◌+◌, ◌%◌, min, length, set, ℤ, pos}
+use Rattle.std.specs.Prelude.{List, [], ◌∷◌, ℕ, zero, suc, ◌+◌, ◌%◌, min, length, take, set, replicate, ℤ, pos}
 use Rattle.algebra.specs.Words.{fill_words}
-use Rattle.replay.specs.declared.words.Part.{Part}
 use Rattle.replay.specs.Numerals.{word_at, word_no}
 
 -- each word its place mod 997, plus 1
@@ -16,32 +15,25 @@ pub record Filled (A : Type 0) : Type 0 where
 abbrev pub filled : {A : Type 0} → List A → ℕ → Filled A
 filled l next = record { words = l; next = next }
 
--- at most as many places as the slice has
-abbrev pub part : {A : Type 0} → ℕ → List A → ℕ → Part
-part count l next = record { len = min count (length l); next = next }
-
 -- ---- words at given places
 -- n places, each with its word, from `at` on; a place behind the end is passed over
 unfoldable pub placed : List ℕ → ℕ → ℕ → List ℤ → Filled ℤ
 placed t zero at l = filled l at
 placed t (suc n) at l = placed t n (word_no t at 1).next (set l (word_no t at 0).size (word_no t at 1).value)
 
--- a length, and a count of words that are not 0
-abbrev pub placed_at : List ℕ → ℕ → List ℤ → Filled ℤ
-placed_at t at l = placed t (word_no t at 1).size (word_no t at 1).next (fill_words l 0 (length l) (λ (i : ℕ). pos 0))
+-- a length, of which as much is kept as there is room, and a count of words that are not 0
+abbrev pub placed_at : List ℕ → ℕ → ℕ → Filled ℤ
+placed_at t at room =
+    let all = placed t (word_no t at 1).size (word_no t at 1).next (replicate room (pos 0)) in
+    filled (take (min (word_no t at 0).size room) all.words) all.next
 
-abbrev pub placed_part : List ℕ → ℕ → List ℤ → Part
-placed_part t at l = part (word_no t at 0).size l (placed_at t at l).next
+-- ---- numbers one after the other, of each of which `low` keeps what fits
+module _ {A : Type 0} (low : ℕ → A) (t : List ℕ) where
+  -- n numbers, from `at` on
+  unfoldable pub numbers : ℕ → ℕ → Filled A
+  numbers zero at = filled [] at
+  numbers (suc n) at = let others = numbers n (word_at t at).next in filled (low (word_at t at).size ∷ others.words) others.next
 
--- ---- numbers one after the other
--- n numbers mod m, from `at` on, to the places from i on
-unfoldable pub numbers : ℕ → List ℕ → ℕ → ℕ → ℕ → List ℕ → Filled ℕ
-numbers m t zero i at l = filled l at
-numbers m t (suc n) i at l = numbers m t n (i + 1) (word_at t at).next (set l i ((word_at t at).size % m))
-
--- a count, and as many numbers as there is room for
-abbrev pub numbers_at : ℕ → List ℕ → ℕ → List ℕ → Filled ℕ
-numbers_at m t at l = numbers m t (min (word_at t at).size (length l)) 0 (word_at t at).next l
-
-abbrev pub numbers_part : ℕ → List ℕ → ℕ → List ℕ → Part
-numbers_part m t at l = part (word_at t at).size l (numbers_at m t at l).next
+  -- a count, and as many numbers as there is room for
+  abbrev pub numbers_at : ℕ → ℕ → Filled A
+  numbers_at at room = numbers (min (word_at t at).size room) (word_at t at).next

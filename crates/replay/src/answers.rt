@@ -1,40 +1,45 @@
 // What each call answered, held against the record.
 ghost use Rattle.std.specs.Prelude.{◌≡◌};
-ghost use Rattle.replay.specs.Answers.{with_answer, phase_number, with_phase, with_call, with_effects, finding_numbers, with_difference, with_part};
+ghost use Rattle.replay.specs.Answers.{with_answer, phase_number, with_phase, with_verdict, with_call, with_effects, finding_numbers, found_left, found_right, with_comparison, with_part};
 
 use crate::record::Record;
 use crate::sum::checksum;
-use channel::compare::{Difference, Found};
-use matrix::{Phase, PhaseAnswer};
-use scalar::Answer;
-use verdict::Verdict;
+use channel::compare::Comparison;
+use matrix::Phase;
+use scalar::Scalar;
+use verdict::{Refusal, Verdict, index, number};
 
-// A scalar call's answer: verdict and value.
-pub fn check_answer(seen: Record, text: &[u8], a: Answer) -> Record
+// A scalar call's answer: verdict and value, 0 where it refused.
+pub fn check_answer(seen: Record, text: &[u8], a: Result<Scalar, Refusal>) -> Record
     ensures { result ≡ with_answer text.now seen a }
 {
-    let v = a.verdict;
-    let s = a.value;
-    seen.number(text, v.number() as u64).scalar(text, s)
+    seen.number(text, number(&a) as u64)
+        .scalar(text, a.unwrap_or(Scalar::zero()))
 }
 
-fn phase_number(p: Phase) -> u64
-    ensures { result ≡ phase_number p }
+fn phase_number(a: Result<Phase, Refusal>) -> u64
+    ensures { result ≡ phase_number a }
 {
-    match p {
-        Phase::Equivalent => 1,
-        Phase::Different => 0,
+    match a {
+        Ok(Phase::Equivalent) => 1,
+        Ok(Phase::Different) | Err(_) => 0,
     }
 }
 
 // The phase test's answer: verdict, and 1 for equivalent.
-pub fn check_phase(seen: Record, text: &[u8], a: PhaseAnswer) -> Record
+pub fn check_phase(seen: Record, text: &[u8], a: Result<Phase, Refusal>) -> Record
     ensures { result ≡ with_phase text.now seen a }
 {
-    let v = a.verdict;
-    let p = a.phase;
-    seen.number(text, v.number() as u64)
-        .number(text, phase_number(p))
+    seen.number(text, number(&a) as u64)
+        .number(text, phase_number(a))
+}
+
+// A verdict's number and index.
+pub fn check_verdict(seen: Record, text: &[u8], v: Verdict) -> Record
+    ensures { result ≡ with_verdict text.now seen v }
+{
+    let numbers = [number(&v) as u64, index(&v) as u64];
+    seen.numbers(text, &numbers)
 }
 
 // A circuit's verdict and index, and the checksums of what the call left in both buffers.
@@ -42,8 +47,8 @@ pub fn check_call(seen: Record, text: &[u8], v: Verdict, res: &[i64], work: &[i6
     ensures { result ≡ with_call text.now seen v res.now work.now }
 {
     let numbers = [
-        v.number() as u64,
-        v.index() as u64,
+        number(&v) as u64,
+        index(&v) as u64,
         checksum(res),
         checksum(work),
     ];
@@ -54,38 +59,56 @@ pub fn check_call(seen: Record, text: &[u8], v: Verdict, res: &[i64], work: &[i6
 pub fn check_effects(seen: Record, text: &[u8], v: Verdict, res: &[i64]) -> Record
     ensures { result ≡ with_effects text.now seen v res.now }
 {
-    seen.number(text, v.number() as u64)
+    seen.number(text, number(&v) as u64)
         .number(text, checksum(res))
 }
 
 // Document 01's verdict; 0 same, 1 dimensions, 2 an entry; the store's two words, row and column of the entry.
-fn finding_numbers(found: Found) -> [u64; 6]
-    ensures { result ≡ finding_numbers found }
+fn finding_numbers(answer: Result<Comparison, Refusal>) -> [u64; 6]
+    ensures { result ≡ finding_numbers answer }
 {
-    match found {
-        Found::Refused(v) => [v.number() as u64, 0, 0, 0, 0, 0],
-        Found::Same => [0, 0, 0, 0, 0, 0],
-        Found::Dimensions => [0, 1, 0, 0, 0, 0],
-        Found::Entry(p) => [
+    match answer {
+        Err(refusal) => [refusal.number() as u64, 0, 0, 0, 0, 0],
+        Ok(Comparison::Same) => [0, 0, 0, 0, 0, 0],
+        Ok(Comparison::Dimensions) => [0, 1, 0, 0, 0, 0],
+        Ok(Comparison::Differs(d)) => [
             0,
             2,
-            p.store % 4294967296,
-            p.store / 4294967296,
-            p.row as u64,
-            p.col as u64,
+            d.place.store % 4294967296,
+            d.place.store / 4294967296,
+            d.place.row as u64,
+            d.place.col as u64,
         ],
     }
 }
 
-// What compare found, then both scalars.
-pub fn check_difference(seen: Record, text: &[u8], d: Difference) -> Record
-    ensures { result ≡ with_difference text.now seen d }
+// The left scalar of the entry that differs, or 0.
+fn found_left(answer: Result<Comparison, Refusal>) -> Scalar
+    ensures { result ≡ found_left answer }
 {
-    let found = d.found;
-    let x = d.left;
-    let y = d.right;
-    let numbers = finding_numbers(found);
-    seen.numbers(text, &numbers).scalar(text, x).scalar(text, y)
+    match answer {
+        Ok(Comparison::Differs(d)) => d.left,
+        _ => Scalar::zero(),
+    }
+}
+
+// The right one.
+fn found_right(answer: Result<Comparison, Refusal>) -> Scalar
+    ensures { result ≡ found_right answer }
+{
+    match answer {
+        Ok(Comparison::Differs(d)) => d.right,
+        _ => Scalar::zero(),
+    }
+}
+
+// What compare found, then both scalars.
+pub fn check_comparison(seen: Record, text: &[u8], answer: Result<Comparison, Refusal>) -> Record
+    ensures { result ≡ with_comparison text.now seen answer }
+{
+    seen.numbers(text, &finding_numbers(answer))
+        .scalar(text, found_left(answer))
+        .scalar(text, found_right(answer))
 }
 
 // The part that the lookup hands back: its length and its checksum.

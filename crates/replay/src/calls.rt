@@ -1,10 +1,10 @@
 // Calls that cases of several kinds make, with their answers held against the record.
 ghost use Rattle.std.specs.Prelude.{◌≡◌};
 ghost use Rattle.channel.specs.Compare.{compare_of};
-ghost use Rattle.replay.specs.Answers.{with_difference, with_blocks, with_povm};
+ghost use Rattle.replay.specs.Answers.{with_comparison, with_blocks, with_povm};
 ghost use Rattle.replay.specs.Words.{marked};
 
-use crate::answers::{check_difference, check_effects};
+use crate::answers::{check_comparison, check_effects};
 use crate::record::Record;
 use crate::words::mark;
 use channel::compare::compare;
@@ -12,10 +12,10 @@ use effects::{classical_blocks, povm_effects};
 
 // compare of two channels.
 pub fn compare_call(seen: Record, text: &[u8], left: &[i64], right: &[i64]) -> Record
-    ensures { result ≡ with_difference text.now seen (compare_of left.now right.now) }
+    ensures { result ≡ with_comparison text.now seen (compare_of left.now right.now) }
 {
     let d = compare(left, right);
-    check_difference(seen, text, d)
+    check_comparison(seen, text, d)
 }
 
 // classical_blocks on a marked result.

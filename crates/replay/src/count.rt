@@ -9,12 +9,7 @@ const MOST: u64 = 1000000000;
 pub fn added(a: u64, b: u64) -> u64
     ensures { result ≡ added a b }
 {
-    if a < MOST {
-        if b < MOST - a {
-            return a + b;
-        }
-    }
-    MOST
+    a.saturating_add(b).min(MOST)
 }
 
 // With one more where `more` says so.

@@ -9,6 +9,7 @@ pub fn read_full<R: Read>(input: &mut R, text: &mut [u8]) -> io::Result<usize>
     ensures bytes { IfOk result (λ n. IfSome (R.remaining input.old) (λ xs. take n text.new ≡ take (length text.old) xs)) }
 {
     let mut n = 0;
+    // Kept: each read says how many bytes came, so there is no range to go over.
     while n < text.len() {
         let more = input.read(&mut text[n..])?;
         if more == 0 {

@@ -1,14 +1,28 @@
 // A replay under way: cases one after the other, counted by kind.
-ghost use Rattle.std.specs.Prelude.{◌≡◌, cond, eqb};
+ghost use Rattle.std.specs.Prelude.{◌≡◌, List, ℕ, Some};
+ghost use Rattle.replay.specs.declared.record.Record.{Record};
 ghost use Rattle.replay.specs.Tally.{none};
-ghost use Rattle.replay.specs.Progress.{heading_at, progress_of, tally_for, with_turn};
+ghost use Rattle.replay.specs.Progress.{heading_at, progress_of, tally_for, with_turn, with_next, replay_of, lines_of};
 
+use crate::input::read_full;
 use crate::numeral::read;
 use crate::record::Record;
 use crate::tally::Tally;
-use std::io;
+use std::fmt;
+use std::io::{self, Read};
+
+// The cases of a program.
+pub trait Cases {
+    // What a case of this kind, at this place of the text, records.
+    ghost case_of: { ℕ → List ℕ → ℕ → Record };
+
+    // A case of this kind, behind its heading.
+    fn case(kind: u64, text: &[u8], at: usize) -> Record
+        ensures { result ≡ case_of kind text.now at };
+}
 
 // How a case begins: its kind, whether its record is the Rust's, and where what it is given begins.
+// Kept: a kind is the number that the text has and that is printed again; each program says by `Cases` what its numbers stand for.
 #[derive(Clone, Copy)]
 pub struct Heading {
     pub kind: u64,
@@ -54,18 +68,12 @@ impl Progress {
         self.next
     }
 
-    // Prints what was counted of the last kind, if anything was.
-    pub fn print(self, rt: &impl Print) -> io::Result<()> {
-        let tally = self.tally;
-        tally.print(rt, self.kind)
-    }
-
-    // The same, where the case that comes next is of another kind.
-    pub fn print_before(self, rt: &impl Print, after: Progress) -> io::Result<()> {
+    // Prints what was counted of the last kind, where the case that comes next is of another.
+    fn print_before(self, rt: &impl Print, after: Progress) -> io::Result<()> {
         if after.kind == self.kind {
             return Ok(());
         }
-        self.print(rt)
+        rt.print(self)
     }
 
     // What was counted of this kind: nothing, where it is another than the last.
@@ -89,4 +97,53 @@ impl Progress {
             next: seen.next(),
         }
     }
+
+    // With the case that comes next.
+    fn turn<C: Cases>(self, text: &[u8]) -> Progress
+        ensures { result ≡ with_next C.case_of text.now self }
+    {
+        let h = read_heading(text, self.next);
+        let seen = C::case(h.kind, text, h.next);
+        self.with(h, seen)
+    }
+}
+
+// What was counted of the last kind, if anything was.
+impl fmt::Display for Progress {
+    ghost output = { λ p. Some (lines_of p) };
+
+    fn fmt<W: fmt::Write>(&self, f: &mut fmt::Formatter<W>) -> fmt::Result {
+        let kind = self.kind;
+        let tally = self.tally;
+        if tally.is_empty() {
+            return Ok(());
+        }
+        write!(f, "kind {kind}: {tally}\n")
+    }
+}
+
+// All cases, and whether each line could be written. A line that could not be keeps none of the others back.
+pub fn replayed<C: Cases>(rt: &impl Print, text: &[u8]) -> (Progress, io::Result<()>)
+    ensures { result.0 ≡ replay_of C.case_of text.now }
+{
+    let count = read(text, 0);
+    let mut progress = Progress::begin(count.next);
+    let mut written = Ok(());
+    for _i in 0..count.size {
+        let after = progress.turn::<C>(text);
+        written = written.and(progress.print_before(rt, after));
+        progress = after;
+    }
+    (progress, written)
+}
+
+// Reads a text for which there is this room, to its end, replays it, and prints what was counted.
+pub fn replay_input<C: Cases>(
+    rt: &impl Print,
+    input: &mut impl Read,
+    text: &mut [u8],
+) -> io::Result<()> {
+    let n = read_full(input, text)?;
+    let (progress, written) = replayed::<C>(rt, &text[..n]);
+    written.and(rt.print(progress))
 }

@@ -1,9 +1,9 @@
 // The record of a case's answers, read number by number and held against what the calls answered.
 ghost use Rattle.std.specs.Prelude.{◌≡◌};
-ghost use Rattle.replay.specs.Record.{begun, with_number, with_numbers, with_scalar, with_byte, with_bytes};
+ghost use Rattle.replay.specs.Record.{begun, with_number, with_sizes, with_scalar, with_byte, with_bytes};
 
 use crate::count::added;
-use crate::numeral::read;
+use crate::numeral::{Number, read};
 use crate::scalars::read_scalar;
 use cells::CELL;
 use scalar::Scalar;
@@ -59,17 +59,10 @@ impl Record {
     }
 
     // The next numbers are these.
-    pub fn numbers(self, text: &[u8], ns: &[u64]) -> Record
-        ensures { result ≡ with_numbers text.now self ns.now }
+    pub fn numbers<T: Number>(self, text: &[u8], ns: &[T]) -> Record
+        ensures { result ≡ with_sizes T.size_of text.now self ns.now }
     {
-        let mut seen = self;
-        let mut i = 0;
-        while i < ns.len() {
-            let n = ns[i];
-            seen = seen.number(text, n);
-            i += 1;
-        }
-        seen
+        ns.iter().fold(self, |seen, n| seen.number(text, n.size()))
     }
 
     // The next scalar is this one: as many numbers as a cell has words.
@@ -89,18 +82,16 @@ impl Record {
     fn byte(self, text: &[u8], b: u8) -> Record
         ensures { result ≡ with_byte text.now self b }
     {
-        let at = self.next;
-        if at < text.len() {
-            return Record {
-                agrees: self.agrees & (text[at] == b),
-                next: at + 1,
+        match text.get(self.next) {
+            Some(found) => Record {
+                agrees: self.agrees & (*found == b),
+                next: self.next + 1,
                 compared: added(self.compared, 1),
-            };
-        }
-        Record {
-            agrees: false,
-            next: at,
-            compared: self.compared,
+            },
+            None => Record {
+                agrees: false,
+                ..self
+            },
         }
     }
 
@@ -108,13 +99,6 @@ impl Record {
     pub fn bytes(self, text: &[u8], bs: &[u8]) -> Record
         ensures { result ≡ with_bytes text.now self bs.now }
     {
-        let mut seen = self;
-        let mut i = 0;
-        while i < bs.len() {
-            let b = bs[i];
-            seen = seen.byte(text, b);
-            i += 1;
-        }
-        seen
+        bs.iter().fold(self, |seen, b| seen.byte(text, *b))
     }
 }

@@ -14,6 +14,7 @@ struct Sums {
 }
 
 // w + 2^61, or 0 where w is not from −2^61 to 2^61.
+#[tactic(auto, unfolding(crate::specs::Checksum::shifted))]
 fn shifted(w: i64) -> u64
     ensures { result ≡ shifted w }
 {
@@ -25,6 +26,7 @@ fn shifted(w: i64) -> u64
 }
 
 impl Sums {
+    #[tactic(auto, unfolding(crate::specs::Checksum::with_part))]
     fn with_part(self, v: u64) -> Sums
         ensures { result ≡ with_part self v }
     {
@@ -34,6 +36,7 @@ impl Sums {
         }
     }
 
+    #[tactic(auto, unfolding(crate::specs::Checksum::with_word))]
     fn with_word(self, w: i64) -> Sums
         ensures { result ≡ with_word self w }
     {
@@ -51,12 +54,8 @@ impl Sums {
 pub fn checksum(words: &[i64]) -> u64
     ensures { result ≡ checksum_of words.now }
 {
-    let mut sums = Sums { a: 0, b: 0 };
-    let mut i = 0;
-    while i < words.len() {
-        let w = words[i];
-        sums = sums.with_word(w);
-        i += 1;
-    }
-    sums.joined()
+    words
+        .iter()
+        .fold(Sums { a: 0, b: 0 }, |sums, w| sums.with_word(*w))
+        .joined()
 }

@@ -1,10 +1,11 @@
 // What a replay counts and prints.
-ghost use Rattle.std.specs.Prelude.{◌≡◌};
-ghost use Rattle.replay.specs.Tally.{first_of, none, with_case};
+ghost use Rattle.std.specs.Prelude.{◌≡◌, ◌↔◌, IsTrue, Some};
+ghost use Rattle.replay.specs.Tally.{first_of, none, with_case, counts_text, first_text, tally_text};
+ghost use Rattle.std.specs.Fmt.{DisplaysOnOk};
 
 use crate::count::{added, counted};
 use crate::record::Record;
-use std::io;
+use std::fmt;
 
 // All cases; those that agree, by where the record comes from; those that do not, and the number of the first of these, from 1; the numbers compared.
 #[derive(Clone, Copy)]
@@ -38,6 +39,13 @@ impl Tally {
         }
     }
 
+    // No case was counted.
+    pub fn is_empty(self) -> bool
+        ensures { IsTrue result ↔ (self.cases ≡ 0) }
+    {
+        self.cases == 0
+    }
+
     // With one more case, whose record is the Rust's or document 01's.
     pub fn with(self, seen: Record, rust: bool) -> Tally
         ensures { result ≡ with_case self seen rust }
@@ -53,18 +61,41 @@ impl Tally {
             compared: added(self.compared, seen.compared()),
         }
     }
+}
 
-    // One line for a kind that had cases; a second one names the first case that does not agree. No contract can say what is written.
-    pub fn print(self, rt: &impl Print, kind: u64) -> io::Result<()> {
-        if self.cases == 0 {
-            return Ok(());
-        }
-        println!(rt;
-            "kind {kind}: {} agree with the Rust, {} with the documents, {} disagree; {} numbers compared",
-            self.of_rust, self.of_document, self.disagree, self.compared
-        )?;
+// The line of the counts, without its end.
+fn write_counts<W: fmt::Write>(t: &Tally, f: &mut fmt::Formatter<W>) -> fmt::Result
+    ensures { DisplaysOnOk W.write_str_gives f.old result (Some (counts_text t.now)) f.new }
+{
+    let Tally {
+        of_rust,
+        of_document,
+        disagree,
+        compared,
+        ..
+    } = *t;
+    write!(
+        f,
+        "{of_rust} agree with the Rust, {of_document} with the documents, {disagree} disagree; {compared} numbers compared"
+    )
+}
+
+// The line of the first case that does not agree, behind the end of the one before.
+fn write_first<W: fmt::Write>(t: &Tally, f: &mut fmt::Formatter<W>) -> fmt::Result
+    ensures { DisplaysOnOk W.write_str_gives f.old result (Some (first_text t.now)) f.new }
+{
+    let first = t.first;
+    write!(f, "\nthe first is case {first}")
+}
+
+// The counts; a second line names the first case that does not agree, if one does not.
+impl fmt::Display for Tally {
+    ghost output = { λ t. Some (tally_text t) };
+
+    fn fmt<W: fmt::Write>(&self, f: &mut fmt::Formatter<W>) -> fmt::Result {
+        write_counts(self, f)?;
         if 0 < self.disagree {
-            println!(rt; "the first is case {}", self.first)?;
+            write_first(self, f)?;
         }
         Ok(())
     }

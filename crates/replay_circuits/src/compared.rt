@@ -13,7 +13,7 @@ const CHANNEL: usize = 41000;
 
 const WORK: usize = 3300;
 
-// The channel of the circuit at `at`, in `result`. Answers where the next number begins. A refusal leaves words that compare refuses, or others.
+// The channel of the circuit at `at`, in `res`. Answers where the next number begins. A refusal leaves words that compare refuses, or others.
 fn channel_of(text: &[u8], at: usize, res: &mut [i64], work: &mut [i64]) -> usize
     ensures next { result ≡ (given text.now at).next }
     ensures channel { res.new ≡ channel_of text.now at res.old work.old }
@@ -22,10 +22,7 @@ fn channel_of(text: &[u8], at: usize, res: &mut [i64], work: &mut [i64]) -> usiz
     let mut store = [0u8; STORE];
     let mut words = [0u32; GATES];
     let c = read_circuit(text, at, &mut store, &mut words);
-    let s = c.stored;
-    let g = c.gates;
-    let limits = c.limits;
-    circuit_channel(c.n, c.bits, &store[..s], &words[..g], limits, res, work);
+    let _ = circuit_channel(c.n, c.bits, c.store, c.gates, c.limits, res, work);
     c.next
 }
 

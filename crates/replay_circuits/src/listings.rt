@@ -31,8 +31,6 @@ pub fn listing_case(text: &[u8], at: usize) -> Record
     let mut work = [0i64; WORK];
     let mut page = [0u8; MAX_LISTING];
     let line = read_line(text, at);
-    let start = line.start;
-    let end = line.end;
-    let count = list(&text[start..end], &mut result, &mut work, &mut page);
+    let count = list(line.bytes, &mut result, &mut work, &mut page);
     said(text, line.next, &page, count)
 }

@@ -1,20 +1,19 @@
 // A circuit of the text.
-ghost use Rattle.std.specs.Prelude.{◌≡◌, ◌≤◌, length};
-ghost use Rattle.replay_circuits.specs.Given.{bounds_at, circuit_at, store_read, gates_read, ends_part, ends_read};
+ghost use Rattle.std.specs.Prelude.{◌≡◌, length};
+ghost use Rattle.replay_circuits.specs.Given.{bounds_at, circuit_of, circuit_at, ends_at};
 
+use crate::kinds::Call;
 use circuit::limits::Limits;
 use replay::numeral::{low, read};
-use replay::words::{Part, read_bytes, read_u32s};
+use replay::words::{Part, read_numbers};
 
 // Room for a store and for the words of a gate list.
 pub const STORE: usize = 65;
 
 pub const GATES: usize = 5200;
 
-// Room for the ends of layers, and the kind of the cases that have some.
+// Room for the ends of layers.
 pub const ENDS: usize = 1100;
-
-pub const LAYERED: u64 = 7;
 
 // Limits, and where the next number begins.
 #[derive(Clone, Copy)]
@@ -53,48 +52,52 @@ fn read_limits(text: &[u8], at: usize) -> Bounds
     }
 }
 
-// A circuit whose store and gates are in two slices: how much of each is its own, and where the next number begins.
+// A circuit, and where the next number begins.
 #[derive(Clone, Copy)]
-pub struct Circuit {
+pub struct Circuit<'a> {
     pub limits: Limits,
     pub n: u32,
     pub bits: u32,
-    pub stored: usize,
-    pub gates: usize,
+    pub store: &'a [u8],
+    pub gates: &'a [u32],
     pub next: usize,
 }
 
 // Limits, n, bits, the store and the gate words.
-pub fn read_circuit(text: &[u8], at: usize, store: &mut [u8], words: &mut [u32]) -> Circuit
-    ensures circuit { result ≡ circuit_at text.now at store.old words.old }
-    ensures room { (result.stored ≤ length store.old) × (result.gates ≤ length words.old) }
-    ensures store { store.new ≡ store_read text.now at store.old words.old }
-    ensures gates { words.new ≡ gates_read text.now at store.old words.old }
+pub fn read_circuit<'a>(
+    text: &[u8],
+    at: usize,
+    store: &'a mut [u8],
+    words: &'a mut [u32],
+) -> Circuit<'a>
+    ensures { circuit_of result ≡ circuit_at text.now at (length store.old) (length words.old) }
 {
     let bounds = read_limits(text, at);
     let n = read(text, bounds.next);
     let bits = read(text, n.next);
-    let bytes = read_bytes(text, bits.next, store);
-    let part = read_u32s(text, bytes.next, words);
+    let bytes = read_numbers(text, bits.next, store);
+    let part = read_numbers(text, bytes.next, words);
     let limits = bounds.limits;
     Circuit {
         limits,
         n: low(n.size),
         bits: low(bits.size),
-        stored: bytes.len,
-        gates: part.len,
+        store: bytes.words,
+        gates: part.words,
         next: part.next,
     }
 }
 
 // The ends of a circuit's layers, if it has some.
-pub fn read_ends(kind: u64, text: &[u8], at: usize, ends: &mut [u32]) -> Part
-    ensures part { result ≡ ends_part kind text.now at ends.old }
-    ensures room { result.len ≤ length ends.old }
-    ensures ends { ends.new ≡ ends_read kind text.now at ends.old }
+pub fn read_ends<'a>(call: Call, text: &[u8], at: usize, ends: &'a mut [u32]) -> Part<'a, u32>
+    ensures ends { result.words.now ≡ (ends_at call text.now at (length ends.old)).words }
+    ensures next { result.next ≡ (ends_at call text.now at (length ends.old)).next }
 {
-    if kind == LAYERED {
-        return read_u32s(text, at, ends);
+    if call == Call::Layered {
+        return read_numbers(text, at, ends);
     }
-    Part { len: 0, next: at }
+    Part {
+        words: &[],
+        next: at,
+    }
 }

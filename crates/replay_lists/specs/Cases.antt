@@ -1,40 +1,35 @@
 -- Cases of compare_list: what a case gives to the call, and what it answers and leaves held against what the case records.
-use Rattle.std.specs.Prelude.{List, [], ◌∷◌, ℕ, ◌+◌, ◌*◌, ◌%◌, take, replicate, ℤ, pos}
+use Rattle.std.specs.Prelude.{List, [], ◌∷◌, ℕ, ◌+◌, ◌*◌, take, replicate, ℤ, pos, Result}
+use Rattle.std.specs.Result.{result_unwrap_or}
+use Rattle.verdict.specs.declared.Refusal.{Refusal}
 use Rattle.verdict.specs.Verdict.{verdict_number, verdict_index}
 use Rattle.circuit.specs.declared.limits.Limits.{Limits}
 use Rattle.circuit.specs.Limits.{ceilings}
-use Rattle.compare_list.specs.declared.Reply.{Reply}
 use Rattle.compare_list.specs.Call.{reply_of, answers_after, scalars_after, cleared}
 use Rattle.replay.specs.declared.record.Record.{Record}
-use Rattle.replay.specs.declared.words.Part.{Part}
-use Rattle.replay.specs.Numerals.{word_no}
+use Rattle.replay.specs.Numerals.{word_no, low_byte, low_word}
 use Rattle.replay.specs.Record.{begun, with_numbers}
 use Rattle.replay.specs.Checksum.{checksum_of}
-use Rattle.replay.specs.Words.{marked, numbers_at, numbers_part}
+use Rattle.replay.specs.Words.{Filled, marked, numbers_at}
 
 -- verdict, index and total; the checksums of both channels' words, of the work and of the scalars; each word of the answers
-abbrev pub with_reply : List ℕ → Record → Reply → List ℤ → List ℤ → List ℤ → List ℤ → List ℕ → Record
+abbrev pub with_reply : List ℕ → Record → Result ℕ Refusal → List ℤ → List ℤ → List ℤ → List ℤ → List ℕ → Record
 with_reply t r a left right work scalars answers =
     with_numbers t
-    (with_numbers t r (verdict_number a.verdict ∷ verdict_index a.verdict ∷ a.total ∷ checksum_of left ∷ checksum_of right ∷ checksum_of work ∷ checksum_of scalars ∷ []))
+    (with_numbers t r
+    (verdict_number a ∷ verdict_index a ∷ result_unwrap_or a 0 ∷ checksum_of left ∷ checksum_of right ∷ checksum_of work ∷ checksum_of scalars ∷ []))
     answers
 
 -- ---- what is read from `at` on: the high and the low 32 bits of the allowance, the words of the pairs, and the bytes of their stores
 module _ (t : List ℕ) (at : ℕ) where
   abbrev pub allowance : ℕ
-  allowance = (word_no t at 0).size % 4294967296 * 4294967296 + (word_no t at 1).size % 4294967296
+  allowance = low_word (word_no t at 0).size * 4294967296 + low_word (word_no t at 1).size
 
-  abbrev pub words_part : Part
-  words_part = numbers_part 4294967296 t (word_no t at 1).next (replicate 1600 0)
+  abbrev pub words : Filled ℕ
+  words = numbers_at low_word t (word_no t at 1).next 1600
 
-  abbrev pub words : List ℕ
-  words = take words_part.len (numbers_at 4294967296 t (word_no t at 1).next (replicate 1600 0)).words
-
-  abbrev pub stores_part : Part
-  stores_part = numbers_part 256 t words_part.next (replicate 100 0)
-
-  abbrev pub stores : List ℕ
-  stores = take stores_part.len (numbers_at 256 t words_part.next (replicate 100 0)).words
+  abbrev pub stores : Filled ℕ
+  stores = numbers_at low_byte t words.next 100
 
 -- ---- so many pairs in the words ws and the bytes bs, the allowance n; the words of both channels r and s, of the work w, of the answers o and of their scalars z
 module _ (t : List ℕ) (at count : ℕ) (ws bs : List ℕ) (n : ℕ) (r s w : List ℤ) (o : List ℕ) (z : List ℤ) where
@@ -45,7 +40,7 @@ module _ (t : List ℕ) (at count : ℕ) (ws bs : List ℕ) (n : ℕ) (r s w : L
   compared = with_reply t (begun at) (asked reply_of) (asked cleared r) (asked cleared s) (asked cleared w) (asked scalars_after) (asked answers_after)
 
 abbrev pub called : List ℕ → ℕ → ℕ → List ℤ → List ℤ → List ℤ → List ℕ → List ℤ → Record
-called t at count r s w o z = compared t (stores_part t at).next count (words t at) (stores t at) (allowance t at) r s w o z
+called t at count r s w o z = compared t (stores t at).next count (words t at).words (stores t at).words (allowance t at) r s w o z
 
 -- how many pairs there are, and the lengths of the five buffers; then the pairs
 unfoldable pub lent : List ℕ → ℕ → List ℤ → List ℤ → List ℤ → List ℕ → List ℤ → Record

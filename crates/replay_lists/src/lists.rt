@@ -1,13 +1,14 @@
 // Cases of compare_list.
 ghost use Rattle.std.specs.Prelude.{◌≡◌};
-ghost use Rattle.replay_lists.specs.Cases.{with_reply, compared, called, lent, list_case};
+ghost use Rattle.replay_lists.specs.Cases.{with_reply, called, lent, list_case};
 
 use circuit::limits::Limits;
-use compare_list::{Reply, compare_list};
+use compare_list::compare_list;
 use replay::numeral::{low, read};
 use replay::record::Record;
 use replay::sum::checksum;
-use replay::words::{fitting, mark, read_bytes, read_u32s};
+use replay::words::{fitting, mark, read_numbers};
+use verdict::{Refusal, index, number};
 
 // Room for the words and the stores of pairs, for the words of a channel and for work, for answers and for their scalars.
 const WORDS: usize = 1600;
@@ -24,7 +25,7 @@ const SCALARS: usize = 340;
 fn check_reply(
     seen: Record,
     text: &[u8],
-    reply: Reply,
+    reply: Result<u64, Refusal>,
     left: &[i64],
     right: &[i64],
     work: &[i64],
@@ -33,57 +34,16 @@ fn check_reply(
 ) -> Record
     ensures { result ≡ with_reply text.now seen reply left.now right.now work.now scalars.now answers.now }
 {
-    let v = reply.verdict;
     let numbers = [
-        v.number() as u64,
-        v.index() as u64,
-        reply.total,
+        u64::from(number(&reply)),
+        index(&reply) as u64,
+        reply.unwrap_or(0),
         checksum(left),
         checksum(right),
         checksum(work),
         checksum(scalars),
     ];
     seen.numbers(text, &numbers).numbers(text, answers)
-}
-
-// The call on these pairs.
-fn compared(
-    text: &[u8],
-    at: usize,
-    count: usize,
-    words: &[u32],
-    stores: &[u8],
-    allowance: u64,
-    left: &mut [i64],
-    right: &mut [i64],
-    work: &mut [i64],
-    answers: &mut [u64],
-    scalars: &mut [i64],
-) -> Record
-    ensures { result ≡ compared text.now at count words.now stores.now allowance left.old right.old work.old answers.old scalars.old }
-{
-    let reply = compare_list(
-        count,
-        words,
-        stores,
-        Limits::defaults(),
-        allowance,
-        left,
-        right,
-        work,
-        answers,
-        scalars,
-    );
-    check_reply(
-        Record::begin(at),
-        text,
-        reply,
-        left,
-        right,
-        work,
-        scalars,
-        answers,
-    )
 }
 
 // The call on the pairs at `at`, behind the high and the low 32 bits of the allowance.
@@ -103,23 +63,30 @@ fn called(
     let mut stores = [0u8; STORES];
     let high = read(text, at);
     let rest = read(text, high.next);
-    let pairs = read_u32s(text, rest.next, &mut words);
-    let bytes = read_bytes(text, pairs.next, &mut stores);
-    let allowance = low(high.size) as u64 * 4294967296 + low(rest.size) as u64;
-    let m = pairs.len;
-    let n = bytes.len;
-    compared(
-        text,
-        bytes.next,
+    let pairs = read_numbers(text, rest.next, &mut words);
+    let bytes = read_numbers(text, pairs.next, &mut stores);
+    let allowance = u64::from(low(high.size)) * 4294967296 + u64::from(low(rest.size));
+    let reply = compare_list(
         count,
-        &words[..m],
-        &stores[..n],
+        pairs.words,
+        bytes.words,
+        Limits::defaults(),
         allowance,
         left,
         right,
         work,
         answers,
         scalars,
+    );
+    check_reply(
+        Record::begin(bytes.next),
+        text,
+        reply,
+        left,
+        right,
+        work,
+        scalars,
+        answers,
     )
 }
 

@@ -7,7 +7,7 @@ use pauli::call::pauli_channel;
 use replay::answers::check_call;
 use replay::numeral::{low, read};
 use replay::record::Record;
-use replay::words::{fitting, mark, read_bytes, read_u32s};
+use replay::words::{fitting, mark, read_numbers};
 
 // Room for the words of nodes and of operations, for a store, for the words of a result and for work.
 const WORDS: usize = 600;
@@ -58,12 +58,9 @@ fn answered(text: &[u8], at: usize, res: &mut [i64], work: &mut [i64]) -> Record
     let bits = read(text, qubits.next);
     let after = read(text, bits.next);
     let spent = read(text, after.next);
-    let bytes = read_bytes(text, spent.next, &mut store);
-    let listed = read_u32s(text, bytes.next, &mut nodes);
-    let done = read_u32s(text, listed.next, &mut operations);
-    let s = bytes.len;
-    let m = listed.len;
-    let n = done.len;
+    let bytes = read_numbers(text, spent.next, &mut store);
+    let listed = read_numbers(text, bytes.next, &mut nodes);
+    let done = read_numbers(text, listed.next, &mut operations);
     let r = fitting(after.size, res.len());
     let w = fitting(spent.size, work.len());
     called(
@@ -71,9 +68,9 @@ fn answered(text: &[u8], at: usize, res: &mut [i64], work: &mut [i64]) -> Record
         done.next,
         low(qubits.size),
         low(bits.size),
-        &store[..s],
-        &nodes[..m],
-        &operations[..n],
+        bytes.words,
+        listed.words,
+        done.words,
         &mut res[..r],
         &mut work[..w],
     )

@@ -1,4 +1,3 @@
-pub mod Verdicts
 pub mod Edits
 pub mod Programs
 pub mod Cases

@@ -1,16 +1,16 @@
 // Cases of kept circuits: an edit of the words, then the verdict on them and their gates copied out.
 ghost use Rattle.std.specs.Prelude.{◌≡◌};
-ghost use Rattle.replay.specs.Record.{with_number, with_numbers};
-ghost use Rattle.replay_verdicts.specs.Edits.{edit_at, edit_verdict, edited_words, with_kept, with_copy, called, edit_case};
+ghost use Rattle.replay_verdicts.specs.Edits.{edit_of, edit_at, behind_edit, edit_verdict, edited_words, with_kept, with_copy, called, edit_case};
 
-use crate::verdicts::check_verdict;
 use circuit::limits::Limits;
+use gate::judge::GateWords;
 use kept_circuit::edits::{append, remove_last, replace, start};
 use kept_verdict::{copy_gates, judge_kept};
+use replay::answers::check_verdict;
 use replay::numeral::{low, read};
 use replay::record::Record;
 use replay::sum::checksum;
-use replay::words::{fitting, read_bytes, read_words};
+use replay::words::{fitting, read_numbers, read_words};
 use verdict::Verdict;
 
 // Room for the words of a kept circuit, for a store, and for gates that are copied out.
@@ -20,21 +20,31 @@ const STORE: usize = 65;
 
 const GATES: usize = 100;
 
-// An edit: 0 start, 1 append, 2 remove last, else replace; the position, and the gate's words, of which start takes a and b as its counts. Then where the next number begins.
+// An edit of a kept circuit: a start with both counts, a gate more, the last one less, or the gate at a place replaced.
 #[derive(Clone, Copy)]
-struct Edit {
-    which: u64,
-    position: usize,
-    kind: u32,
-    a: u32,
-    b: u32,
-    c: u32,
-    k: u32,
-    next: usize,
+enum Edit {
+    Start(u32, u32),
+    Append(GateWords),
+    RemoveLast,
+    Replace(usize, GateWords),
 }
 
-fn read_edit(text: &[u8], at: usize) -> Edit
-    ensures { result ≡ edit_at text.now at }
+// The edit of this number; a start takes the gate's a and b as its counts.
+fn edit_of(which: u64, position: usize, gate: GateWords) -> Edit
+    ensures { result ≡ edit_of which position gate }
+{
+    match which {
+        0 => Edit::Start(gate.a, gate.b),
+        1 => Edit::Append(gate),
+        2 => Edit::RemoveLast,
+        _ => Edit::Replace(position, gate),
+    }
+}
+
+// The number of an edit, its position, and a gate's five words; and where the next number begins.
+fn read_edit(text: &[u8], at: usize) -> (Edit, usize)
+    ensures edit { result.0 ≡ edit_at text.now at }
+    ensures next { result.1 ≡ behind_edit text.now at }
 {
     let which = read(text, at);
     let position = read(text, which.next);
@@ -43,16 +53,14 @@ fn read_edit(text: &[u8], at: usize) -> Edit
     let b = read(text, a.next);
     let c = read(text, b.next);
     let k = read(text, c.next);
-    Edit {
-        which: which.size,
-        position: position.size as usize,
+    let gate = GateWords {
         kind: low(kind.size),
         a: low(a.size),
         b: low(b.size),
         c: low(c.size),
         k: low(k.size),
-        next: k.next,
-    }
+    };
+    (edit_of(which.size, position.size as usize, gate), k.next)
 }
 
 // The call that the edit names.
@@ -60,34 +68,12 @@ fn edited(e: Edit, words: &mut [i64]) -> Verdict
     ensures verdict { result ≡ edit_verdict e words.old }
     ensures words { words.new ≡ edited_words e words.old }
 {
-    let which = e.which;
-    match which {
-        0 => start(e.a, e.b, words),
-        1 => append(words, e.kind, e.a, e.b, e.c, e.k),
-        2 => remove_last(words),
-        _ => replace(words, e.position, e.kind, e.a, e.b, e.c, e.k),
+    match e {
+        Edit::Start(qubits, bits) => start(qubits, bits, words),
+        Edit::Append(g) => append(words, g),
+        Edit::RemoveLast => remove_last(words),
+        Edit::Replace(position, g) => replace(words, position, g),
     }
-}
-
-// The next number is this one.
-fn check_word(seen: Record, text: &[u8], w: u32) -> Record
-    ensures { result ≡ with_number text.now seen w }
-{
-    seen.number(text, w as u64)
-}
-
-// The next numbers are these.
-fn check_words(seen: Record, text: &[u8], ws: &[u32]) -> Record
-    ensures { result ≡ with_numbers text.now seen ws.now }
-{
-    let mut held = seen;
-    let mut i = 0;
-    while i < ws.len() {
-        let w = ws[i];
-        held = check_word(held, text, w);
-        i += 1;
-    }
-    held
 }
 
 // The verdict on the words.
@@ -104,7 +90,7 @@ fn check_copy(seen: Record, text: &[u8], words: &[i64], out: &mut [u32]) -> Reco
 {
     let v = copy_gates(words, out);
     let judged = check_verdict(seen, text, v);
-    check_words(judged, text, out)
+    judged.numbers(text, out)
 }
 
 // The verdict of the edit and the checksum of the words that it leaves, then the verdict on these and their copy.
@@ -131,24 +117,25 @@ fn called(
 pub fn edit_case(text: &[u8], at: usize) -> Record
     ensures { result ≡ edit_case text.now at }
 {
+    let mut room = [0i64; WORDS];
     let mut words = [0i64; WORDS];
-    let mut store = [0u8; STORE];
+    let mut store_room = [0u8; STORE];
     let mut out = [7u32; GATES];
-    let part = read_words(text, at, &mut words);
-    let e = read_edit(text, part.next);
-    let bytes = read_bytes(text, e.next, &mut store);
-    let result = read(text, bytes.next);
+    let given = read_words(text, at, &mut room);
+    let (edit, next) = read_edit(text, given.next);
+    let store = read_numbers(text, next, &mut store_room);
+    let result = read(text, store.next);
     let work = read(text, result.next);
-    let room = read(text, work.next);
-    let m = part.len;
-    let n = bytes.len;
-    let o = fitting(room.size, GATES);
+    let copied = read(text, work.next);
+    let o = fitting(copied.size, GATES);
+    let lent = &mut words[..given.words.len()];
+    lent.copy_from_slice(given.words);
     called(
         text,
-        room.next,
-        e,
-        &mut words[..m],
-        &store[..n],
+        copied.next,
+        edit,
+        lent,
+        store.words,
         result.size,
         work.size,
         &mut out[..o],

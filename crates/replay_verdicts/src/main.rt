@@ -4,67 +4,33 @@
 
 mod edits;
 mod programs;
-mod verdicts;
 
-ghost use Rattle.std.specs.Prelude.{◌≡◌};
-ghost use Rattle.replay.specs.Progress.{with_next, replay_of};
-ghost use Rattle.replay_verdicts.specs.Cases.{case_of};
+ghost use Rattle.replay_verdicts.specs.Cases as cases;
 
 use crate::edits::edit_case;
 use crate::programs::program_case;
-use replay::input::read_full;
-use replay::numeral::read;
-use replay::progress::{Progress, read_heading};
+use replay::progress::{Cases, replay_input};
 use replay::record::Record;
 use std::io;
 
 // Room for the text.
 const TEXT: usize = 140000;
 
-// A case of this kind, behind its heading.
-fn case(kind: u64, text: &[u8], at: usize) -> Record
-    ensures { result ≡ case_of kind text.now at }
-{
-    match kind {
-        17 => program_case(text, at),
-        _ => edit_case(text, at),
+// The program's cases.
+struct VerdictCases;
+
+impl Cases for VerdictCases {
+    ghost case_of = { cases.case_of };
+
+    fn case(kind: u64, text: &[u8], at: usize) -> Record {
+        match kind {
+            17 => program_case(text, at),
+            _ => edit_case(text, at),
+        }
     }
-}
-
-// One more case.
-fn turn(text: &[u8], progress: Progress) -> Progress
-    ensures { result ≡ with_next case_of text.now progress }
-{
-    let h = read_heading(text, progress.next());
-    let seen = case(h.kind, text, h.next);
-    progress.with(h, seen)
-}
-
-// All cases, and whether each line could be written. A line that could not be keeps none of the others back.
-fn replayed(rt: &impl Print, text: &[u8]) -> (Progress, io::Result<()>)
-    ensures { result.0 ≡ replay_of case_of text.now }
-{
-    let count = read(text, 0);
-    let mut progress = Progress::begin(count.next);
-    let mut written = Ok(());
-    let mut rest = count.size;
-    while 0 < rest {
-        rest -= 1;
-        let after = turn(text, progress);
-        written = written.and(progress.print_before(rt, after));
-        progress = after;
-    }
-    (progress, written)
-}
-
-// Reads the text, and replays it.
-fn replay_input(rt: &HostRuntime, text: &mut [u8]) -> io::Result<()> {
-    let n = read_full(&mut rt.stdin(), text)?;
-    let (progress, written) = replayed(rt, &text[..n]);
-    written.and(progress.print(rt))
 }
 
 fn main(rt: HostRuntime) -> io::Result<()> {
     let mut text = [0u8; TEXT];
-    replay_input(&rt, &mut text)
+    replay_input::<VerdictCases>(&rt, &mut rt.stdin(), &mut text)
 }

@@ -8,21 +8,23 @@ use replay::numeral::{low, read};
 use replay::record::Record;
 use replay::scalars::read_scalar;
 use replay::words::read_words;
-use scalar::{Answer, Scalar};
+use scalar::Scalar;
+use verdict::Refusal;
 
 // Room for the words of a matrix.
 const MATRIX: usize = 5120;
 
 // The call of this number; `first` is the size of x's first number.
-fn answer(call: u64, first: u64, x: Scalar, y: Scalar) -> Answer
+// Kept: the number is matched once, where it is read; an enum would be the same list a second time.
+fn answer(call: u64, first: u64, x: Scalar, y: Scalar) -> Result<Scalar, Refusal>
     ensures { result ≡ answer_of call first x y }
 {
     match call {
         0 => Scalar::integer(x.n[0]),
-        1 => Scalar::zero(),
-        2 => Scalar::i(),
-        3 => Scalar::inv_sqrt_two(),
-        4 => Scalar::omega(low(first)),
+        1 => Ok(Scalar::zero()),
+        2 => Ok(Scalar::i()),
+        3 => Ok(Scalar::inv_sqrt_two()),
+        4 => Ok(Scalar::omega(low(first))),
         5 => x.add(y),
         6 => x.neg(),
         7 => x.half(),
@@ -47,19 +49,17 @@ pub fn scalar_case(text: &[u8], at: usize) -> Record
 pub fn phase_case(text: &[u8], at: usize) -> Record
     ensures { result ≡ phase_case text.now at }
 {
-    let mut left = [0i64; MATRIX];
-    let mut right = [0i64; MATRIX];
+    let mut left_room = [0i64; MATRIX];
+    let mut right_room = [0i64; MATRIX];
     let d = read(text, at);
-    let l = read_words(text, d.next, &mut left);
-    let e = read(text, l.next);
-    let r = read_words(text, e.next, &mut right);
-    let m = l.len;
-    let n = r.len;
+    let left = read_words(text, d.next, &mut left_room);
+    let e = read(text, left.next);
+    let right = read_words(text, e.next, &mut right_room);
     let a = equivalent_up_to_global_phase(
         d.size as usize,
-        &left[..m],
+        left.words,
         e.size as usize,
-        &right[..n],
+        right.words,
     );
-    check_phase(Record::begin(r.next), text, a)
+    check_phase(Record::begin(right.next), text, a)
 }

@@ -1,7 +1,6 @@
 -- The text has the length that it is made with.
-use mathlib.Core.Path.{sym}
-use Prim.Native.Nat.{ℕ}
-use lib.ListN.{length-replicate}
+use Rattle.std.proofs.Common.{sym, ℕ}
+use Rattle.std.proofs.lemmas.List.{length-replicate}
 use Rattle.replay_circuits.proofs.main.Goals as goal
 
 pub slice_bounds-replay_input-end : goal.slice_bounds-replay_input-end

@@ -1,7 +1,7 @@
 -- `words::mark` meets its contract.
 use mathlib.Core.Path.{subst}
 use mathlib.Core.List.{[], ◌∷◌}
-use Prim.Native.Nat.{ℕ, ◌+◌, ◌-◌, ◌%◌, ◌^◌, ◌<◌}
+use Prim.Native.Nat.{ℕ, ◌+◌, ◌%◌, ◌^◌, ◌<◌}
 use native.Mathlib.Nat.{le_refl, zero-add}
 use native.Mathlib.Omega.{arith}
 use lib.ListN.{length, set}
@@ -15,24 +15,6 @@ use Rattle.replay.proofs.words.mark.Goals as goal
 pub loop-i-init : goal.loop-i-init
 loop-i-init c = begin (λ k. le_refl 1)
 
-pub overflow_add-buf : goal.overflow_add-buf
-overflow_add-buf c = omega arith
-
-pub overflow_cast-buf : goal.overflow_cast-buf
-overflow_cast-buf c = omega arith
-
-pub offset_bounds-buf-i : goal.offset_bounds-buf-i
-offset_bounds-buf-i c = omega arith
-
-pub bounds-buf-i : goal.bounds-buf-i
-bounds-buf-i c = omega arith
-
-pub overflow_add-i : goal.overflow_add-i
-overflow_add-i c = omega arith
-
-pub loop-i-smaller : goal.loop-i-smaller
-loop-i-smaller c = omega (arith, long c.loop-i.invariant)
-
 pub loop-i-preserved : goal.loop-i-preserved
 loop-i-preserved c =
     let l₀ = c.args.buf.now in
@@ -40,9 +22,6 @@ loop-i-preserved c =
     let h : i % 997 + 1 < 2 ^ 63 = omega arith in
     subst (λ (j : ℕ). Writing 1 l₀ 0 (length l₀) (λ (k : ℕ). pos (k % 997 + 1) ∷ []) (set c.loop-i.buf j (to_z w64 (i % 997 + 1))) (i + 1)) (zero-add i)
     (again_word (λ k. pos (k % 997 + 1)) c.loop-i.invariant (omega (arith, long c.loop-i.invariant)) (to_z_pos w64 h))
-
-pub shape_of-buf : goal.shape_of-buf
-shape_of-buf c = long c.loop-i.invariant
 
 pub returns : goal.returns
 returns c = let w = c.loop-i.invariant in done w (omega (arith, long w))

@@ -1,41 +1,35 @@
 -- `words::read_words` meets its contract.
-use mathlib.Core.Path.{refl, sym, ap, ◌∙◌}
-use Prim.Native.Nat.{min}
-use native.Mathlib.Omega.{arith}
-use lib.ListN.{length, set}
-use lib.IntN.{ℤ}
+use Rattle.std.proofs.Common.{◌≡◌, ◌-◌, ℕ, suc, ◌+◌, arith, rules, refl, ap, sym, ◌∙◌, length, min, take, replicate, List, ℤ, pos, set}
 use Rattle.replay.specs.declared.numeral.Word.{Word}
-use Rattle.replay.specs.Words.{Filled, placed}
+use Rattle.replay.specs.Words.{placed}
 use Rattle.replay.proofs.Reading.{a_word, following}
 use Rattle.replay.proofs.Filling.{placed_end, placed-more}
-use borrow.Author.Rules.{rules}
 use Rattle.replay.proofs.words.read_words.Goals as goal
 
-pub clear-requires : goal.clear-requires
-clear-requires c = omega arith
+pub loop-i-init : goal.loop-i-init
+loop-i-init c =
+    let none_read : c.read-count.result.size ≡ c.read-count.result.size - 0 = omega arith in
+    ap (λ (k : ℕ). placed c.args.text.now k c.read-count.result.next c.fill.new.self) none_read
 
-pub loop-left-init : goal.loop-left-init
-loop-left-init c = (refl, refl)
-
-pub overflow_sub-left : goal.overflow_sub-left
-overflow_sub-left c = omega arith
-
-pub loop-left-smaller : goal.loop-left-smaller
-loop-left-smaller c = omega arith
-
-pub loop-left-preserved : goal.loop-left-preserved
-loop-left-preserved c =
+pub loop-i-preserved : goal.loop-i-preserved
+loop-i-preserved c =
     let t = c.args.text.now in
-    let v = a_word t c.read-place.result.next c.read-word.ensures in
-    let e = c.put.ensures ∙ ap (set c.loop-left.buf c.read-place.result.size) v in
-    (search rules, c.loop-left.invariant.1 ∙ placed-more t c.loop-left.left c.loop-left.next c.loop-left.buf c.loop-left-test.true c.read-place.ensures c.read-word.ensures e)
+    let n = c.read-count.result.size in
+    let value = a_word t c.read-place.result.next c.read-word.ensures in
+    let e = c.put.ensures ∙ ap (set c.loop-i.buf c.read-place.result.size) value in
+    let one_less : n - c.loop-i._i ≡ suc (n - (c.loop-i._i + 1)) = omega arith in
+    c.loop-i.invariant ∙ placed-more t (n - c.loop-i._i) (n - (c.loop-i._i + 1)) c.loop-i.next c.loop-i.buf one_less c.read-place.ensures c.read-word.ensures e
 
 pub returns : goal.returns
 returns c =
-    let s = c.args in
-    let t = s.text.now in
-    let q0 = c.read-length.ensures in
-    let q1 = following t s.at 0 q0 c.read-count.ensures in
-    let e = sym (sym (λ i. placed t (q1 i).size (q1 i).next (c.clear.ensures i)) ∙ c.loop-left.invariant.1 ∙ placed_end t c.loop-left.left c.loop-left.next c.loop-left.buf c.loop-left-test.false) in
-    let n = c.fitting.ensures ∙ ap (λ (w : Word). min w.size (length s.buf.now)) q0 in
-    record { part = (λ i. record { len = n i; next = (e i).next }); room = omega (arith, c.fitting.ensures); words = ap (λ (f : Filled ℤ). f.words) e }
+    let t = c.args.text.now in
+    let n = length c.args.buf.now in
+    let first = c.read-length.ensures in
+    let count = following t c.args.at 0 first c.read-count.ensures in
+    let zeros : c.fill.new.self ≡ replicate n (pos 0) = search rules in
+    let same : length c.loop-i.buf ≡ n = omega (arith, c.fill.ensures.len) in
+    let all =
+    sym (c.loop-i.invariant ∙ placed_end t (c.read-count.result.size - c.loop-i._i) c.loop-i.next c.loop-i.buf (omega arith))
+    ∙ (λ i. placed t (count i).size (count i).next (zeros i)) in
+    let len = c.fitting-len.ensures ∙ (λ i. min (first i).size (same i)) in
+    record { words = λ i. take (len i) (all i).words; next = λ i. (all i).next }

@@ -1,11 +1,9 @@
 -- `circuits::answered` meets its contract.
-use mathlib.Core.Path.{sym, ◌∙◌}
-use lib.ListN.{length, take, drop}
-use lib.Seq.{length-take-le, take_at}
+use Rattle.std.proofs.Common.{◌≡◌, ◌∙◌, length, take, drop, length-take-le}
+use lib.Seq.{take_at}
 use Rattle.replay.proofs.Parts.{fitted_less, take-fitting}
 use Rattle.replay.proofs.Reading.{following}
 use Rattle.replay_circuits.specs.Cases.{called, called_result, traced, answered}
-use borrow.Author.Rules.{rules}
 use Rattle.replay_circuits.proofs.circuits.answered.Goals as goal
 
 pub returns : goal.returns
@@ -23,15 +21,6 @@ returns c =
     let worked = take-fitting c.fitting-w.result c.read-spent.result.size w c.fitting-w.ensures ∙ (λ i. take (b i).size w) in
     let left = c.called-seen.new.res in
     let long = c.called-seen.auto.res ∙ length-take-le n r (fitted_less c.read-after.result.size (length r) c.fitting-r.ensures) in
-    let held = c.called-seen.ensures.held ∙ (λ i. called s.kind t (e i).next (lent i) (worked i)) in
-    let channel = take_at left (drop n r) n long ∙ c.called-seen.ensures.res ∙ (λ i. called_result s.kind t (e i).next (lent i) (worked i)) in
-    c.traced.ensures ∙ (λ i. traced s.kind (held i) t (e i).size (channel i))
-
-pub slice_bounds-called-end-2 : goal.slice_bounds-called-end-2
-slice_bounds-called-end-2 c = sym (length-take-le _ _ (search rules))
-
-pub slice_bounds-called-end-4 : goal.slice_bounds-called-end-4
-slice_bounds-called-end-4 c = sym (length-take-le _ _ (search rules))
-
-pub slice_bounds-traced-end-2 : goal.slice_bounds-traced-end-2
-slice_bounds-traced-end-2 c = sym (length-take-le _ _ (search rules))
+    let held = c.called-seen.ensures.held ∙ (λ i. called s.call t (e i).next (lent i) (worked i)) in
+    let channel = take_at left (drop n r) n long ∙ c.called-seen.ensures.res ∙ (λ i. called_result s.call t (e i).next (lent i) (worked i)) in
+    c.traced.ensures ∙ (λ i. traced s.call (held i) t (e i).size (channel i))

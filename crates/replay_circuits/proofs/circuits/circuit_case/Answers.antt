@@ -1,7 +1,6 @@
 -- `circuits::circuit_case` meets its contract. The buffers have the lengths that they are made with.
-use mathlib.Core.Path.{sym}
-use lib.ListN.{length-replicate}
-use lib.IntN.{ℤ, pos}
+use Rattle.std.proofs.Common.{sym, ℤ, pos}
+use Rattle.std.proofs.lemmas.List.{length-replicate}
 use Rattle.replay_circuits.specs.Cases.{circuit_case}
 use Rattle.replay_circuits.proofs.circuits.circuit_case.Goals as goal
 

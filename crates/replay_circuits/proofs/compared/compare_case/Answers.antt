@@ -2,7 +2,7 @@
 use mathlib.Core.Path.{◌∙◌}
 use Rattle.channel.specs.Compare.{compare_of}
 use Rattle.replay.specs.Record.{begun}
-use Rattle.replay.specs.Answers.{with_difference}
+use Rattle.replay.specs.Answers.{with_comparison}
 use Rattle.replay_circuits.specs.Given.{given}
 use Rattle.replay_circuits.specs.Cases.{room, channel_of, compare_case}
 use Rattle.replay_circuits.proofs.compared.compare_case.Goals as goal
@@ -15,4 +15,4 @@ returns c =
     let right = c.channel_of-answer.ensures in
     let begin = c.begin.ensures ∙ (λ i. begun ((right.next ∙ (λ j. (given t (left.next j)).next)) i)) in
     let second = right.channel ∙ (λ i. channel_of t (left.next i) (room 41000) (left.work i)) in
-    c.compare_call.ensures ∙ (λ i. with_difference t (begin i) (compare_of (left.channel i) (second i)))
+    c.compare_call.ensures ∙ (λ i. with_comparison t (begin i) (compare_of (left.channel i) (second i)))

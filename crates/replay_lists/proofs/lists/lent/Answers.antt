@@ -1,11 +1,8 @@
 -- `lists::lent` meets its contract.
-use mathlib.Core.Path.{sym, ◌∙◌}
-use lib.ListN.{take}
-use lib.Seq.{length-take-le}
+use Rattle.std.proofs.Common.{◌∙◌, take}
 use Rattle.replay.proofs.Parts.{take-fitting}
 use Rattle.replay.proofs.Reading.{following}
 use Rattle.replay_lists.specs.Cases.{called, lent}
-use borrow.Author.Rules.{rules}
 use Rattle.replay_lists.proofs.lists.lent.Goals as goal
 
 pub returns : goal.returns
@@ -25,18 +22,3 @@ returns c =
     let answers = take-fitting c.fitting-a.result c.read-fourth.result.size s.answers.now c.fitting-a.ensures ∙ (λ i. take (w4 i).size s.answers.now) in
     let scalars = take-fitting c.fitting-s.result c.read-fifth.result.size s.scalars.now c.fitting-s.ensures ∙ (λ i. take (w5 i).size s.scalars.now) in
     c.called.ensures ∙ (λ i. called t (w5 i).next (w0 i).size (left i) (right i) (work i) (answers i) (scalars i))
-
-pub slice_bounds-called-end-2 : goal.slice_bounds-called-end-2
-slice_bounds-called-end-2 c = sym (length-take-le _ _ (search rules))
-
-pub slice_bounds-called-end-4 : goal.slice_bounds-called-end-4
-slice_bounds-called-end-4 c = sym (length-take-le _ _ (search rules))
-
-pub slice_bounds-called-end-6 : goal.slice_bounds-called-end-6
-slice_bounds-called-end-6 c = sym (length-take-le _ _ (search rules))
-
-pub slice_bounds-called-end-8 : goal.slice_bounds-called-end-8
-slice_bounds-called-end-8 c = sym (length-take-le _ _ (search rules))
-
-pub slice_bounds-called-end-10 : goal.slice_bounds-called-end-10
-slice_bounds-called-end-10 c = sym (length-take-le _ _ (search rules))

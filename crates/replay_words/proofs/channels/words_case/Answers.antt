@@ -1,43 +1,33 @@
 -- `channels::words_case` meets its contract.
-use mathlib.Core.Path.{sym, ap, ◌∙◌}
-use Prim.Native.Nat.{min}
-use lib.ListN.{take, replicate, length-replicate}
-use lib.IntN.{ℤ, pos}
-use lib.Seq.{length-take-le}
-use Rattle.replay.specs.Numerals.{word_at}
+use Rattle.std.proofs.Common.{ℕ, ℤ, pos, sym, ap, ◌∙◌, min, take, replicate}
+use Rattle.std.proofs.lemmas.List.{length-replicate}
+use Rattle.channel.specs.Compare.{compare_of}
+use Rattle.channel.specs.Lookup.{lookup_of, part_of}
+use Rattle.replay.specs.Numerals.{word_at, low_byte}
 use Rattle.replay.specs.Record.{begun}
-use Rattle.replay.specs.Words.{placed_at, placed_part, numbers_at, numbers_part}
+use Rattle.replay.specs.Answers.{with_comparison, with_blocks, with_povm, with_part}
+use Rattle.replay.specs.Words.{marked, placed_at, numbers_at}
 use Rattle.replay.proofs.Parts.{take-fitting}
-use Rattle.replay_words.specs.Cases.{room, with_four}
-use borrow.Author.Rules.{rules}
+use Rattle.replay_words.specs.Cases.{words_case}
 use Rattle.replay_words.proofs.channels.words_case.Goals as goal
 
 pub returns : goal.returns
+unfolding words_case
 returns c =
-    let s = c.args in
-    let t = s.text.now in
-    let pl = c.read_words-l.ensures.part in
-    let vl = c.read_words-l.ensures.words in
-    let pr = c.read_words-r.ensures.part ∙ (λ i. placed_part t (pl i).next (room 1300)) in
-    let vr = c.read_words-r.ensures.words ∙ (λ i. (placed_at t (pl i).next (room 1300)).words) in
-    let n = c.read-length.ensures ∙ (λ i. word_at t (pr i).next) in
-    let pb = c.read_bytes-bytes.ensures.part ∙ (λ i. numbers_part 256 t (n i).next (replicate 65 0)) in
-    let vb = c.read_bytes-bytes.ensures.words ∙ (λ i. (numbers_at 256 t (n i).next (replicate 65 0)).words) in
+    let t = c.args.text.now in
+    let long = length-replicate {A = ℤ} 1300 (pos 0) in
+    let narrow = length-replicate {A = ℕ} 65 0 in
+    let left = c.read_words-left.ensures.words ∙ (λ i. (placed_at t c.args.at (long i)).words) in
+    let p = c.read_words-left.ensures.next ∙ (λ i. (placed_at t c.args.at (long i)).next) in
+    let right = c.read_words-right.ensures.words ∙ (λ i. (placed_at t (p i) (long i)).words) in
+    let q = c.read_words-right.ensures.next ∙ (λ i. (placed_at t (p i) (long i)).next) in
+    let n = c.read-length.ensures ∙ (λ i. word_at t (q i)) in
+    let store = c.read_numbers-store.ensures.words ∙ (λ i. (numbers_at low_byte t (n i).next (narrow i)).words) in
+    let next = c.read_numbers-store.ensures.next ∙ (λ i. (numbers_at low_byte t (n i).next (narrow i)).next) in
     let fits = c.fitting-e.ensures ∙ ap (min c.read-length.result.size) (sym (length-replicate {A = ℤ} 100 (pos 0))) in
-    let effects = take-fitting c.fitting-e.result c.read-length.result.size (room 100) fits ∙ (λ i. take (n i).size (room 100)) in
-    c.called.ensures ∙ (λ i. with_four t (begun (pb i).next) (take (pl i).len (vl i)) (take (pr i).len (vr i)) (take (pb i).len (vb i)) (effects i) (effects i))
-
-pub slice_bounds-called-end : goal.slice_bounds-called-end
-slice_bounds-called-end c = sym (length-take-le _ _ (search rules))
-
-pub slice_bounds-called-end-2 : goal.slice_bounds-called-end-2
-slice_bounds-called-end-2 c = sym (length-take-le _ _ (search rules))
-
-pub slice_bounds-called-end-3 : goal.slice_bounds-called-end-3
-slice_bounds-called-end-3 c = sym (length-take-le _ _ (search rules))
-
-pub slice_bounds-called-end-4 : goal.slice_bounds-called-end-4
-slice_bounds-called-end-4 c = sym (length-take-le _ _ (search rules))
-
-pub slice_bounds-called-end-5 : goal.slice_bounds-called-end-5
-slice_bounds-called-end-5 c = sym (length-take-le _ _ (search rules))
+    let effects = take-fitting {A = ℤ} c.fitting-e.result c.read-length.result.size (replicate 100 (pos 0)) fits ∙ (λ i. take (n i).size (replicate 100 (pos 0))) in
+    let begin = c.begin.ensures ∙ (λ i. begun (next i)) in
+    let compared = c.compare_call-compared.ensures ∙ (λ i. with_comparison t (begin i) (compare_of (left i) (right i))) in
+    let traced = c.effects_call-traced.ensures ∙ (λ i. with_blocks t (compared i) (left i) (marked (effects i))) in
+    let measured = c.povm_call-measured.ensures ∙ (λ i. with_povm t (traced i) (left i) (marked (effects i))) in
+    c.check_part.ensures ∙ (λ i. with_part t (measured i) ((c.lookup.ensures ∙ (λ j. part_of (left j) (lookup_of (left j) (store j)))) i))

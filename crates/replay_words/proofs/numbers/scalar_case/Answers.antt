@@ -3,10 +3,11 @@ use mathlib.Core.Path.{◌∙◌}
 use Rattle.replay.specs.Record.{scalar_at, begun}
 use Rattle.replay.specs.Answers.{with_answer}
 use Rattle.replay.proofs.Reading.{following}
-use Rattle.replay_words.specs.Cases.{answer_of}
+use Rattle.replay_words.specs.Cases.{answer_of, scalar_case}
 use Rattle.replay_words.proofs.numbers.scalar_case.Goals as goal
 
 pub returns : goal.returns
+unfolding scalar_case
 returns c =
     let s = c.args in
     let t = s.text.now in

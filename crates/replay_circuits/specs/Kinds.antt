@@ -1,0 +1,8 @@
+-- The calls of one circuit.
+use Rattle.std.specs.Prelude.{cond, ℕ, eqb}
+use Rattle.replay_circuits.specs.declared.kinds.Call.{Call}
+use Rattle.replay_circuits.specs.declared.kinds.Call.TheVariants.{Unitary, Layered, Plain, Channel}
+
+-- the call of the cases of a kind: 2 circuit_unitary, 7 layered_channel, 23 plain_channel, else circuit_channel
+abbrev pub call_of : ℕ → Call
+call_of kind = cond (eqb kind 2) Unitary (cond (eqb kind 7) Layered (cond (eqb kind 23) Plain Channel))
