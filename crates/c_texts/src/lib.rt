@@ -22,6 +22,7 @@ use c_words::replies::{LEFT_REFUSED, RIGHT_REFUSED};
 use cells::CELL;
 use channel::compare::Difference;
 use judge_texts::Answer;
+use text::page::Writer;
 use verdict::{index, number};
 
 // The number of the refusal of a room that is too small.
@@ -156,19 +157,25 @@ pub fn text_channel(
 pub fn number_text(x: &[i64; CELL], out: &mut [u8]) -> usize
     ensures { page out.new result ≡ write (page out.old 0) (number_text (operand x.now)) }
 {
-    put_number(out, 0, read_operand(x))
+    let mut w = Writer::new(out);
+    put_number(&mut w, read_operand(x));
+    w.at
 }
 
 // Row and column of a Choi block on so many qubits, as the input and the output that they mean.
 pub fn entry_text(qubits: u32, row: usize, column: usize, out: &mut [u8]) -> usize
     ensures { page out.new result ≡ write (page out.old 0) (entry_text qubits row column) }
 {
-    put_bra_ket(out, 0, qubits, row, column)
+    let mut w = Writer::new(out);
+    put_bra_ket(&mut w, qubits, row, column);
+    w.at
 }
 
 // The bits of a store from bit 0 on.
 pub fn store_text(store: u64, bits: u32, out: &mut [u8]) -> usize
     ensures { page out.new result ≡ write (page out.old 0) (store_bits bits store) }
 {
-    put_store(out, 0, store, bits)
+    let mut w = Writer::new(out);
+    put_store(&mut w, store, bits);
+    w.at
 }
