@@ -17,8 +17,8 @@ use Rattle.algebra.specs.Lists.{concat_map, filter_by, total}
 use Rattle.algebra.proofs.Signed.{is_neg, not_neg}
 use Rattle.exact.specs.Exact.{Number, number, max_exponent}
 use Rattle.text.specs.Decimal.{decimal}
-use Rattle.text.specs.declared.page.Writer.{Writer}
-use Rattle.text.specs.Inner.Puts.{Puts}
+use Rattle.text.specs.Page.{Page}
+use Rattle.text.specs.Inner.Written.{Written}
 use Rattle.text.proofs.Put.{text}
 use Rattle.answers.specs.Numbers.{Term, term, is_zero, terms, sign, sized, term_text, is_sum, sum_text, numerator, denominator, number_text}
 use Rattle.answers.specs.Inner.Sums.{shown, count_of}
@@ -58,8 +58,8 @@ shown_is first z unit s e =
 pub read-absent : {b : Bool} {z : ℤ} → SFits w64 z → b ≡ is_zero (to_z w64 (of_z w64 z)) → b ≡ is_zero z
 read-absent s e = e ∙ ap is_zero (to_z-of_z s)
 
-pub read-term : (first : Bool) (unit : List ℕ) {z : ℤ} {p q : Writer} → SFits w64 z → Puts p (shown first (record { coefficient = to_z w64 (of_z w64 z); unit = unit })) q
-    → Puts p (shown first (record { coefficient = z; unit = unit })) q
+pub read-term : (first : Bool) (unit : List ℕ) {z : ℤ} {p q : Page} → SFits w64 z → Written p (shown first (record { coefficient = to_z w64 (of_z w64 z); unit = unit })) q
+    → Written p (shown first (record { coefficient = z; unit = unit })) q
 read-term first unit s w = text (ap (λ (y : ℤ). shown first (record { coefficient = y; unit = unit })) (to_z-of_z s)) w
 
 -- ---- fractions

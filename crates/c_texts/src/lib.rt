@@ -22,7 +22,6 @@ use c_words::replies::{LEFT_REFUSED, RIGHT_REFUSED};
 use cells::CELL;
 use channel::compare::Difference;
 use judge_texts::Answer;
-use text::page::Writer;
 use verdict::{index, number};
 
 // The number of the refusal of a room that is too small.
@@ -157,25 +156,19 @@ pub fn text_channel(
 pub fn number_text(x: &[i64; CELL], out: &mut [u8]) -> usize
     ensures { page out.new result ≡ write (page out.old 0) (number_text (operand x.now)) }
 {
-    let mut w = Writer::new(out);
-    put_number(&mut w, read_operand(x));
-    w.at
+    put_number(out, 0, read_operand(x))
 }
 
 // Row and column of a Choi block on so many qubits, as the input and the output that they mean.
 pub fn entry_text(qubits: u32, row: usize, column: usize, out: &mut [u8]) -> usize
     ensures { page out.new result ≡ write (page out.old 0) (entry_text qubits row column) }
 {
-    let mut w = Writer::new(out);
-    put_bra_ket(&mut w, qubits, row, column);
-    w.at
+    put_bra_ket(out, 0, qubits, row, column)
 }
 
 // The bits of a store from bit 0 on.
 pub fn store_text(store: u64, bits: u32, out: &mut [u8]) -> usize
     ensures { page out.new result ≡ write (page out.old 0) (store_bits bits store) }
 {
-    let mut w = Writer::new(out);
-    put_store(&mut w, store, bits);
-    w.at
+    put_store(out, 0, store, bits)
 }

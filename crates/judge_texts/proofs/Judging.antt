@@ -9,7 +9,7 @@ use lib.IntN.{ℤ}
 use borrow.Author.Tests.{le-leb, lt-leb}
 use Rattle.circuit.specs.declared.limits.Limits.{Limits}
 use Rattle.text.specs.Page.{page, write}
-use Rattle.text.proofs.Put.{nothing}
+use Rattle.text.proofs.Put.{none}
 use Rattle.qasm.specs.declared.reader.Reading.{Reading}
 use Rattle.qasm.specs.Reading.{read_of, filled}
 use Rattle.answer_lines.specs.declared.Which as which
@@ -41,7 +41,7 @@ module _ (t u σ : List ℕ) (l : Limits) (g : List ℕ) (r s w : List ℤ) (o :
 
   pub short : length o < max_answer → page o 0 ≡ write (page o 0) (text_of t u σ l g r s w o)
   short h =
-      nothing (page o 0)
+      (none (page o 0)).is ∙ ap (write (page o 0))
       (ap (λ (b : Bool). cond b (chosen (refusal_text which.TheVariants.Left t (left_gates t u σ l g r s w o)) (refusal_text which.TheVariants.Right u (right_gates t u σ l g r s w o)) (λ (a b : Reading). compared_text a b (comparison t u σ l g r s w o)) (left t u σ l g r s w o)) [])
       (sym (lt-leb max_answer (length o) h)))
 

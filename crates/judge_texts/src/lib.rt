@@ -4,7 +4,7 @@
 ghost use Rattle.std.specs.Prelude.{◌≡◌};
 ghost use Rattle.qasm.specs.Reading.{read_of, filled};
 ghost use Rattle.text.specs.Page.{page, write};
-ghost use Rattle.text.specs.Inner.Puts.{Puts};
+ghost use Rattle.text.specs.Inner.Written.{Written};
 ghost use Rattle.text_sides.specs.Sides.{result_by, work_by};
 ghost use Rattle.judge_texts.specs.Call.{compared_text, answer_of, text_of, gates_after, first_after, second_after, work_after_both};
 ghost use Rattle.judge_texts.specs.Inner.Behind.{judged_behind, text_behind};
@@ -13,7 +13,6 @@ use answer_lines::{Fault, Which, put_different, put_dimensions, put_same};
 use channel::compare::{Comparison, compare};
 use circuit::limits::Limits;
 use qasm::reader::Reading;
-use text::page::Writer;
 use text_channel::MAX_ANSWER;
 use text_channel::refusals::refuse;
 use text_sides::run_side;
@@ -36,8 +35,13 @@ pub struct Judgement {
 }
 
 // Puts the answer of a comparison of the channels of two circuits.
-fn put_compared(out: &mut Writer<'_>, l: Reading, r: Reading, answer: Result<Comparison, Refusal>)
-    ensures { Puts out.old (compared_text l r answer) out.new }
+fn put_compared(
+    out: &mut [u8],
+    l: Reading,
+    r: Reading,
+    answer: Result<Comparison, Refusal>,
+) -> usize
+    ensures { Written (page out.old 0) (compared_text l r answer) (page out.new result) }
 {
     match answer {
         Ok(Comparison::Same) => put_same(out),
@@ -45,7 +49,7 @@ fn put_compared(out: &mut Writer<'_>, l: Reading, r: Reading, answer: Result<Com
         Ok(Comparison::Differs(d)) => put_different(
             out, l.qubits, l.bits, d.place, d.left, d.right,
         ),
-        Err(_) => (),
+        Err(_) => 0,
     }
 }
 
@@ -78,11 +82,10 @@ fn judge_right(
         }
     };
     let found = compare(first, second);
-    let mut w = Writer::new(out);
-    put_compared(&mut w, l, r, found);
+    let bytes = put_compared(out, l, r, found);
     Judgement {
         answer: Answer::Compared(found),
-        bytes: w.at,
+        bytes,
     }
 }
 

@@ -23,14 +23,14 @@ use Rattle.channel.specs.Layout.{Form, channels, header_size, record_size, word,
 use Rattle.channel.specs.WellFormed.{store_ok, is_dim, header_ok, chained, well_formed_in, well_formed}
 use Rattle.channel.proofs.Words.{dim_range}
 use Rattle.text.specs.Decimal.{decimal}
-use Rattle.text.specs.declared.page.Writer.{Writer}
-use Rattle.text.specs.Inner.Puts.{Puts}
+use Rattle.text.specs.Page.{Page}
+use Rattle.text.specs.Inner.Written.{Written}
 use Rattle.listing.specs.Listing.{newline, spaced, entry_line, entry_lines, listing, listing_of}
 use Rattle.text.proofs.Put.{text}
 
 -- ---- entries
 -- a word, as it is read
-pub spaced-word : {p q : Writer} (z : ℤ) → mag z < 2 ^ 63 → Puts p (spaced (to_z w64 (of_z w64 z))) q → Puts p (spaced z) q
+pub spaced-word : {p q : Page} (z : ℤ) → mag z < 2 ^ 63 → Written p (spaced (to_z w64 (of_z w64 z))) q → Written p (spaced z) q
 spaced-word z h w = text (ap spaced (reads z h)) w
 
 module _ (r c : ℕ) (x : Exact) where

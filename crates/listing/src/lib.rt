@@ -17,7 +17,6 @@ use circuit::limits::Limits;
 use circuit_text::input::{MAX_BITS, MAX_NUMBERS, read_input};
 use gate::GATE;
 use judge::call::circuit_channel;
-use text::page::Writer;
 
 // The most bytes of an answer, where the result has 5,200 words.
 pub const MAX_LISTING: usize = 202727;
@@ -37,11 +36,7 @@ fn list_circuit(
     ensures work { work.new ≡ work_after qubits bits store.now ceilings gates.now res.old work.old }
 {
     match circuit_channel(qubits, bits, store, gates, Limits::defaults(), res, work) {
-        Ok(()) => {
-            let mut w = Writer::new(out);
-            put_channel(&mut w, res);
-            w.at
-        }
+        Ok(()) => put_channel(out, res),
         Err(refusal) => write_refusal(out, refusal.number() as u64, refusal.index() as u64),
     }
 }

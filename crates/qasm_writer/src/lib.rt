@@ -13,7 +13,6 @@ use crate::printer::{name_span, put_text};
 use crate::room::is_within;
 use gate::GATE;
 use gate::judge::read_gate;
-use text::page::Writer;
 use verdict::{Refusal, Verdict};
 
 fn judge_formed(words: &[u32]) -> Verdict
@@ -61,7 +60,5 @@ pub fn write_qasm(qubits: u32, bits: u32, gates: &[u32], out: &mut [u8]) -> Resu
     if !is_within(qubits, bits, gates, out.len()) {
         return Err(Refusal::ShortBuffer);
     }
-    let mut w = Writer::new(out);
-    put_text(&mut w, qubits, bits, gates);
-    Ok(w.at)
+    Ok(put_text(out, qubits, bits, gates))
 }

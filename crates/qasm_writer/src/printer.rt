@@ -2,14 +2,15 @@
 ghost use Rattle.algebra.specs.Lists.{concat_map};
 ghost use Rattle.gate.specs.Gate.{gates_of};
 ghost use Rattle.gate.specs.Inner.Words.{gate_of};
-ghost use Rattle.text.specs.Inner.Puts.{Puts};
+ghost use Rattle.text.specs.Page.{page};
+ghost use Rattle.text.specs.Inner.Written.{Written};
 ghost use Rattle.qasm.specs.Writing.{gate_text, written};
 ghost use Rattle.qasm_writer.specs.Inner.Print.{Opens, indexed, qubit_if, others, head};
 
 use gate::judge::{GateWords, qubit_count, read_gate};
 use gate::{GATE, LAST_KIND, MEASURE};
 use qasm::bytes::Span;
-use text::page::Writer;
+use text::page::{put, put_all, put_decimal};
 
 // The names in the order of their kinds, each with the blank behind it.
 const NAMES: [u8; 61] = *b"h x z s sdg t tdg cx cz ccx measure reset y swap cy ch cswap ";
@@ -62,77 +63,82 @@ pub fn name_span(kind: u32) -> Span
 }
 
 // A number in brackets, behind the bytes that open it.
-fn put_indexed(out: &mut Writer<'_>, opening: &[u8], n: u32)
-    ensures { Puts out.old (indexed opening.now n) out.new }
+fn put_indexed(out: &mut [u8], at: usize, opening: &[u8], n: u32) -> usize
+    ensures { Written (page out.old at) (indexed opening.now n) (page out.new result) }
 {
-    out.put_all(opening);
-    out.put_decimal(n as u64);
-    out.put(b']');
+    let a = put_all(out, at, opening);
+    let b = put_decimal(out, a, n as u64);
+    put(out, b, b']')
 }
 
 // One more qubit, if there is one.
-fn put_qubit(out: &mut Writer<'_>, used: bool, n: u32)
-    ensures { Puts out.old (qubit_if used n) out.new }
+fn put_qubit(out: &mut [u8], at: usize, used: bool, n: u32) -> usize
+    ensures { Written (page out.old at) (qubit_if used n) (page out.new result) }
 {
     if used {
-        put_indexed(out, b",q[", n);
+        return put_indexed(out, at, b",q[", n);
     }
+    at
 }
 
 // The operands of a gate behind the first.
-fn put_others(out: &mut Writer<'_>, g: GateWords)
-    ensures { Puts out.old (others (gate_of g)) out.new }
+fn put_others(out: &mut [u8], at: usize, g: GateWords) -> usize
+    ensures { Written (page out.old at) (others (gate_of g)) (page out.new result) }
 {
     if g.kind == MEASURE {
-        put_indexed(out, b"->c[", g.b);
-    } else {
-        let count = qubit_count(g.kind);
-        put_qubit(out, 2 <= count, g.b);
-        put_qubit(out, 3 <= count, g.c);
+        return put_indexed(out, at, b"->c[", g.b);
     }
+    let count = qubit_count(g.kind);
+    let a = put_qubit(out, at, 2 <= count, g.b);
+    put_qubit(out, a, 3 <= count, g.c)
 }
 
 // The line of a gate; nothing where its kind has no name.
-fn put_gate(out: &mut Writer<'_>, g: GateWords)
-    ensures { Puts out.old (gate_text (gate_of g)) out.new }
+fn put_gate(out: &mut [u8], at: usize, g: GateWords) -> usize
+    ensures { Written (page out.old at) (gate_text (gate_of g)) (page out.new result) }
 {
     let name = name_span(g.kind);
     let start = name.start;
     let end = name.end;
     if start < end {
         let names: &[u8] = &NAMES;
-        out.put_all(&names[start..end]);
-        put_indexed(out, b"q[", g.a);
-        put_others(out, g);
-        out.put_all(b";\n");
+        let a = put_all(out, at, &names[start..end]);
+        let b = put_indexed(out, a, b"q[", g.a);
+        let c = put_others(out, b, g);
+        return put_all(out, c, b";\n");
     }
+    at
 }
 
-pub fn put_gates(out: &mut Writer<'_>, words: &[u32])
-    ensures { Puts out.old (concat_map gate_text (gates_of words.now)) out.new }
+pub fn put_gates(out: &mut [u8], at: usize, words: &[u32]) -> usize
+    ensures { Written (page out.old at) (concat_map gate_text (gates_of words.now)) (page out.new result) }
 {
+    let mut p = at;
     for i in 0..words.len() / GATE {
-        put_gate(out, read_gate(words, i * GATE));
+        let g = read_gate(words, i * GATE);
+        p = put_gate(out, p, g);
     }
+    p
 }
 
 // The header and both declarations.
-fn put_head(out: &mut Writer<'_>, qubits: u32, bits: u32)
-    ensures { Puts out.old (head qubits bits) out.new }
+fn put_head(out: &mut [u8], qubits: u32, bits: u32) -> usize
+    ensures { Written (page out.old 0) (head qubits bits) (page out.new result) }
 {
-    put_indexed(
+    let a = put_indexed(
         out,
+        0,
         b"OPENQASM 2.0;\ninclude \"qelib1.inc\";\nqreg q[",
         qubits,
     );
-    put_indexed(out, b";\ncreg c[", bits);
-    out.put_all(b";\n");
+    let b = put_indexed(out, a, b";\ncreg c[", bits);
+    put_all(out, b, b";\n")
 }
 
-// The text of a circuit.
-pub fn put_text(out: &mut Writer<'_>, qubits: u32, bits: u32, words: &[u32])
-    ensures { Puts out.old (written qubits bits (gates_of words.now)) out.new }
+// The text of a circuit, from the room's start on.
+pub fn put_text(out: &mut [u8], qubits: u32, bits: u32, words: &[u32]) -> usize
+    ensures { Written (page out.old 0) (written qubits bits (gates_of words.now)) (page out.new result) }
 {
-    put_head(out, qubits, bits);
-    put_gates(out, words);
+    let a = put_head(out, qubits, bits);
+    put_gates(out, a, words)
 }

@@ -2,6 +2,7 @@
 ghost use Rattle.std.specs.Prelude.{◌≡◌, ◌≤◌, ◌/◌, length};
 ghost use Rattle.gate.specs.Gate.{gate_size};
 ghost use Rattle.text.specs.Page.{page, write};
+ghost use Rattle.text.specs.Inner.Written.{Written};
 ghost use Rattle.answer_lines.specs.Lines.{refused_text};
 ghost use Rattle.statements.specs.Statements.{gate_count};
 ghost use Rattle.text_sides.specs.Sides.{words_read};
@@ -12,7 +13,6 @@ use answer_lines::{Fault, Which, put_refused};
 use answers::places::place_of;
 use gate::GATE;
 use statements::find_gate;
-use text::page::Writer;
 use text_sides::NoChannel;
 use verdict::Refusal;
 
@@ -103,7 +103,6 @@ pub fn refuse(out: &mut [u8], which: Which, text: &[u8], gates: &[u32], why: NoC
 {
     let fault = fault_of(text, why);
     let room = gates.len() / GATE;
-    let mut w = Writer::new(out);
-    put_refused(&mut w, which, fault, faulty_gate(gates, why), room);
-    Refused { fault, bytes: w.at }
+    let bytes = put_refused(out, which, fault, faulty_gate(gates, why), room);
+    Refused { fault, bytes }
 }

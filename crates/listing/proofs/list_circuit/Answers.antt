@@ -1,7 +1,6 @@
 -- `list_circuit` meets its contract.
 use Rattle.std.specs.Prelude.{is_ok}
 use Prim.Native.Nat.{ℕ}
-use borrow.Author.Rules.{rules}
 use mathlib.Core.Path.{◌≡◌, sym, ap, ◌∙◌, subst}
 use mathlib.Core.Bool.{true}
 use mathlib.Core.List.{List}
@@ -12,7 +11,6 @@ use Rattle.channel.specs.WellFormed.{well_formed}
 use Rattle.demands.proofs.Demands.{demand2}
 use Rattle.judge.specs.Call.{result_after, work_after}
 use Rattle.text.specs.Page.{page, write}
-use Rattle.text.proofs.Put.{lent}
 use Rattle.listing.specs.Listing.{refusal_line}
 use Rattle.listing.proofs.Answers.{lines_is}
 use Rattle.listing.proofs.list_circuit.Goals as goal
@@ -38,9 +36,8 @@ returns-in-Ok c =
     let d = c.defaults.ensures in
     let v = c.circuit_channel.ensures in
     let is = lines_is a.qubits a.bits a.store.now a.gates.now a.res.now a.work.now d c.in-Ok.ensures.value v.res_after in
-    let same = c.put_channel.ensures.same ∙ c.new-w.ensures.same in
     record {
-      lines = lent c.new-w.ensures.room c.new-w.ensures.at c.put_channel.ensures (search rules) ∙ ap (write (page a.out.now 0)) is;
+      lines = c.put_channel.ensures.is ∙ ap (write (page a.out.now 0)) is;
       res = result_is a.qubits a.bits a.store.now a.gates.now a.res.now a.work.now d v.res_after;
       work = work_is a.qubits a.bits a.store.now a.gates.now a.res.now a.work.now d v.work_after;
     }

@@ -14,7 +14,23 @@ use Rattle.channel.proofs.Chain.{onward_begin, first-index, header_long, on-insi
 use Rattle.listing.specs.Listing.{block_lines}
 use Rattle.text.proofs.Put.{left-all, left_less, left-none, left_is}
 use Rattle.listing.proofs.Listing.{chain_more, chain-end}
+use Rattle.listing.proofs.blocks.put_blocks.Lts as lts
+use Rattle.listing.proofs.blocks.put_blocks.Reads as reads
+use Rattle.listing.proofs.blocks.put_blocks.Tie as tie
 use Rattle.listing.proofs.blocks.put_blocks.Goals as goal
+
+abbrev In-loop-left : Type 0
+In-loop-left = lts.In-loop tie.the-claims reads.Pre reads.Post goal.the-invariant-loop-left goal.the-decreases-loop-left
+
+module _ (c : In-loop-left) where
+  form : Formed c.args.s.now
+  form = formed _ c.requires.0
+
+  walk : Onward c.args.s.now c.loop-left.left c.loop-left.place
+  walk = c.loop-left.invariant.0
+
+  inside : c.loop-left.place + 3 ≤ length c.args.s.now
+  inside = let q = on-inside walk c.loop-left-test.true in omega arith
 
 pub follow-place-requires : goal.follow-place-requires
 follow-place-requires c = let e = c.requires.0 in (header_long _ e, first-index _ e)
@@ -26,23 +42,22 @@ loop-left-init c =
       left_is (λ i. concat_map (block_lines c.args.m c.args.w) (chain (channels (dim_at l)) l (sym c.requires.1.1.1 i) (sym c.follow-place.ensures i))) (left-all _ _),
     )
 
-pub put_block-requires : goal.put_block-requires
-put_block-requires c =
+pub put_block-p-requires : goal.put_block-p-requires
+put_block-p-requires c =
     let ws = c.args.s.now in
     let at = c.loop-left.place in
     let h = c.loop-left-test.true in (
-      subst (λ (w : ℕ). w ≤ 256) (sym c.requires.1.0) (formed _ c.requires.0).head.room.width,
+      subst (λ (w : ℕ). w ≤ 256) (sym c.requires.1.0) (form c.before).head.room.width,
       (
-        subst (λ (m : ℕ). store_ok ws at m ≡ true) (sym c.requires.1.1.0) (on_store c.loop-left.invariant.0 h),
-        entries_held ws c.loop-left.left at c.args.w c.loop-left.invariant.0 h c.requires.1.0,
+        subst (λ (m : ℕ). store_ok ws at m ≡ true) (sym c.requires.1.1.0) (on_store (walk c.before) h),
+        entries_held ws c.loop-left.left at c.args.w (walk c.before) h c.requires.1.0,
       ),
     )
 
 pub follow-place-requires-in-loop-left : goal.follow-place-requires-in-loop-left
 follow-place-requires-in-loop-left c =
-    let walk = c.loop-left.invariant.0 in
-    let q = on-inside walk c.loop-left-test.true in
-    (omega arith, on-index walk c.loop-left-test.true)
+    let q = inside c.before.before.before.before.before in
+    (omega arith, on-index (walk c.before.before.before.before.before) c.loop-left-test.true)
 
 pub overflow_sub-left : goal.overflow_sub-left
 overflow_sub-left c = omega arith
@@ -54,10 +69,13 @@ pub loop-left-preserved : goal.loop-left-preserved
 loop-left-preserved c =
     let ws = c.args.s.now in
     let h = c.loop-left-test.true in (
-      subst (Onward ws (c.loop-left.left - 1)) (sym c.follow-place-in-loop-left.ensures) (on-next c.loop-left.invariant.0 h),
+      subst (Onward ws (c.loop-left.left - 1)) (sym c.follow-place-in-loop-left.ensures) (on-next (walk c.before.before.before.before.before.before) h),
       left_is (ap (λ (k : ℕ). concat_map (block_lines c.args.m c.args.w) (chain (channels (dim_at ws)) ws (c.loop-left.left - 1) k)) (sym c.follow-place-in-loop-left.ensures))
-          (left_less (left_is (ap (concat_map (block_lines c.args.m c.args.w)) (chain_more (channels (dim_at ws)) ws c.loop-left.left c.loop-left.place h)) c.loop-left.invariant.1) c.put_block.ensures),
+          (left_less (left_is (ap (concat_map (block_lines c.args.m c.args.w)) (chain_more (channels (dim_at ws)) ws c.loop-left.left c.loop-left.place h)) c.loop-left.invariant.1) c.put_block-p.ensures),
     )
+
+pub shape_of-out : goal.shape_of-out
+shape_of-out c = c.loop-left.invariant.1.same
 
 pub returns : goal.returns
 returns c =

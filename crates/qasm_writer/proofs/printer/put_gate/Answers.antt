@@ -8,8 +8,8 @@ pub returns-then-start-end : goal.returns-then-start-end
 returns-then-start-end c =
     let g = gate_of c.args.g in
     text (gate-shown g c.name_span-name.ensures c.if-start-end.true)
-    (then c.put_all.ensures (then c.put_indexed.ensures (then c.put_others.ensures c.put_all-then-start-end.ensures)))
+    (then c.put_all-a.ensures (then c.put_indexed-b.ensures (then c.put_others-c.ensures c.put_all.ensures)))
 
-pub returns-else-start-end : goal.returns-else-start-end
-returns-else-start-end c =
+pub returns : goal.returns
+returns c =
     text (gate_hidden (gate_of c.args.g) c.name_span-name.ensures c.if-start-end.false) (none _)

@@ -8,6 +8,6 @@ pub returns-then-g-eq-MEASURE : goal.returns-then-g-eq-MEASURE
 returns-then-g-eq-MEASURE c =
     text (others-bit (gate_of c.args.g) c.if-g-eq-MEASURE.true) c.put_indexed.ensures
 
-pub returns-else-g-eq-MEASURE : goal.returns-else-g-eq-MEASURE
-returns-else-g-eq-MEASURE c =
-    text (others-qubits (gate_of c.args.g) c.qubit_count-count.result c.if-g-eq-MEASURE.false c.qubit_count-count.ensures) (then c.put_qubit.ensures c.put_qubit-else-g-eq-MEASURE.ensures)
+pub returns : goal.returns
+returns c =
+    text (others-qubits (gate_of c.args.g) c.qubit_count-count.result c.if-g-eq-MEASURE.false c.qubit_count-count.ensures) (then c.put_qubit-a.ensures c.put_qubit.ensures)
