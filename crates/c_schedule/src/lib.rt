@@ -6,6 +6,7 @@ ghost use Rattle.verdict.specs.Verdict.{verdict_number, verdict_index};
 ghost use Rattle.schedule.specs.Questions.{schedule_verdict};
 
 use c_words::report;
+use schedule::Schedule;
 
 // Whether a reordered gate list is a schedule by its table: the verdict's number, and its index in `index`.
 pub fn judge_schedule(
@@ -19,6 +20,6 @@ pub fn judge_schedule(
     ensures value { result ≡ verdict_number (schedule_verdict qubits bits old.now new.now table.now) }
     ensures index_after { index.new ≡ verdict_index (schedule_verdict qubits bits old.now new.now table.now) }
 {
-    let v = schedule::judge_schedule(qubits, bits, old, new, table);
+    let v = Schedule { old, new, table }.judge(qubits, bits);
     report(&v, index)
 }

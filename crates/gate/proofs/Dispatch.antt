@@ -1,6 +1,6 @@
 -- The kinds of each arity, their qubits, and their entries by the matrices that the code embeds.
 use mathlib.Core.Path.{◌≡◌, refl, sym, ap, ◌∙◌, subst}
-use mathlib.Core.Bool.{Bool, true, false, cond, not, ◌&&◌, ◌||◌, or-false, true≢false}
+use mathlib.Core.Bool.{Bool, true, false, not, ◌&&◌, ◌||◌, or-false, true≢false}
 use mathlib.Core.List.{List, [], ◌∷◌}
 use Prim.Native.Nat.{ℕ, suc, ◌≤◌, ◌<◌}
 use native.Mathlib.Omega.{arith}
@@ -11,8 +11,8 @@ use Rattle.algebra.specs.Lists.{all_below, every}
 use Rattle.algebra.proofs.Tests.{exhaust, and_split, holds-true}
 use Rattle.exact.specs.Exact.{Exact, exact}
 use Rattle.gate.specs.Gate.{Gate, gate, arity, qubits, bits, elem, distinct, last_kind, rz, measure, reset, formed, placed, supported}
-use Rattle.gate.specs.Inner.Kinds.{one_qubit, splitting, controlled_once, controlled_twice, targeted, swapping, swap, cswap}
-use Rattle.gate.specs.Operators.{Small, operator, operators, no_unitary, controlled, swapped, identity, operator_at}
+use Rattle.gate.specs.Inner.Kinds.{one_qubit, controlled_once, controlled_twice, swap, cswap}
+use Rattle.gate.specs.Operators.{Small, operator, operators, no_unitary, controlled, swapped, operator_at}
 use Rattle.gate.specs.Embed.{embed, gate_entry}
 use Rattle.gate.specs.Questions.{on_qubits}
 use Rattle.gate.specs.Inner.Entries.{valid, table_of, core_of, small_of, unitary_of, target_of, Ready, Apart2, Apart3}
@@ -26,18 +26,6 @@ angles = 14 ∷ 17 ∷ 18 ∷ 21 ∷ 22 ∷ 23 ∷ 24 ∷ []
 
 abbrev only : ℕ → List ℕ → ℕ → Bool
 only u kinds m = not (eqb (arity m) u && not (elem m angles)) || elem m kinds
-
--- measure and reset, and the kinds after them
-pub listed : (m x y : ℕ) {b : Bool} → (eqb m x || eqb m y) ≡ b → elem m (x ∷ y ∷ []) ≡ b
-listed m x y e = simp or-false e
-
-pub no_split : (m : ℕ) (ks : List ℕ) → (eqb m measure || eqb m reset) ≡ false → elem m (measure ∷ reset ∷ ks) ≡ true → elem m ks ≡ true
-no_split m ks = go (eqb m measure) (eqb m reset) (elem m ks)
-  where
-    go : (a b c : Bool) → (a || b) ≡ false → (a || (b || c)) ≡ true → c ≡ true
-    go true b c e h = absurd (true≢false e)
-    go false true c e h = absurd (true≢false e)
-    go false false c e h = h
 
 module _ {n : ℕ} {g : Gate} {j : ℕ} (ready : Ready n g j) where
   kind_low : g.kind < suc last_kind
@@ -64,19 +52,6 @@ module _ {n : ℕ} {g : Gate} {j : ℕ} (ready : Ready n g j) where
 
   pub three-kinds : arity g.kind ≡ 3 → elem g.kind (cswap ∷ controlled_twice) ≡ true
   three-kinds = kinds 3 (cswap ∷ controlled_twice) tt
-
-  pub target_kinds : eqb (arity g.kind) 1 ≡ false → elem g.kind swapping ≡ false → elem g.kind targeted ≡ true
-  target_kinds e f =
-      go (eqb (arity g.kind) 1) (elem g.kind swapping) (elem g.kind angles) (elem g.kind targeted) e f able (holds-true (exhaust others (suc last_kind) tt g.kind kind_low))
-    where
-      others : ℕ → Bool
-      others m = eqb (arity m) 1 || (elem m swapping || (elem m angles || elem m targeted))
-
-      go : (a b c d : Bool) → a ≡ false → b ≡ false → c ≡ false → (a || (b || (c || d))) ≡ true → d ≡ true
-      go false false false d e f h t = t
-      go false false true d e f h t = absurd (true≢false h)
-      go false true c d e f h t = absurd (true≢false f)
-      go true b c d e f h t = absurd (true≢false e)
 
   pub three_else : (u : ℕ) → u ≡ arity g.kind → (u ≡ 1 → ⊥) → (u ≡ 2 → ⊥) → arity g.kind ≡ 3
   three_else u e f h = go (eqb (arity g.kind) 1) refl (eqb (arity g.kind) 2) refl (eqb (arity g.kind) 3) refl (holds-true (exhaust small (suc last_kind) tt g.kind kind_low))
@@ -114,11 +89,6 @@ module _ {n : ℕ} {g : Gate} {j : ℕ} (ready : Ready n g j) where
       }
 
 -- ---- the two-by-two matrix of a gate, by the tests of the code; u is the arity of its kind
-pub core_by : (g : Gate) (j u : ℕ) {s t v : Bool} → (eqb g.kind measure || eqb g.kind reset) ≡ s → u ≡ arity g.kind → eqb u 1 ≡ t → (eqb g.kind swap || eqb g.kind cswap) ≡ v
-    → cond s (table_of (operator_at (gate g.kind 0 0 0 0) j).small) (cond t (table_of (unitary_of g.kind g.k)) (cond v (table_of identity) (table_of (target_of g.kind)))) ≡ core_of g j
-core_by g j u e f h k = sym (λ i.
-    cond (listed g.kind measure reset e i) (table_of (operator_at (gate g.kind 0 0 0 0) j).small)
-    (cond ((ap (λ (u : ℕ). eqb u 1) (sym f) ∙ h) i) (table_of (unitary_of g.kind g.k)) (cond (listed g.kind swap cswap k i) (table_of identity) (table_of (target_of g.kind)))))
 
 -- ---- entries
 module _ (n j r s₀ : ℕ) where
@@ -132,9 +102,6 @@ module _ (n j r s₀ : ℕ) where
   module _ (a b c k : ℕ) where
     abbrev Entry : List ℕ → Small → ℕ → Type 0
     Entry qs u m = j < length (operators (gate m a b c k)) → At qs u ≡ gate_entry n (gate m a b c k) j r s₀
-
-    pub split-two : (m : ℕ) → elem m splitting ≡ true → j < length (operators (gate m a b c k)) → j < 2
-    split-two = elem_in (λ (m : ℕ). j < length (operators (gate m a b c k)) → j < 2) splitting ((λ l. l), ((λ l. l), tt))
 
     -- by the two-by-two matrix of the gate
     pub one_entry : (m : ℕ) → elem m one_qubit ≡ true → Entry (a ∷ []) (small_of (core_of (gate m a b c k) j)) m

@@ -8,8 +8,6 @@ pub mod Complete
 pub mod Embedding
 pub mod Listed
 pub mod Placed
-pub mod Kind
 pub mod Dispatch
 pub mod Partner
 pub mod Masks
-pub mod Sharing

@@ -1,7 +1,7 @@
 -- The rows of a gate's matrix as masks choose them: the controls' bits first, then the bits that the gate may change.
 use mathlib.Core.Path.{◌≡◌, refl, sym, ap, ◌∙◌, subst}
 use mathlib.Core.Logic.{◌≢◌}
-use mathlib.Core.Bool.{Bool, true, false, cond, ◌||◌, or-false}
+use mathlib.Core.Bool.{Bool, true, false, cond, or-false}
 use mathlib.Core.List.{List, [], ◌∷◌}
 use Prim.Native.Nat.{ℕ, zero, suc, ◌+◌, ◌-◌, ◌*◌, ◌/◌, ◌%◌, ◌^◌, ◌≤◌, ◌<◌}
 use native.Mathlib.Nat.{mod-lt}
@@ -9,8 +9,7 @@ use native.Mathlib.Decide.{ℕ_discrete}
 use native.Mathlib.Omega.{arith}
 use lib.Bits.{bit_and, bit_xor, and_zero_r}
 use lib.Dec.{T, eqb}
-use lib.ListN.{length, get_or}
-use lib.Pow.{pow_mono}
+use lib.ListN.{length}
 use borrow.Author.Tests.{eqb-false, eq-eqb, ne_eqb}
 use Rattle.algebra.specs.Lists.{all_below}
 use Rattle.algebra.proofs.Tests.{exhaust, equal1, equal2, or_no}
@@ -314,51 +313,3 @@ side-other f r =
     let e : (r * 2 + 1) / 2 ≡ r = omega arith in
     let h : (r * 2 + 1) % 2 ≡ 1 = omega arith in
     sym (ap (λ (t : Bool). cond t (f ((r * 2 + 1) / 2)).own (f ((r * 2 + 1) / 2)).other) (ne_eqb ((r * 2 + 1) % 2) 0 (λ z. absurd (omega (arith, h, z)))) ∙ ap (λ (k : ℕ). (f k).other) e)
-
--- the pair by the tests of the code
-pub pair-by : (low high : Pair) (held m r : ℕ) {s t u : Bool} → eqb (bit_and r held) held ≡ s → eqb (bit_and r m) 0 ≡ t → eqb (bit_and r m) m ≡ u
-    → cond s (cond t low (cond u high exchanged)) kept ≡ row_pair low high held m r
-pair-by low high held m r e f h = sym (λ i. cond (e i) (cond (f i) low (cond (h i) high exchanged)) kept)
-
--- ---- the masks, as the code finds them
-module _ (n a b c k : ℕ) where
-  abbrev weight : ℕ → ℕ
-  weight q = 2 ^ (n - 1 - q)
-
-  pub flips-swap : (m : ℕ) → m ≡ swap → weight a + weight b ≡ flips n (gate m a b c k)
-  flips-swap m e = subst (λ (m : ℕ). weight a + weight b ≡ flips n (gate m a b c k)) (sym e) refl
-
-  pub flips-controlled-swap : (m : ℕ) → m ≡ cswap → weight b + weight c ≡ flips n (gate m a b c k)
-  flips-controlled-swap m e = subst (λ (m : ℕ). weight b + weight c ≡ flips n (gate m a b c k)) (sym e) refl
-
-  pub flips_target : (m : ℕ) → (m ≡ swap → ⊥) → (m ≡ cswap → ⊥) → (u v : ℕ) → u ≡ arity m → u ≡ v → weight (get_or (a ∷ b ∷ c ∷ []) (v - 1) 0) ≡ flips n (gate m a b c k)
-  flips_target m p q u v e f =
-      ap (λ (u : ℕ). weight (get_or (a ∷ b ∷ c ∷ []) (u - 1) 0)) (sym f ∙ e)
-      ∙ sym (λ i. cond (ne_eqb m swap p i) (weight a + weight b) (cond (ne_eqb m cswap q i) (weight b + weight c) (weight (get_or (a ∷ b ∷ c ∷ []) (arity m - 1) 0))))
-
-  -- u is the arity of the kind m, and s and t the tests of the code
-  pub controls-by : (m u : ℕ) {s t : Bool} → u ≡ arity m → (eqb u 1 || eqb m swap) ≡ s → (eqb u 2 || eqb m cswap) ≡ t → cond s 0 (cond t (weight a) (weight a + weight b)) ≡ controls n (gate m a b c k)
-  controls-by m u e f h =
-      sym (λ i. cond (f i) 0 (cond (h i) (weight a) (weight a + weight b)))
-      ∙ ap (λ (u : ℕ). cond (eqb u 1 || eqb m swap) 0 (cond (eqb u 2 || eqb m cswap) (weight a) (weight a + weight b))) e
-
--- the weight of a qubit
-pub weight-small : (n q m : ℕ) → n ≤ 5 → m ≡ 2 ^ (n - 1 - q) → m ≤ 16
-weight-small n q m few e = omega (arith, e, pow_mono {i = n - 1 - q} {j = 4} (omega arith))
-
--- the first qubit, and the second of a kind on more than one
-module _ {n : ℕ} {g : Gate} {j : ℕ} (ready : Ready n g j) where
-  pub first_on : g.a < n
-  first_on = go (ℕ_discrete (arity g.kind) 1) (ℕ_discrete (arity g.kind) 2)
-    where
-      go : Dec (arity g.kind ≡ 1) → Dec (arity g.kind ≡ 2) → g.a < n
-      go (yes p) q = one_on ready p
-      go (no p) (yes q) = (two-on ready q).first
-      go (no p) (no q) = (three-on ready (three_else ready (arity g.kind) refl p q)).first
-
-  pub second-on : (arity g.kind ≡ 1 → ⊥) → g.b < n
-  second-on p = go (ℕ_discrete (arity g.kind) 2)
-    where
-      go : Dec (arity g.kind ≡ 2) → g.b < n
-      go (yes q) = (two-on ready q).second
-      go (no q) = (three-on ready (three_else ready (arity g.kind) refl p q)).others.first

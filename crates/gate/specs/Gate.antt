@@ -1,5 +1,5 @@
 -- A gate: five words, which of them name qubits and classical bits, and the questions asked of it.
-use Rattle.std.specs.Prelude.{Bool, true, false, cond, not, ◌&&◌, ◌||◌, List, [], ◌∷◌, ℕ, zero, suc, ◌+◌, ◌*◌, ◌/◌, eqb, leb, ltb, length, get_or, take, drop}
+use Rattle.std.specs.Prelude.{Bool, true, false, cond, not, ◌&&◌, ◌||◌, List, [], ◌∷◌, ℕ, zero, suc, ◌+◌, ◌*◌, ◌/◌, eqb, leb, ltb, length, get_or, take, drop, Option, Some, None}
 use Rattle.algebra.specs.Lists.{every, some}
 
 pub record Gate : Type 0 where
@@ -64,6 +64,10 @@ qubits g = take (arity g.kind) (g.a ∷ g.b ∷ g.c ∷ [])
 -- the classical bits that it writes
 abbrev pub bits : Gate → List ℕ
 bits g = cond (eqb g.kind measure) (g.b ∷ []) []
+
+-- the classical bit that it writes, if it writes one
+abbrev pub bit_of : Gate → Option ℕ
+bit_of g = cond (eqb g.kind measure) (Some g.b) None
 
 -- the words among a, b, c that it does not use
 abbrev pub unused : Gate → List ℕ

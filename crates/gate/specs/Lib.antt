@@ -1,4 +1,5 @@
 pub mod Gate
+pub mod Kinds
 pub mod Operators
 pub mod Embed
 pub mod Questions

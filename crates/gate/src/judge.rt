@@ -1,17 +1,19 @@
 // The questions that are asked of one gate, and what it counts for.
-ghost use Rattle.std.specs.Prelude.{◌≡◌, [], ◌∷◌, ℕ, ◌+◌, ◌≤◌, eqb, length, drop};
-ghost use Rattle.algebra.specs.Lists.{every};
-ghost use Rattle.gate.specs.Gate.{gate_size, gate_at, arity, elem, bits, formed, placed, supported, weight, splits};
+ghost use Rattle.std.specs.Prelude.{◌≡◌, ℕ, ◌+◌, ◌≤◌, eqb, ltb, length, take};
+ghost use Rattle.std.specs.List.{list_all};
+ghost use Rattle.gate.specs.Gate.{gate_size, gate_at, arity, elem, distinct, bits, bit_of, formed, placed, supported, weight, splits};
 ghost use Rattle.verdict.specs.Questions.{first_no};
 ghost use Rattle.gate.specs.Inner.Words.{gate_of};
+ghost use Rattle.gate.specs.Kinds.{Known};
 ghost use Rattle.gate.specs.Questions.{three_answers, on_qubits, gate_questions};
 
-use crate::{LAST_KIND, MEASURE, RESET, RZ};
+use crate::kinds::Kind;
 use verdict::{Refusal, Verdict};
 
 // The five words of a gate.
 #[derive(Clone, Copy, Debug, PartialEq, Eq)]
 pub struct GateWords {
+    // Kept: a word from outside may be no kind, which question 4 asks; known_kind is the kind that it names.
     pub kind: u32,
     pub a: u32,
     pub b: u32,
@@ -28,6 +30,7 @@ pub enum Asking {
 }
 
 // The gate in the five words from `at` on.
+// Kept: lists of gates are asked out of order (layers, schedules, bits written later on), and each caller would show the bound of a slice of five words where it now shows that of `at`.
 pub fn read_gate(words: &[u32], at: usize) -> GateWords
     requires { at + gate_size ≤ length words.now }
     ensures { gate_of result ≡ gate_at words.now at }
@@ -41,116 +44,112 @@ pub fn read_gate(words: &[u32], at: usize) -> GateWords
     }
 }
 
-// How many of the words a, b, c name qubits.
-pub fn qubit_count(kind: u32) -> u32
-    ensures { result ≡ arity kind }
+// Whether all words are below a bound.
+fn are_below(words: &[u32], bound: u32) -> bool
+    ensures { result ≡ list_all (λ (w : ℕ). ltb w bound) words.now }
 {
-    if LAST_KIND < kind {
-        return 0;
-    }
-    match kind {
-        8 => 2,
-        9 => 2,
-        10 => 3,
-        11 => 3,
-        19 => 2,
-        20 => 2,
-        21 => 2,
-        22 => 2,
-        23 => 2,
-        24 => 2,
-        25 => 2,
-        26 => 3,
-        _ => 1,
-    }
+    words.iter().all(|&w| w < bound)
 }
 
-// Whether the words after the first `used` of a, b, c are 0.
-fn are_unused(used: u32, a: u32, b: u32, c: u32) -> bool
-    ensures { result ≡ every (λ (w : ℕ). eqb w 0) (drop used (a ∷ b ∷ c ∷ [])) }
+// Whether the first `used` of three words are all different.
+fn are_distinct(used: usize, words: [u32; 3]) -> bool
+    ensures { result ≡ distinct (take used words) }
 {
-    match used {
-        0 => (a == 0) & ((b == 0) & (c == 0)),
-        1 => (b == 0) & (c == 0),
-        2 => c == 0,
-        _ => true,
-    }
+    let [a, b, c] = words;
+    (used < 2 || a != b) && (used < 3 || (a != c && b != c))
+}
+
+// Whether all words are 0.
+fn are_zero(words: &[u32]) -> bool
+    ensures { result ≡ list_all (λ (w : ℕ). eqb w 0) words.now }
+{
+    words.iter().all(|&w| w == 0)
 }
 
 impl GateWords {
+    // The kind that the first word names, if it names one.
+    pub fn known_kind(self) -> Option<Kind>
+        ensures { Known self.kind result }
+    {
+        Kind::try_from(self.kind).ok()
+    }
+
+    // How many of the words a, b, c name qubits.
+    pub fn qubit_count(self) -> usize
+        ensures value { result ≡ arity (gate_of self).kind }
+        ensures few { result ≤ 3 }
+    {
+        match self.known_kind() {
+            Some(kind) => kind.arity(),
+            None => 0,
+        }
+    }
+
+    // The classical bit that a measure writes.
+    pub fn bit(self) -> Option<u32>
+        ensures { result ≡ bit_of (gate_of self) }
+    {
+        match self.known_kind() {
+            Some(Kind::Measure) => Some(self.b),
+            _ => None,
+        }
+    }
+
     // Question 4.
     pub fn is_formed(self) -> bool
         ensures { result ≡ formed (gate_of self) }
     {
-        if LAST_KIND < self.kind {
-            return false;
+        let words = [self.a, self.b, self.c];
+        match self.known_kind() {
+            Some(Kind::Measure) => self.k == 0 && self.c == 0,
+            Some(Kind::Rz) => self.k <= 8 && are_zero(&words[1..]),
+            Some(kind) => self.k == 0 && are_zero(&words[kind.arity()..]),
+            None => false,
         }
-        if self.kind == MEASURE {
-            return (self.k == 0) & (self.c == 0);
-        }
-        let used = qubit_count(self.kind);
-        let free = are_unused(used, self.a, self.b, self.c);
-        if self.kind == RZ {
-            return (self.k <= 8) & free;
-        }
-        (self.k == 0) & free
     }
 
     // Whether the qubits are below n and all different.
     pub fn is_on_qubits(self, n: u32) -> bool
         ensures { result ≡ on_qubits n (gate_of self) }
     {
-        let a = self.a;
-        let b = self.b;
-        let c = self.c;
-        let used = qubit_count(self.kind);
-        match used {
-            0 => true,
-            1 => a < n,
-            2 => ((a < n) & (b < n)) & (a != b),
-            _ => ((a < n) & ((b < n) & (c < n))) & (!((a == b) | (a == c)) & (b != c)),
-        }
+        let used = self.qubit_count();
+        let words = [self.a, self.b, self.c];
+        are_below(&words[..used], n) && are_distinct(used, words)
     }
 
     // Question 5.
     pub fn is_placed(self, n: u32, bits: u32) -> bool
         ensures { result ≡ placed n bits (gate_of self) }
     {
-        let on = self.is_on_qubits(n);
-        if self.kind == MEASURE {
-            return on & (self.b < bits);
-        }
-        on
+        self.is_on_qubits(n) && self.bit().is_none_or(|b| b < bits)
     }
 
     // Question 6.
     pub fn is_supported(self) -> bool
         ensures { result ≡ supported (gate_of self) }
     {
-        let kind = self.kind;
-        let angle = (kind == 14)
-            | ((kind == 17)
-                | ((kind == 18) | ((kind == 21) | ((kind == 22) | ((kind == 23) | (kind == 24))))));
-        let none = (kind == RZ) & (self.k == 8);
-        !angle & !none
+        match self.known_kind() {
+            Some(Kind::P | Kind::Rx | Kind::Ry | Kind::Cp | Kind::Crx | Kind::Cry | Kind::Crz) =>
+                false,
+            Some(Kind::Rz) => self.k != 8,
+            _ => true,
+        }
     }
 
     // Whether it measures into the classical bit.
     pub fn writes(self, bit: u32) -> bool
         ensures { result ≡ elem bit (bits (gate_of self)) }
     {
-        (self.kind == MEASURE) & (bit == self.b)
+        self.bit() == Some(bit)
     }
 
     // h, sx and ch weigh 1.
     pub fn weight(self) -> u64
         ensures { result ≡ weight (gate_of self) }
     {
-        let kind = self.kind;
-        if (kind == 0) | ((kind == 16) | (kind == 25)) {
-            1
-        } else {
-            0
+        match self.known_kind() {
+            Some(Kind::H | Kind::Sx | Kind::Ch) => 1,
+            _ => 0,
         }
     }
 
@@ -158,11 +157,9 @@ impl GateWords {
     pub fn splits(self) -> u64
         ensures { result ≡ splits (gate_of self) }
     {
-        let kind = self.kind;
-        if (kind == MEASURE) | (kind == RESET) {
-            1
-        } else {
-            0
+        match self.known_kind() {
+            Some(Kind::Measure | Kind::Reset) => 1,
+            _ => 0,
         }
     }
 

@@ -1,12 +1,16 @@
 // The rows of a gate's matrices on n qubits. Row r has entries in two columns alone: its own, r, and its partner's, which has the bits flipped that the gate may change.
+// Kept (facts): n ≤ 5 and Ready stand in four functions here. A struct of a gate and n with both as ghost fields would be made by branches::run at each gate, from a clause on the whole circuit, and be taken
+// apart again by each function: the masks need n and one qubit, core_table needs Ready alone, and only n ≤ 5 would leave the clauses.
+// Kept (switches): the arms of flips are sums of masks of different qubits, and none is a step that a caller could choose.
+// Kept (buffers): the rows go to a slot of the one lent work area, and what branches says of the whole area, `fill` at a place, would have to be put together again from two parts of it.
 ghost use Rattle.std.specs.Prelude.{◌≡◌, ◌+◌, ◌-◌, ◌*◌, ◌^◌, ◌≤◌, ◌<◌, length};
 ghost use Rattle.cells.specs.Cells.{cell_size, fill};
 ghost use Rattle.gate.specs.Inner.Words.{gate_of};
 ghost use Rattle.gate.specs.Inner.Entries.{Ready, flips, controls, row_entry, pair_of, row_pair};
 
-use super::judge::{GateWords, qubit_count};
+use super::judge::GateWords;
+use super::kinds::Kind;
 use super::tables::core_table;
-use super::{CSWAP, SWAP};
 use cells::{CELL, write_cell};
 use scalar::{ONE, Scalar, ZERO};
 
@@ -30,24 +34,16 @@ pub fn flips(g: GateWords, n: u32) -> usize
     requires { (n ≤ 5) × Ready n (gate_of g) 0 }
     ensures { result ≡ flips n (gate_of g) }
 {
-    if g.kind == SWAP {
-        let a = mask(n, g.a);
-        let b = mask(n, g.b);
-        return a + b;
+    let Some(kind) = g.known_kind() else {
+        unreachable!()
+    };
+    match kind {
+        Kind::Swap => mask(n, g.a) + mask(n, g.b),
+        Kind::Cswap => mask(n, g.b) + mask(n, g.c),
+        Kind::Ccx | Kind::Ccz => mask(n, g.c),
+        Kind::Cnot | Kind::Cz | Kind::Cy | Kind::Ch => mask(n, g.b),
+        _ => mask(n, g.a),
     }
-    if g.kind == CSWAP {
-        let b = mask(n, g.b);
-        let c = mask(n, g.c);
-        return b + c;
-    }
-    let used = qubit_count(g.kind);
-    if used == 1 {
-        return mask(n, g.a);
-    }
-    if used == 2 {
-        return mask(n, g.b);
-    }
-    mask(n, g.c)
 }
 
 // The bits of a row number that are a gate's controls.
@@ -55,16 +51,14 @@ fn controls(g: GateWords, n: u32, j: usize) -> usize
     requires { (n ≤ 5) × Ready n (gate_of g) j }
     ensures { result ≡ controls n (gate_of g) }
 {
-    let used = qubit_count(g.kind);
-    if (used == 1) | (g.kind == SWAP) {
-        return 0;
+    let Some(kind) = g.known_kind() else {
+        unreachable!()
+    };
+    match kind {
+        Kind::Ccx | Kind::Ccz => mask(n, g.a) + mask(n, g.b),
+        Kind::Cnot | Kind::Cz | Kind::Cy | Kind::Ch | Kind::Cswap => mask(n, g.a),
+        _ => 0,
     }
-    let a = mask(n, g.a);
-    if (used == 2) | (g.kind == CSWAP) {
-        return a;
-    }
-    let b = mask(n, g.b);
-    a + b
 }
 
 // The pair of the rows in which the target's bit is x.

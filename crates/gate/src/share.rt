@@ -1,21 +1,15 @@
 // Whether two gates share a qubit or a classical bit.
-ghost use Rattle.std.specs.Prelude.{◌≡◌, [], ◌∷◌, take};
+ghost use Rattle.std.specs.Prelude.{◌≡◌, ℕ, eqb};
+ghost use Rattle.std.specs.List.{list_any};
 ghost use Rattle.gate.specs.Gate.{elem, qubits, bits, meet, share};
 ghost use Rattle.gate.specs.Inner.Words.{gate_of};
 
-use super::MEASURE;
-use super::judge::{GateWords, qubit_count};
+use super::judge::GateWords;
 
-// Whether q is one of the first `used` of a, b, c.
-fn is_among(q: u32, used: u32, a: u32, b: u32, c: u32) -> bool
-    ensures { result ≡ elem q (take used (a ∷ b ∷ c ∷ [])) }
+fn is_among(q: u32, words: &[u32]) -> bool
+    ensures { result ≡ list_any (λ (w : ℕ). eqb q w) words.now }
 {
-    match used {
-        0 => false,
-        1 => q == a,
-        2 => (q == a) | (q == b),
-        _ => (q == a) | ((q == b) | (q == c)),
-    }
+    words.iter().any(|&w| q == w)
 }
 
 impl GateWords {
@@ -23,33 +17,31 @@ impl GateWords {
     fn has_qubit(self, q: u32) -> bool
         ensures { result ≡ elem q (qubits (gate_of self)) }
     {
-        let used = qubit_count(self.kind);
-        is_among(q, used, self.a, self.b, self.c)
+        is_among(q, &[self.a, self.b, self.c][..self.qubit_count()])
+    }
+
+    // Whether some of the qubits is one of the gate's.
+    fn has_one(self, qs: &[u32]) -> bool
+        ensures { result ≡ list_any (λ (q : ℕ). elem q (qubits (gate_of self))) qs.now }
+    {
+        qs.iter().any(|&q| self.has_qubit(q))
     }
 
     // Whether some qubit is one of the other gate's.
     fn meets(self, other: GateWords) -> bool
         ensures { result ≡ meet (qubits (gate_of self)) (qubits (gate_of other)) }
     {
-        let used = qubit_count(self.kind);
-        match used {
-            0 => false,
-            1 => other.has_qubit(self.a),
-            2 => other.has_qubit(self.a) | other.has_qubit(self.b),
-            _ => other.has_qubit(self.a) | (other.has_qubit(self.b) | other.has_qubit(self.c)),
-        }
+        other.has_one(&[self.a, self.b, self.c][..self.qubit_count()])
     }
 
     // Whether both measure into one classical bit.
     fn meets_in_bits(self, other: GateWords) -> bool
         ensures { result ≡ meet (bits (gate_of self)) (bits (gate_of other)) }
     {
-        if self.kind == MEASURE {
-            return other.writes(self.b);
-        }
-        false
+        self.bit().is_some_and(|b| other.writes(b))
     }
 
+    // Whether they share a qubit or a classical bit.
     pub fn shares(self, other: GateWords) -> bool
         ensures { result ≡ share (gate_of self) (gate_of other) }
     {

@@ -1,13 +1,16 @@
 // The two-by-two matrices of the kinds, as arrays by value.
+// Kept (twins): the matrices differ in their entries alone; a function of the entries would be the array itself.
+// Kept (facts): Ready, as in rows.rt.
 ghost use Rattle.std.specs.Prelude.{◌≡◌, true, ◌<◌};
 ghost use Rattle.gate.specs.Gate.{gate, elem};
-ghost use Rattle.gate.specs.Operators.{phase, operator_at, identity};
+ghost use Rattle.gate.specs.Kinds.{number_of};
+ghost use Rattle.gate.specs.Operators.{hadamard, pauli_x, pauli_y, root_x, phase, operator_at, identity};
 ghost use Rattle.gate.specs.Inner.Words.{gate_of};
-ghost use Rattle.gate.specs.Inner.Kinds.{constants, unitary_kinds, splitting, targeted};
-ghost use Rattle.gate.specs.Inner.Entries.{Ready, unitary_of, target_of, table_of, core_of};
+ghost use Rattle.gate.specs.Inner.Kinds.{splitting};
+ghost use Rattle.gate.specs.Inner.Entries.{Ready, table_of, core_of};
 
-use super::judge::{GateWords, qubit_count};
-use super::{CSWAP, MEASURE, RESET, SWAP};
+use super::judge::GateWords;
+use super::kinds::Kind;
 use scalar::powers::power;
 use scalar::{ONE, Scalar, ZERO};
 
@@ -29,13 +32,33 @@ fn phase_table(k: u32) -> [[Scalar; 2]; 2]
     [[o, z], [z, w]]
 }
 
-// h, x, y or sx.
-fn constant_table(kind: u32) -> [[Scalar; 2]; 2]
-    requires { elem kind constants ≡ true }
-    ensures { result ≡ table_of (unitary_of kind 0) }
+// 1/√2 (1 1; 1 −1)
+fn hadamard_table() -> [[Scalar; 2]; 2]
+    ensures { result ≡ table_of hadamard }
+{
+    let p = Scalar {
+        n: [0, 1, 0, 0],
+        e: 1,
+    };
+    let m = Scalar {
+        n: [0, -1, 0, 0],
+        e: 1,
+    };
+    [[p, p], [p, m]]
+}
+
+fn x_table() -> [[Scalar; 2]; 2]
+    ensures { result ≡ table_of pauli_x }
 {
     let z = ZERO;
     let o = ONE;
+    [[z, o], [o, z]]
+}
+
+fn y_table() -> [[Scalar; 2]; 2]
+    ensures { result ≡ table_of pauli_y }
+{
+    let z = ZERO;
     let i = Scalar {
         n: [0, 0, 1, 0],
         e: 0,
@@ -44,14 +67,24 @@ fn constant_table(kind: u32) -> [[Scalar; 2]; 2]
         n: [0, 0, -1, 0],
         e: 0,
     };
-    let h = Scalar {
-        n: [0, 1, 0, 0],
-        e: 1,
-    };
+    [[z, j], [i, z]]
+}
+
+fn z_table() -> [[Scalar; 2]; 2]
+    ensures { result ≡ table_of (phase 4) }
+{
+    let z = ZERO;
     let m = Scalar {
-        n: [0, -1, 0, 0],
-        e: 1,
+        n: [-1, 0, 0, 0],
+        e: 0,
     };
+    [[ONE, z], [z, m]]
+}
+
+// 1/2 (1 + i, 1 − i; 1 − i, 1 + i)
+fn sx_table() -> [[Scalar; 2]; 2]
+    ensures { result ≡ table_of root_x }
+{
     let p = Scalar {
         n: [1, 0, 1, 0],
         e: 1,
@@ -60,58 +93,22 @@ fn constant_table(kind: u32) -> [[Scalar; 2]; 2]
         n: [1, 0, -1, 0],
         e: 1,
     };
-    match kind {
-        0 => [[h, h], [h, m]],
-        1 => [[z, o], [o, z]],
-        15 => [[z, j], [i, z]],
-        _ => [[p, q], [q, p]],
-    }
-}
-
-// The unitary of a one-qubit kind.
-fn unitary_table(kind: u32, k: u32) -> [[Scalar; 2]; 2]
-    requires { elem kind unitary_kinds ≡ true }
-    ensures { result ≡ table_of (unitary_of kind k) }
-{
-    match kind {
-        2 => phase_table(4),
-        3 => phase_table(2),
-        4 => phase_table(6),
-        5 => phase_table(1),
-        6 => phase_table(7),
-        7 => phase_table(k),
-        _ => constant_table(kind),
-    }
+    [[p, q], [q, p]]
 }
 
 // Operator j of measure or reset.
-fn split_table(kind: u32, j: usize) -> [[Scalar; 2]; 2]
-    requires { (elem kind splitting ≡ true) × (j < 2) }
-    ensures { result ≡ table_of (operator_at (gate kind 0 0 0 0) j).small }
+fn split_table(kind: Kind, j: usize) -> [[Scalar; 2]; 2]
+    requires { (elem (number_of kind) splitting ≡ true) × (j < 2) }
+    ensures { result ≡ table_of (operator_at (gate (number_of kind) 0 0 0 0) j).small }
 {
     let z = ZERO;
     let o = ONE;
     if j == 0 {
         return [[o, z], [z, z]];
     }
-    if kind == MEASURE {
-        return [[z, z], [z, o]];
-    }
-    [[z, o], [z, z]]
-}
-
-// The unitary on the target of a controlled kind.
-fn target_table(kind: u32) -> [[Scalar; 2]; 2]
-    requires { elem kind targeted ≡ true }
-    ensures { result ≡ table_of (target_of kind) }
-{
     match kind {
-        8 => constant_table(1),
-        10 => constant_table(1),
-        9 => phase_table(4),
-        11 => phase_table(4),
-        20 => constant_table(15),
-        _ => constant_table(0),
+        Kind::Measure => [[z, z], [z, o]],
+        _ => [[z, o], [z, z]],
     }
 }
 
@@ -120,15 +117,24 @@ pub fn core_table(g: GateWords, n: u32, j: usize) -> [[Scalar; 2]; 2]
     requires { Ready n (gate_of g) j }
     ensures { result ≡ core_of (gate_of g) j }
 {
-    if (g.kind == MEASURE) | (g.kind == RESET) {
-        return split_table(g.kind, j);
+    let Some(kind) = g.known_kind() else {
+        unreachable!()
+    };
+    match kind {
+        Kind::H | Kind::Ch => hadamard_table(),
+        Kind::X | Kind::Cnot | Kind::Ccx => x_table(),
+        Kind::Y | Kind::Cy => y_table(),
+        Kind::Sx => sx_table(),
+        Kind::Z | Kind::Cz | Kind::Ccz => z_table(),
+        Kind::S => phase_table(2),
+        Kind::Sdg => phase_table(6),
+        Kind::T => phase_table(1),
+        Kind::Tdg => phase_table(7),
+        Kind::Rz => phase_table(g.k),
+        Kind::Measure | Kind::Reset => split_table(kind, j),
+        Kind::Swap | Kind::Cswap => identity_table(),
+        Kind::P | Kind::Rx | Kind::Ry | Kind::Cp | Kind::Crx | Kind::Cry | Kind::Crz => {
+            unreachable!()
+        }
     }
-    let used = qubit_count(g.kind);
-    if used == 1 {
-        return unitary_table(g.kind, g.k);
-    }
-    if (g.kind == SWAP) | (g.kind == CSWAP) {
-        return identity_table();
-    }
-    target_table(g.kind)
 }

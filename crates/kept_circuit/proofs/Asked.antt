@@ -1,17 +1,24 @@
 -- The words that an edit leaves, by its verdict, and what a gate that may be taken out is known for.
-use Rattle.std.specs.Prelude.{is_ok, Ok}
-use mathlib.Core.Path.{◌≡◌, sym, ap, ◌∙◌}
+use Rattle.std.specs.Prelude.{is_ok, Ok, Err}
+use mathlib.Core.Path.{◌≡◌, sym, ap, ◌∙◌, subst}
 use mathlib.Core.Bool.{Bool, true, false, cond, ◌&&◌, ◌||◌}
 use mathlib.Core.List.{List}
-use Prim.Native.Nat.{ℕ, ◌<◌}
+use Prim.Native.Nat.{ℕ, ◌+◌, ◌≤◌, ◌<◌}
+use native.Mathlib.Omega.{arith}
 use lib.Dec.{leb, ltb}
+use lib.ListN.{length}
 use lib.IntN.{ℤ}
-use borrow.Author.Tests.{ltb-true, lt-leb}
+use borrow.Author.Tests.{ltb-true, lt-leb, lt-ltb}
 use Rattle.algebra.proofs.Tests.{and_split}
 use Rattle.verdict.specs.Questions.{Verdict, first_no}
+use Rattle.verdict.specs.declared.Refusal.TheVariants.{NoPlace, BadCounts}
 use Rattle.verdict.proofs.Questions.{all_yes}
-use Rattle.kept_circuit.specs.Kept.{gates_of, sound}
-use Rattle.kept_circuit.specs.Edits.{takeable, take_questions}
+use Rattle.algebra.specs.Lists.{every}
+use Rattle.gate.specs.Gate.{Gate, gate_size, bits}
+use Rattle.kept_circuit.specs.Kept.{max_bits, gate_place, gates_of, room, sound}
+use Rattle.kept_circuit.specs.Edits.{ask_gate, append_verdict, gate_in, takeable, take_questions}
+use Rattle.kept_circuit.specs.Inner.Taken.{Taken}
+use Rattle.kept_circuit.proofs.Sound.{Sound, bits-counted, takes_is, place_in}
 
 -- x where the verdict accepts, l where it refuses
 module _ (x l : List ℤ) {v w : Verdict} (e : v ≡ w) where
@@ -27,3 +34,22 @@ taken l i e =
     let all = and_split (sound l && (leb (gates_of l) i || takeable l i)) _ (sym (all_yes tt (take_questions l i)) ∙ sym (ap is_ok e)) in
     let inside = ltb-true i (gates_of l) (and_split (ltb i (gates_of l)) true all.1).0 in
     (inside, ap (λ (b : Bool). b || takeable l i) (sym (lt-leb (gates_of l) i inside)) ∙ (and_split (sound l) _ all.0).1)
+
+module _ {l : List ℤ} {i : ℕ} {g : Gate} where
+  -- of words that are the same
+  pub taken_by : {k : List ℤ} → k ≡ l → Taken k i g → Taken l i g
+  taken_by e t = subst (λ (l : List ℤ). Taken l i g) e t
+
+  module _ (s : Sound l) (t : Taken l i g) where
+    pub taken_bits : every (λ (b : ℕ). ltb b max_bits) (bits g) ≡ true
+    taken_bits = ap (λ (g : Gate). every (λ (b : ℕ). ltb b max_bits) (bits g)) t.is ∙ bits-counted s i (gate_in l i) (takes_is l i (taken l i t.asked).1).asked
+
+    pub taken_place : gate_place i + gate_size ≤ length l
+    taken_place = place_in s i (taken l i t.asked).0
+
+-- ---- an appended gate is asked by sound counts with a place for it
+pub append_asked : {k l : List ℤ} {i : ℕ} → k ≡ l → i ≡ gates_of k → (g : Gate) → sound l ≡ true → i < room (length l) → {v : Verdict} → v ≡ first_no (ask_gate k i g) → v ≡ append_verdict l g
+append_asked {k} {l} {i} e f g s h a =
+    let at : i ≡ gates_of l = f ∙ ap gates_of e in
+    let free : ltb (gates_of l) (room (length l)) ≡ true = lt-ltb (gates_of l) (room (length l)) (omega (arith, h, at)) in
+    a ∙ (λ j. first_no (ask_gate (e j) (at j) g)) ∙ (λ j. cond (sym s j) (cond (sym free j) (first_no (ask_gate l (gates_of l) g)) (Err NoPlace)) (Err BadCounts))

@@ -1,6 +1,6 @@
 -- The test that the counts cover a gate, by its parts.
 use mathlib.Core.Path.{◌≡◌, refl, sym, ap, ◌∙◌}
-use mathlib.Core.Bool.{Bool, true, false, cond, ◌&&◌, true≢false}
+use mathlib.Core.Bool.{Bool, true, false, cond, ◌&&◌}
 use mathlib.Core.List.{List, [], ◌∷◌}
 use Prim.Native.Nat.{ℕ}
 use lib.Dec.{eqb, leb}
@@ -32,11 +32,3 @@ module _ (l : List ℤ) (g : Gate) where
   covers-yes e f =
       let (p, q) = and_split (leb (weight g) (count_at l weight_place)) (leb (splits g) (count_at l splits_place)) e in
       λ i. sym p i && (sym q i && f i)
-
-  pub covers_no : both ≡ false → false ≡ covers l g
-  covers_no = go (leb (weight g) (count_at l weight_place)) (leb (splits g) (count_at l splits_place))
-    where
-      go : (a b : Bool) → (a && b) ≡ false → false ≡ (a && (b && every (covers_bit l) (bits g)))
-      go true true e = absurd (true≢false e)
-      go true false e = refl
-      go false b e = refl

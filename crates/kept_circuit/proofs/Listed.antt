@@ -1,17 +1,16 @@
 -- The words of a gate list: their length, where each gate stands, and what the edits make of them.
 use Rattle.std.specs.Prelude.{is_ok}
-use mathlib.Core.Path.{◌≡◌, refl, sym, ap, ◌∙◌, subst}
+use mathlib.Core.Path.{◌≡◌, refl, sym, ap, ◌∙◌}
 use mathlib.Core.Bool.{Bool, true, false, cond, not, ◌&&◌, ◌||◌, true≢false}
 use mathlib.Core.List.{List, [], ◌∷◌, ◌++◌, append_assoc, append-nil}
-use Prim.Native.Nat.{ℕ, zero, suc, ◌+◌, ◌-◌, ◌*◌, ◌/◌, ◌≤◌, ◌<◌, min}
-use native.Mathlib.Nat.{le_trans, le-min, add-zero, le_refl}
-use native.Mathlib.Decide.{dec_lt}
+use Prim.Native.Nat.{ℕ, zero, suc, ◌+◌, ◌-◌, ◌*◌, ◌/◌, ◌≤◌, ◌<◌}
+use native.Mathlib.Nat.{le_trans, le-min, add-zero}
 use native.Mathlib.Omega.{arith}
 use lib.Dec.{eqb, leb, ltb}
-use lib.ListN.{length, get_or, take, drop, set, replicate, length-append, length-replicate, get_or-append}
+use lib.ListN.{length, get_or, take, drop, replicate, length-append, length-replicate, get_or-append}
 use lib.Seq.{sets, sets-eq, take_at, drop-append-add, drop_at, get_or-append-add}
 use lib.IntN.{ℤ, pos, nat_abs}
-use borrow.Author.Tests.{le-leb, lt-ltb, ltb-true, leb-true, eqb-true, eqb-false, ne_eqb, eq-eqb}
+use borrow.Author.Tests.{le-leb, lt-ltb, ltb-true, leb-true, eqb-true, ne_eqb, eq-eqb}
 use Rattle.algebra.specs.Lists.{every, total, marks, concat_map}
 use Rattle.algebra.specs.Words.{up_to}
 use Rattle.algebra.proofs.Tests.{and_split, all-by}
@@ -28,11 +27,11 @@ use Rattle.gate.specs.Inner.Entries.{valid}
 use Rattle.circuit.specs.Footprint.{writes}
 use Rattle.circuit.proofs.Counts.{splits-one, weight-one, marks-more}
 use Rattle.kept_circuit.specs.Kept.{qubits_place, bits_place, gates_place, weight_place, splits_place, written_place, measures_place, max_qubits, max_bits, max_gates}
-use Rattle.kept_circuit.specs.Kept.{head_size, gate_place, gate_words, measures, measure_words, places, kept_words, count_at, gates_of, kept_gate, room, all_up_to, sound}
-use Rattle.kept_circuit.specs.Edits.{counted, put, ask_gate, gate_in, covers_bit, covers, takeable, no_gate}
+use Rattle.kept_circuit.specs.Kept.{head_size, gate_place, gate_words, measures, measure_words, places, kept_words, count_at, gates_of, kept_gate, all_up_to, sound}
+use Rattle.kept_circuit.specs.Edits.{counted, put, gate_in, covers_bit, covers, takeable, no_gate}
 use Rattle.kept_circuit.proofs.Covers.{every-bit, every-none, covers-yes}
 use Rattle.kept_circuit.proofs.Head.{six, headed, headed_middle, headed_append, length-headed, length-measures, measures-at, measures-few}
-use Rattle.kept_circuit.proofs.Head.{measures-here, newly-here, marks-few, marks_middle, total-few, total_middle, length_middle, step_in, step_out, counted-head}
+use Rattle.kept_circuit.proofs.Head.{measures-here, newly-here, marks-few, marks_middle, total-few, total_middle, step_in, step_out, counted-head}
 
 pub kept_is : (n m : ℕ) (gs : List Gate) (spare : ℕ) → kept_words n m gs spare ≡ headed n m gs (places gs spare)
 unfolding kept_words headed

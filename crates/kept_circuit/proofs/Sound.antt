@@ -1,5 +1,5 @@
 -- Sound counts are small, and stay small as they are moved; the bits of a gate that has passed its questions have counts.
-use Rattle.std.specs.Prelude.{is_ok}
+use Rattle.std.specs.Prelude.{is_ok, Some, None}
 use mathlib.Core.Path.{◌≡◌, refl, sym, ap, ◌∙◌, subst}
 use mathlib.Core.Bool.{Bool, true, false, cond, ◌&&◌, ◌||◌, true≢false}
 use mathlib.Core.List.{List, [], ◌∷◌}
@@ -20,7 +20,7 @@ use Rattle.channel.specs.Layout.{word}
 use Rattle.store.specs.Store.{max_word}
 use Rattle.verdict.specs.Questions.{first_no}
 use Rattle.verdict.proofs.Questions.{all_yes}
-use Rattle.gate.specs.Gate.{Gate, gate_size, measure, bits, weight, splits, qubits, distinct, formed, placed}
+use Rattle.gate.specs.Gate.{Gate, gate_size, measure, bits, bit_of, weight, splits, qubits, distinct, formed, placed}
 use Rattle.circuit.proofs.Counts.{splits-one, weight-one}
 use Rattle.kept_circuit.specs.Kept.{qubits_place, bits_place, gates_place, weight_place, splits_place, written_place, measures_place, max_qubits, max_bits, max_gates, head_size, gate_place, count_at, qubits_of, bits_of, gates_of, room, all_up_to, sound}
 use Rattle.kept_circuit.specs.Edits.{moved, move_at, mark, mark_all, counted, ask_gate, gate_in, covers, takeable}
@@ -34,31 +34,6 @@ up_more (negsuc a) e h = absurd (true≢false (sym e))
 pub up_at : (l : List ℤ) (at n top : ℕ) → all_up_to l at n top ≡ true → (k : ℕ) → k < n → up_to top (word l (at + k)) ≡ true
 unfolding all_up_to
 up_at l at n top e k h = all-at n (λ (k : ℕ). up_to top (word l (at + k))) e k h
-
--- the whole test, where there are words enough
-module _ (l : List ℤ) (long : leb head_size (length l) ≡ true) where
-  -- its first three parts
-  abbrev pub heads : Bool
-  heads = up_to max_qubits (word l qubits_place) && (up_to max_bits (word l bits_place) && up_to (room (length l)) (word l gates_place))
-
-  pub sound-yes : {t : Bool} → heads ≡ true → t ≡ all_up_to l weight_place (head_size - weight_place) (gates_of l) → t ≡ sound l
-  unfolding sound
-  sound-yes e f =
-      let (p, q) = and_split (up_to max_qubits (word l qubits_place)) _ e in
-      let (r, s) = and_split (up_to max_bits (word l bits_place)) (up_to (room (length l)) (word l gates_place)) q in
-      λ i. sym long i && (sym p i && (sym r i && (sym s i && f i)))
-
-  pub sound_no : heads ≡ false → false ≡ sound l
-  unfolding sound
-  sound_no e =
-      go (up_to max_qubits (word l qubits_place)) (up_to max_bits (word l bits_place)) (up_to (room (length l)) (word l gates_place)) e
-      ∙ (λ i. sym long i && (up_to max_qubits (word l qubits_place) && (up_to max_bits (word l bits_place) && (up_to (room (length l)) (word l gates_place) && all_up_to l weight_place (head_size - weight_place) (gates_of l)))))
-    where
-      go : (a b c : Bool) → (a && (b && c)) ≡ false → false ≡ (a && (b && (c && all_up_to l weight_place (head_size - weight_place) (gates_of l))))
-      go true true true e = absurd (true≢false e)
-      go true true false e = refl
-      go true false c e = refl
-      go false b c e = refl
 
 -- what sound counts say
 pub record Sound (l : List ℤ) : Type 0 where
@@ -102,10 +77,6 @@ module _ {l : List ℤ} {t : ℕ} (w : Within l t) where
           ∙ ap (up_to (t + 1)) (get_or-set_same l at (pos (moved more (count_at l at) d)) (pos 0) (omega (arith, w.long))) ∙ moved_up more (count_at l at) d (within_is at b).1 u
       go k h (no ne) =
           ap (up_to (t + 1)) (get_or-set_other l at k (pos (moved more (count_at l at) d)) (pos 0) ne) ∙ up_more (word l k) (w.small k h) (omega arith)
-
-pub moved_le : (more : Bool) (x d : ℕ) → moved more x d ≤ x + d
-moved_le true x d = omega arith
-moved_le false x d = omega arith
 
 -- a part of the counts after a mark, and after a gate
 module _ {l : List ℤ} {t : ℕ} (w : Within l t) (more : Bool) where
@@ -158,22 +129,23 @@ length-counted more l g = go (eqb g.kind measure)
     go true = length-mark more _ g.b ∙ totals
     go false = totals
 
--- a gate that does, or does not, measure
-module _ (more : Bool) (l : List ℤ) (g : Gate) where
-  abbrev pub totals : List ℤ
-  totals = move_at more (move_at more (move_at more l gates_place 1) weight_place (weight g)) splits_place (splits g)
+-- the bit that a gate measures into, if it measures
+pub bits-one : (g : Gate) {b : ℕ} → bit_of g ≡ Some b → bits g ≡ b ∷ []
+bits-one g {b} = go (eqb g.kind measure)
+  where
+    go : (t : Bool) → cond t (Some g.b) None ≡ Some b → cond t (g.b ∷ []) [] ≡ b ∷ []
+    go true e = cc
+    go false e = absurd (cc)
 
-  pub counted-bit : eqb g.kind measure ≡ true → mark more totals g.b ≡ counted more l g
-  unfolding counted
-  counted-bit e = ap (λ (c : Bool). mark_all more totals (cond c (g.b ∷ []) [])) (sym e)
+pub bits-none : (g : Gate) → bit_of g ≡ None → bits g ≡ []
+bits-none g = go (eqb g.kind measure)
+  where
+    go : (t : Bool) → cond t (Some g.b) None ≡ None → cond t (g.b ∷ []) [] ≡ []
+    go true e = absurd (cc)
+    go false e = refl
 
-  pub counted_none : eqb g.kind measure ≡ false → totals ≡ counted more l g
-  unfolding counted
-  counted_none e = ap (λ (c : Bool). mark_all more totals (cond c (g.b ∷ []) [])) (sym e)
-
-pub bit-small : (g : Gate) → eqb g.kind measure ≡ true → every (λ (b : ℕ). ltb b max_bits) (bits g) ≡ true → g.b < max_bits
-bit-small g e h =
-    ltb-true g.b max_bits (and_split (ltb g.b max_bits) true (ap (λ (c : Bool). every (λ (b : ℕ). ltb b max_bits) (cond c (g.b ∷ []) [])) (sym e) ∙ h)).0
+pub bit-small : (g : Gate) {b : ℕ} → bit_of g ≡ Some b → every (λ (b : ℕ). ltb b max_bits) (bits g) ≡ true → b < max_bits
+bit-small g {b} e h = ltb-true b max_bits (and_split (ltb b max_bits) true (sym (ap (every (λ (b : ℕ). ltb b max_bits)) (bits-one g e)) ∙ h)).0
 
 -- ---- sound counts
 module _ {l : List ℤ} (s : Sound l) where

@@ -1,4 +1,6 @@
 // The counts: whether they may be those of a circuit, and a gate more or less in them.
+// Kept (buffers): the layout of the C interface gives each count its word.
+// Kept (facts): that the bit of a gate has a count stands in four functions: questions 4 to 6 answer it, with a verdict. A type for such a gate would hold the gate and this fact, and be made where they are asked, at three places.
 ghost use Rattle.std.specs.Prelude.{◌≡◌, true, ℕ, ◌+◌, ◌^◌, ◌≤◌, ◌<◌, ltb, length};
 ghost use Rattle.std.specs.List.{list_all};
 ghost use Rattle.algebra.specs.Lists.{every};
@@ -11,8 +13,8 @@ ghost use Rattle.kept_circuit.specs.Inner.Within.{Within};
 
 use channel::layout::{follow, up_to};
 use circuit::limits::{MAX_CLASSICAL_BITS, MAX_OPERATIONS, MAX_QUBITS};
+use gate::GATE;
 use gate::judge::GateWords;
-use gate::{GATE, MEASURE};
 
 // The layout: the counts, then five words a gate.
 pub const QUBITS: usize = 0;
@@ -115,7 +117,7 @@ pub fn count_gate(words: &mut [i64], g: GateWords, more: bool)
     move_count(words, GATES, 1, more);
     move_count(words, WEIGHT, weight as usize, more);
     move_count(words, SPLITS, splits as usize, more);
-    if g.kind == MEASURE {
-        mark_bit(words, g.b as usize, more);
+    if let Some(b) = g.bit() {
+        mark_bit(words, b as usize, more);
     }
 }

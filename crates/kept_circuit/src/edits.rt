@@ -1,16 +1,17 @@
 // Start, append, remove last and replace.
-ghost use Rattle.std.specs.Prelude.{◌≡◌, true, false, ℕ, ◌+◌, ◌≤◌, ◌<◌, ltb, length};
+// Kept (together, buffers): the words, counts and all, are the caller's, whose layout and positions the C interface fixes.
+// Kept (facts): that the bit of a gate has a count, as in counts.rt.
+ghost use Rattle.std.specs.Prelude.{◌≡◌, true, ℕ, ◌+◌, ◌≤◌, ltb, length};
 ghost use Rattle.algebra.specs.Lists.{every};
-ghost use Rattle.verdict.specs.Questions.{first_no};
 ghost use Rattle.gate.specs.Gate.{gate_size, bits};
 ghost use Rattle.gate.specs.Inner.Words.{gate_of};
-ghost use Rattle.kept_circuit.specs.Kept.{max_bits, gate_place, gates_of, sound};
-ghost use Rattle.kept_circuit.specs.Edits.{counted, put, start_verdict, started, append_verdict, appended, gate_in, takeable, take_questions, remove_verdict, removed, replace_verdict, replaced};
+ghost use Rattle.kept_circuit.specs.Kept.{max_bits, gate_place};
+ghost use Rattle.kept_circuit.specs.Edits.{counted, put, start_verdict, started, append_verdict, appended, remove_verdict, removed, replace_verdict, replaced};
 ghost use Rattle.kept_circuit.specs.Inner.Within.{Within};
 
-use crate::counts::{BITS, GATES, HEAD, QUBITS, count_gate, is_sound, room_in};
-use crate::places::{ask_gate, is_takeable, read_gate, write_gate};
-use channel::layout::follow;
+use crate::counts::{BITS, HEAD, QUBITS, count_gate, room_in};
+use crate::kept::Kept;
+use crate::places::write_gate;
 use circuit::limits::{MAX_CLASSICAL_BITS, MAX_QUBITS};
 use gate::GATE;
 use gate::judge::GateWords;
@@ -52,43 +53,18 @@ fn put_in(words: &mut [i64], i: usize, g: GateWords)
     write_gate(words, HEAD + i * GATE, g);
 }
 
-// The gate at position i out of the counts.
-fn take_out(words: &mut [i64], i: usize)
-    requires { (sound words.old ≡ true) × ((i < gates_of words.old) × (takeable words.old i ≡ true)) }
-    ensures { words.new ≡ counted false words.old (gate_in words.old i) }
-{
-    let g = read_gate(words, HEAD + i * GATE);
-    count_gate(words, g, false);
-}
-
 // Append a gate.
 pub fn append(words: &mut [i64], g: GateWords) -> Verdict
     ensures value { result ≡ append_verdict words.old (gate_of g) }
     ensures words_after { words.new ≡ appended words.old (gate_of g) }
 {
-    if !is_sound(words) {
-        return Err(Refusal::BadCounts);
-    }
-    let count = follow(words, GATES);
+    let kept = Kept::read(words)?;
+    let count = kept.gates();
     if room_in(words.len()) <= count as u64 {
         return Err(Refusal::NoPlace);
     }
-    ask_gate(words, count, g)?;
+    kept.ask_gate(count, g)?;
     put_in(words, count, g);
-    Ok(())
-}
-
-// 25, of the gate at position i where there is one, then 21, of counts that are sound.
-fn judge_taking(words: &[i64], i: usize) -> Verdict
-    requires { sound words.now ≡ true }
-    ensures { result ≡ first_no (take_questions words.now i) }
-{
-    if follow(words, GATES) <= i {
-        return Err(Refusal::NoGate);
-    }
-    if !is_takeable(words, i) {
-        return Err(Refusal::BadCounts);
-    }
     Ok(())
 }
 
@@ -97,12 +73,10 @@ pub fn remove_last(words: &mut [i64]) -> Verdict
     ensures value { result ≡ remove_verdict words.old }
     ensures words_after { words.new ≡ removed words.old }
 {
-    if !is_sound(words) {
-        return Err(Refusal::BadCounts);
-    }
-    let i = follow(words, GATES).saturating_sub(1);
-    judge_taking(words, i)?;
-    take_out(words, i);
+    let kept = Kept::read(words)?;
+    let i = kept.gates().saturating_sub(1);
+    let old = kept.taken(i)?;
+    count_gate(words, old, false);
     write_gate(words, HEAD + i * GATE, NO_GATE);
     Ok(())
 }
@@ -112,12 +86,10 @@ pub fn replace(words: &mut [i64], i: usize, g: GateWords) -> Verdict
     ensures value { result ≡ replace_verdict words.old i (gate_of g) }
     ensures words_after { words.new ≡ replaced words.old i (gate_of g) }
 {
-    if !is_sound(words) {
-        return Err(Refusal::BadCounts);
-    }
-    judge_taking(words, i)?;
-    ask_gate(words, i, g)?;
-    take_out(words, i);
+    let kept = Kept::read(words)?;
+    let old = kept.taken(i)?;
+    kept.ask_gate(i, g)?;
+    count_gate(words, old, false);
     put_in(words, i, g);
     Ok(())
 }

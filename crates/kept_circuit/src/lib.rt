@@ -3,4 +3,5 @@
 
 pub mod counts;
 pub mod edits;
+pub mod kept;
 pub mod places;

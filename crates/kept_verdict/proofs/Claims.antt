@@ -4,7 +4,7 @@ use mathlib.Core.Path.{◌≡◌, refl, sym, ap, ◌∙◌, subst}
 use mathlib.Core.Logic.{◌≢◌}
 use mathlib.Core.Bool.{Bool, true, false, cond, not, ◌&&◌, ◌||◌, true≢false}
 use mathlib.Core.List.{List, [], ◌∷◌, ◌++◌}
-use Prim.Native.Nat.{ℕ, zero, suc, ◌+◌, ◌-◌, ◌*◌, ◌/◌, ◌%◌, ◌≤◌, ◌<◌, min}
+use Prim.Native.Nat.{ℕ, suc, ◌+◌, ◌-◌, ◌/◌, ◌%◌, ◌≤◌, ◌<◌}
 use native.Mathlib.Nat.{le_trans, min-le_left, min-le_right}
 use native.Mathlib.Omega.{arith}
 use lib.Dec.{eqb, leb, ltb}
@@ -12,31 +12,29 @@ use lib.ListN.{length, get_or, take, drop, length-append}
 use lib.Seq.{split_at, length-take-le}
 use lib.IntN.{ℤ, nat_abs}
 use borrow.Author.Tests.{leb-true, ltb-true, ltb-false, lt-ltb, le-leb, lt-leb, eq-eqb}
-use Rattle.algebra.specs.Lists.{every, concat_map, total, marks}
+use Rattle.algebra.specs.Lists.{every, concat_map}
 use Rattle.algebra.proofs.Tests.{and_split}
-use Rattle.store.specs.Store.{max_word}
 use Rattle.verdict.specs.Questions.{Verdict}
 use Rattle.verdict.specs.declared.Refusal.TheVariants.{OverLimit, OverCeiling, MalformedAt, ShortBuffer, NoPlace, NoGate, BadCounts}
 use Rattle.verdict.specs.Verdict.{verdict_number}
 use Rattle.verdict.specs.Questions.{Question, first_no}
-use Rattle.verdict.proofs.Questions.{yes, all_yes, append_yes, after-yes, after_no}
+use Rattle.verdict.proofs.Questions.{all_yes, append_yes, after-yes, after_no}
 use Rattle.gate.specs.declared.judge.Asking.TheVariants.{Channel}
 use Rattle.gate.specs.Gate as listed
 use Rattle.gate.specs.Gate.{Gate, gate_size, formed, placed, supported}
 use Rattle.gate.specs.Questions.{gate_questions, three_answers}
 use Rattle.gate.specs.Inner.Entries.{valid}
 use Rattle.circuit.specs.declared.limits.Limits.{Limits}
-use Rattle.circuit.specs.declared.footprint.Footprint.{Footprint}
 use Rattle.circuit.specs.Limits.{matrix_ceilings, branch_ceilings}
 use Rattle.circuit.specs.Footprint.{footprint_of}
 use Rattle.circuit.specs.Questions.{gates_questions, number_questions, channel_verdict}
 use Rattle.circuit.proofs.Answers.{gates-valid}
 use Rattle.qasm.specs.Writing.{words}
 use Rattle.qasm.proofs.Gates.{gates_back, words-length}
-use Rattle.kept_circuit.specs.Kept.{gates_place, max_qubits, max_bits, max_gates, head_size, kept_words, qubits_of, bits_of, gates_of, room, all_up_to, sound}
-use Rattle.kept_circuit.specs.Edits.{counted, put, start_verdict, started, ask_gate, append_verdict, appended, gate_in, takeable, take_questions, no_gate, last_of, remove_verdict, removed, replace_verdict, replaced}
+use Rattle.kept_circuit.specs.Kept.{max_qubits, max_bits, max_gates, head_size, kept_words, gates_of, room, sound}
+use Rattle.kept_circuit.specs.Edits.{counted, put, start_verdict, ask_gate, append_verdict, appended, gate_in, takeable, take_questions, no_gate, last_of, remove_verdict, removed, replace_verdict, replaced}
 use Rattle.kept_circuit.proofs.Listed.{length-kept, first_count, bits-count, gates-count, weight-count, splits-count, written_count, sound-kept, gate_in_lem, takeable-kept, appended-kept, removed-kept, replaced-kept}
-use Rattle.kept_verdict.specs.Questions.{kept_footprint, kept_verdict, copy_size, copied, copy_verdict}
+use Rattle.kept_verdict.specs.Questions.{kept_footprint, kept_verdict, copy_size, copy_verdict}
 use Rattle.kept_verdict.specs.Claims.{Keeps, Starts, Edits, KeptCounts}
 use Rattle.kept_verdict.proofs.Copied.{copied-kept, copy_up}
 

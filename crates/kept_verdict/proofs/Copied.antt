@@ -1,13 +1,17 @@
 -- The gates of the words of a gate list, copied out.
 use mathlib.Core.Path.{◌≡◌, refl, sym, ap, ◌∙◌}
-use mathlib.Core.Bool.{true}
+use Rattle.std.specs.Prelude.{is_ok, Ok, Err}
+use mathlib.Core.Bool.{true, cond, ◌&&◌}
 use mathlib.Core.List.{List, [], ◌∷◌, ◌++◌, map}
 use Prim.Native.Nat.{ℕ, suc, ◌+◌, ◌*◌, ◌/◌, ◌%◌, ◌≤◌, ◌<◌}
+use native.Mathlib.Nat.{zero-add}
 use native.Mathlib.Numerals.{add-one}
 use native.Mathlib.Omega.{arith}
+use lib.Dec.{leb}
 use lib.ListN.{length, get_or, set, take, drop, replicate, length-drop, get_or-append, get_or-map}
 use lib.Seq.{sets, take_at, drop_at, take-suc, take_all, length-take-le, get_or-take, get_or-drop, get_or-append-add}
 use lib.IntN.{ℤ, pos, nat_abs}
+use borrow.Author.Tests.{le-leb}
 use Rattle.algebra.specs.Lists.{All, every, concat_map}
 use Rattle.algebra.specs.Words.{up_to}
 use Rattle.algebra.proofs.Blocks.{sets_append}
@@ -17,40 +21,52 @@ use Rattle.channel.specs.Layout.{word}
 use Rattle.gate.specs.Gate.{Gate, gate_size}
 use Rattle.gate.specs.Inner.Entries.{valid}
 use Rattle.qasm.specs.Writing.{words}
-use Rattle.kept_circuit.specs.Kept.{max_qubits, max_bits, head_size, gate_words, places, kept_words, count_at, all_up_to}
+use Rattle.kept_circuit.specs.Kept.{max_qubits, max_bits, head_size, gate_words, places, kept_words, all_up_to, sound}
 use Rattle.kept_circuit.specs.Edits.{no_gate}
+use Rattle.kept_circuit.proofs.Sound.{up_at}
 use Rattle.kept_circuit.proofs.Head.{headed, headed_append, length-headed}
 use Rattle.kept_circuit.proofs.Listed.{kept_is, up_by, gates-count, words_small}
-use Rattle.kept_verdict.specs.Questions.{copy_size, copied}
+use Rattle.verdict.specs.declared.Refusal.TheVariants.{ShortBuffer, BadCounts}
+use Rattle.kept_verdict.specs.Questions.{copy_size, copied, copied_to}
 
 -- ---- the words that are copied, one by one
 map_length : (xs : List ℤ) → length (map nat_abs xs) ≡ length xs
 map_length [] = refl
 map_length (x ∷ xs) = ap suc (map_length xs)
 
-module _ (l : List ℤ) (fits : head_size + copy_size l ≤ length l) where
-  length-copied : length (copied l) ≡ copy_size l
-  unfolding copied
-  length-copied = map_length (take (copy_size l) (drop head_size l)) ∙ length-take-le (copy_size l) (drop head_size l) (omega (arith, fits, length-drop head_size l))
-
-  copied_at : (k : ℕ) → k < copy_size l → get_or (copied l) k 0 ≡ count_at l (head_size + k)
-  unfolding copied
-  copied_at k h =
-      get_or-map nat_abs (take (copy_size l) (drop head_size l)) k (pos 0)
-      ∙ ap nat_abs (get_or-take (copy_size l) (drop head_size l) k (pos 0) h ∙ get_or-drop head_size l k (pos 0))
-
+module _ (ws : List ℤ) where
   -- one more of them
-  pub copy_more : (o out : List ℕ) (k x : ℕ) → out ≡ sets o 0 (take k (copied l)) → k < copy_size l → x ≡ count_at l (head_size + k) → set out k x ≡ sets o 0 (take (k + 1) (copied l))
+  pub copy_more : (o out : List ℕ) (k x : ℕ) → out ≡ sets o 0 (take k (map nat_abs ws)) → k < length ws → x ≡ nat_abs (word ws k) → set out k x ≡ sets o 0 (take (k + 1) (map nat_abs ws))
   copy_more o out k x e h f =
-      let n : k < length (copied l) = omega (arith, h, length-copied) in
-      let at : k ≡ 0 + length (take k (copied l)) = omega (arith, length-take-le k (copied l) (omega (arith, n))) in
-      (λ i. set (e i) (at i) ((f ∙ sym (copied_at k h)) i))
-      ∙ sym (sets_append (take k (copied l)) (get_or (copied l) k 0 ∷ []) o 0)
-      ∙ ap (sets o 0) (sym (ap (λ (j : ℕ). take j (copied l)) (add-one k) ∙ take-suc (copied l) k 0 n))
+      let n : k < length (map nat_abs ws) = omega (arith, h, map_length ws) in
+      let at : k ≡ 0 + length (take k (map nat_abs ws)) = omega (arith, length-take-le k (map nat_abs ws) (omega (arith, n))) in
+      (λ i. set (e i) (at i) ((f ∙ sym (get_or-map nat_abs ws k (pos 0))) i))
+      ∙ sym (sets_append (take k (map nat_abs ws)) (get_or (map nat_abs ws) k 0 ∷ []) o 0)
+      ∙ ap (sets o 0) (sym (ap (λ (j : ℕ). take j (map nat_abs ws)) (add-one k) ∙ take-suc (map nat_abs ws) k 0 n))
 
   -- all of them
-  pub copy_all : (o out : List ℕ) (k : ℕ) → out ≡ sets o 0 (take k (copied l)) → copy_size l ≤ k → out ≡ sets o 0 (copied l)
-  copy_all o out k e h = e ∙ ap (sets o 0) (take_all k (copied l) (omega (arith, h, length-copied)))
+  pub copy_all : (o out : List ℕ) (k : ℕ) → out ≡ sets o 0 (take k (map nat_abs ws)) → length ws ≤ k → out ≡ sets o 0 (map nat_abs ws)
+  copy_all o out k e h = e ∙ ap (sets o 0) (take_all k (map nat_abs ws) (omega (arith, h, map_length ws)))
+
+-- the words of a part
+module _ (l : List ℤ) (at n : ℕ) where
+  pub part_long : at + n ≤ length l → length (take n (drop at l)) ≡ n
+  part_long h = length-take-le n (drop at l) (omega (arith, h, length-drop at l))
+
+  pub part_up : (top : ℕ) → at + n ≤ length l → all_up_to l at n top ≡ true → all_up_to (take n (drop at l)) 0 (length (take n (drop at l))) top ≡ true
+  part_up top h e = up_by (take n (drop at l)) 0 (length (take n (drop at l))) top
+      (λ k j. let i : k < n = omega (arith, j, part_long h) in
+      ap (λ (k : ℕ). up_to top (word (take n (drop at l)) k)) (zero-add k)
+      ∙ ap (up_to top) (get_or-take n (drop at l) k (pos 0) i ∙ get_or-drop at l k (pos 0)) ∙ up_at l at n top e k i)
+
+-- the room after the n words of the gates are copied, where the counts are sound, the words numbers, and the room long enough
+pub copied_done : (l : List ℤ) (out : List ℕ) {n : ℕ} → sound l ≡ true → n ≡ copy_size l → all_up_to l head_size n max_word ≡ true → n ≤ length out → sets out 0 (map nat_abs (take n (drop head_size l))) ≡ copied_to l out
+unfolding copied
+copied_done l out {n} s e u h =
+    let up : all_up_to l head_size (copy_size l) max_word ≡ true = ap (λ (n : ℕ). all_up_to l head_size n max_word) (sym e) ∙ u in
+    let room : leb (copy_size l) (length out) ≡ true = le-leb (copy_size l) (length out) (omega (arith, e, h)) in
+    ap (λ (n : ℕ). sets out 0 (map nat_abs (take n (drop head_size l)))) e
+    ∙ (λ j. cond (is_ok (cond (sym s j && sym up j) (cond (sym room j) (Ok tt) (Err ShortBuffer)) (Err BadCounts))) (sets out 0 (copied l)) out)
 
 numbers : (gs : List Gate) → map nat_abs (concat_map gate_words gs) ≡ concat_map words gs
 numbers [] = refl

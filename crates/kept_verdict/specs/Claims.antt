@@ -1,6 +1,5 @@
 -- Words made by start and by accepted edits are those of a gate list: the edits keep that, 25 never occurs, and the verdict is that of counting afresh.
 use Rattle.std.specs.Prelude.{◌≡◌, ◌≢◌, true, List, [], ◌∷◌, ◌++◌, ℕ, ◌≤◌, length, ℤ, is_ok, Ok}
-use Rattle.verdict.specs.declared.Refusal.TheVariants.{NoGate}
 use Rattle.verdict.specs.Verdict.{verdict_number}
 use Rattle.verdict.specs.Questions.{first_no}
 use Rattle.gate.specs.declared.judge.Asking.TheVariants.{Channel}

@@ -1,10 +1,9 @@
 -- The verdict of judge_schedule says what is claimed of it.
 use Rattle.std.specs.Prelude.{is_ok, Ok, Err}
-use mathlib.Core.Path.{◌≡◌, refl, sym, ap, ◌∙◌}
+use mathlib.Core.Path.{◌≡◌, refl, sym, ◌∙◌}
 use mathlib.Core.Bool.{Bool, true, false, ◌&&◌}
 use mathlib.Core.List.{List, ◌++◌}
-use Prim.Native.Nat.{ℕ, ◌+◌, ◌<◌}
-use native.Mathlib.Nat.{zero-add}
+use Prim.Native.Nat.{ℕ}
 use native.Mathlib.Omega.{arith}
 use lib.Dec.{eqb}
 use lib.ListN.{length}
@@ -17,7 +16,7 @@ use Rattle.verdict.specs.Questions.{Question, first_no}
 use Rattle.verdict.proofs.Questions.{yes, all_yes, every_append}
 use Rattle.gate.specs.Gate.{Gate, gates_of, share}
 use Rattle.schedule.specs.Questions.{list_questions, idle, along, same_lengths, sound, table_questions, schedule_questions, schedule_verdict}
-use Rattle.schedule.specs.Claims.{Fault, FirstFault, BothPass, Judges, Schedules}
+use Rattle.schedule.specs.Claims.{FirstFault, BothPass, Judges, Schedules}
 use Rattle.schedule.proofs.Along.{First, along-yes, along-all, along-first, along-named}
 use Rattle.schedule.proofs.Faults.{sound-free, unsound_fault, free-sound, schedule_free, free_schedule}
 use Rattle.schedule.proofs.Asked.{lengths_differ, lengths_same, first_decides, second_decides, table_decides}

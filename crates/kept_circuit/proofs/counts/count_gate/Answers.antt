@@ -1,6 +1,5 @@
 -- The counts stay small as each is moved.
-use Rattle.std.proofs.Common.{arith}
-use borrow.Author.Tests.{eq-eqb}
+use Rattle.std.proofs.Common.{arith, sym, ◌∙◌}
 use Rattle.gate.specs.Inner.Words.{gate_of}
 use Rattle.circuit.proofs.Counts.{splits-one, weight-one}
 use Rattle.kept_circuit.specs.Kept.{gates_place, weight_place, splits_place}
@@ -23,4 +22,4 @@ mark_bit-requires c =
     let one = within_after c.requires.0 c.args.more gates_place 1 (omega arith) (omega arith) c.move_count.ensures in
     let two = within_after one c.args.more weight_place c.weight-weight.result (omega arith) (omega (arith, c.weight-weight.ensures, weight-one (gate_of c.args.g))) c.move_count-2.ensures in
     let three = within_after two c.args.more splits_place c.splits-splits.result (omega arith) (omega (arith, c.splits-splits.ensures, splits-one (gate_of c.args.g))) c.move_count-3.ensures in
-    (within_more three (omega arith), bit-small (gate_of c.args.g) (eq-eqb _ _ c.if-g-eq-MEASURE.true) c.requires.1)
+    (within_more three (omega arith), bit-small (gate_of c.args.g) (sym c.bit.ensures ∙ c.in-Some.is) c.requires.1)

@@ -1,20 +1,27 @@
--- The counts are there and small, and so is the place.
+-- The counts are small, and the place is there.
 use Rattle.std.specs.Prelude.{is_ok}
-use Rattle.std.proofs.Common.{arith, sym, ap, ◌∙◌}
+use Rattle.std.proofs.Common.{arith, sym, ap, ◌∙◌, List}
+use lib.IntN.{ℤ}
+use Rattle.verdict.specs.Questions.{first_no}
+use Rattle.verdict.proofs.Questions.{returned}
 use Rattle.gate.specs.Inner.Words.{gate_of}
-use Rattle.kept_circuit.specs.Kept.{gates_place}
-use Rattle.kept_circuit.proofs.Sound.{sound_is, sound-within, within_more, counts_there, place-free, bits-counted}
+use Rattle.kept_circuit.specs.Edits.{ask_gate}
+use Rattle.kept_circuit.proofs.Sound.{sound_is, sound-within, within_more, place-free, bits-counted}
+use Rattle.kept_circuit.proofs.Asked.{append_asked}
 use Rattle.kept_circuit.proofs.edits.append.Goals as goal
 
-pub follow-count-requires : goal.follow-count-requires
-follow-count-requires c = counts_there c.args.words.now gates_place (sym c.is_sound.ensures ∙ c.if-not-is_sound.false) (omega arith)
-
 pub room_in-requires : goal.room_in-requires
-room_in-requires c = (sound_is c.args.words.now (sym c.is_sound.ensures ∙ c.if-not-is_sound.false)).long
+room_in-requires c = (sound_is c.args.words.now c.in_ok-kept.ensures.1).long
+
+pub returns-in_err-ask_gate-clause-value : goal.returns-in_err-ask_gate-clause-value
+returns-in_err-ask_gate-clause-value c =
+    returned _ c.from_residual-in_err-ask_gate.ensures.1
+    ∙ append_asked c.in_ok-kept.ensures.0 c.gates-count.ensures (gate_of c.args.g) c.in_ok-kept.ensures.1 (omega arith) c.in_err-ask_gate.ensures
 
 pub put_in-requires : goal.put_in-requires
 put_in-requires c =
-    let s = sound_is c.args.words.now (sym c.is_sound.ensures ∙ c.if-not-is_sound.false) in (
-      within_more (sound-within s) (omega arith),
-      (place-free s c.follow-count.result (omega arith), bits-counted s c.follow-count.result (gate_of c.args.g) (sym (ap is_ok c.in_ok-ask_gate.ensures))),
-    )
+    let s = sound_is c.args.words.now c.in_ok-kept.ensures.1 in
+    let i = c.gates-count.result in
+    let g = gate_of c.args.g in
+    let asked = c.in_ok-ask_gate.ensures ∙ ap (λ (l : List ℤ). first_no (ask_gate l i g)) c.in_ok-kept.ensures.0 in
+    (within_more (sound-within s) (omega arith), (place-free s i (omega arith), bits-counted s i g (sym (ap is_ok asked))))
