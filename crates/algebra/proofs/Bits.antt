@@ -2,7 +2,7 @@
 use mathlib.Core.Path.{◌≡◌, refl, sym, ap, ◌∙◌}
 use mathlib.Core.List.{List, [], ◌∷◌}
 use Prim.Native.Nat.{ℕ, zero, suc, ◌+◌, ◌*◌, ◌-◌, ◌/◌, ◌%◌, ◌^◌, ◌<◌, ◌≤◌}
-use native.Mathlib.Nat.{pow-succ', mul_assoc, mul_comm, le_of_suc-le-suc, not-suc-le-zero, add-mul-div_left, div-eq_of_lt, zero-add, mul-le-mul, le_refl, le_trans, mod-le, div-mul-le_self}
+use native.Mathlib.Nat.{pow-succ', mul_assoc, mul_comm, le_of_suc-le-suc, not-suc-le-zero, add-mul-div_left, div-eq_of_lt, zero-add, mul-le-mul, le_refl}
 use native.Mathlib.Omega.{arith}
 use lib.Pow.{pow_pos}
 use lib.ListN.{length, get_or, set, take, drop}
@@ -79,10 +79,6 @@ pub bits-set : (σ : List ℕ) (k v : ℕ) → Bits σ → k < length σ → fro
 bits-set σ k v b h =
     let e : from_bits (set σ k v) ≡ from_bits σ - get_or σ k 0 * 2 ^ k + v * 2 ^ k = omega (arith, written σ k v h, old_in σ k) in
     e ∙ ap (λ (x : ℕ). from_bits σ - x * 2 ^ k + v * 2 ^ k) (sym (bit_at k σ b))
-
--- a bit of weight p, in its place, is no more than the number
-pub bit_le : (x p : ℕ) → x / p % 2 * p ≤ x
-bit_le x p = le_trans (mul-le-mul (mod-le (x / p) 2) (le_refl p)) (div-mul-le_self x p)
 
 pub bit-weight : (b p : ℕ) → b ≤ 1 → b * p ≤ p
 bit-weight b p h = omega (arith, mul-le-mul h (le_refl p))

@@ -15,7 +15,7 @@ use lib.Signed.{mag, lt_z, non_neg, shr_z, mag_shr}
 use mir.Syntax.{Width, w64}
 use mir.Val.{Fits, SFits, to_z, of_z}
 use mir.Facts.{to_z-of_z, to_z_pos}
-use borrow.Author.Tests.{ltb-true, ltb-false, leb-true, le-leb, lt-leb, eqb-true, eqb-false, eq-eqb, ne_eqb}
+use borrow.Author.Tests.{ltb-true, ltb-false, leb-true, eqb-true, eqb-false, eq-eqb, ne_eqb}
 use Rattle.algebra.specs.Dyadic.{halfℤ}
 use Rattle.algebra.specs.Words.{eqℤ, up_to}
 use Rattle.algebra.proofs.Parts.{abs_is, add_parts, abs-mul, abs_sub, sfits_abs, abs_neg}
@@ -42,12 +42,6 @@ no e = subst (λ (b : Bool). T (not b)) e tt
 pub over : (x : ℤ) (n : ℕ) → lt_z (pos n) x ≡ true → n < nat_abs x
 over (pos a) n e = ltb-true n a e
 over (negsuc a) n e = absurd (no e)
-
-pub under_by : (x : ℤ) (k : ℕ) → lt_z x (neg_ℤ (pos k)) ≡ true → k < nat_abs x
-under_by (pos a) zero e = absurd (omega (arith, ltb-true a 0 e))
-under_by (negsuc a) zero e = omega arith
-under_by (pos a) (suc n) e = absurd (no e)
-under_by (negsuc a) (suc n) e = omega (arith, ltb-true n a e)
 
 pub within : (x : ℤ) (k : ℕ) → lt_z x (neg_ℤ (pos k)) ≡ false → lt_z (pos k) x ≡ false → nat_abs x ≤ k
 within (pos a) k e f = ltb-false k a f
@@ -126,9 +120,6 @@ pow_word d h = rw (shl_exact 1 d 64 (lit< tt) (omega arith), one-mul) (to_z_pos 
 
 -- x * (1i64 << d)
 module _ (x : ℤ) (d : ℕ) (bx : mag x < 2 ^ 63) (hd : d ≤ 62) (h : nat_abs (x *ℤ pos (2 ^ d)) < 2 ^ 63) where
-  pub scale_fits : SFits w64 (to_z w64 (of_z w64 x) *ℤ to_z w64 (1 * 2 ^ d % 18446744073709551616))
-  scale_fits = rw (reads x bx, pow_word d hd) (sfits_abs {w = w64} h)
-
   pub scale_back : to_z w64 (of_z w64 (to_z w64 (of_z w64 x) *ℤ to_z w64 (1 * 2 ^ d % 18446744073709551616))) ≡ x *ℤ pos (2 ^ d)
   scale_back = rw (reads x bx, pow_word d hd) (back (x *ℤ pos (2 ^ d)) h)
 
@@ -275,14 +266,6 @@ eq_words (negsuc a) (negsuc b) f g = eqb_same _ _ _ _ (to f.sfits g.sfits) from
 pub below_zero : (n : ℕ) (z : ℤ) → lt_z z (pos 0) ≡ true → up_to n z ≡ false
 below_zero n (pos a) e = absurd (omega (arith, ltb-true a 0 e))
 below_zero n (negsuc a) e = refl
-
-pub above_top : (n : ℕ) (z : ℤ) → lt_z (pos n) z ≡ true → up_to n z ≡ false
-above_top n (pos a) e = lt-leb a n (ltb-true n a e)
-above_top n (negsuc a) e = absurd (no e)
-
-pub up-to : (n : ℕ) (z : ℤ) → lt_z z (pos 0) ≡ false → lt_z (pos n) z ≡ false → up_to n z ≡ true
-up-to n (pos a) e f = le-leb a n (ltb-false n a f)
-up-to n (negsuc a) e f = absurd (subst T e tt)
 
 pub word_is : (n : ℕ) (z : ℤ) → up_to n z ≡ true → (z ≡ pos (nat_abs z)) × (nat_abs z ≤ n)
 word_is n (pos m) e = (refl, leb-true m n e)

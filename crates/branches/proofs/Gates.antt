@@ -13,11 +13,12 @@ use Rattle.algebra.specs.Words.{blocks}
 use Rattle.algebra.proofs.Blocks.{blocks_step}
 use Rattle.cells.specs.Cells.{fill}
 use Rattle.cells.proofs.Cell.{fill-block}
-use Rattle.gate.specs.Gate.{Gate, gate_at, elem, measure, reset, splits}
+use Rattle.std.specs.Prelude.{Some, None, eqb, unwrap_or}
+use Rattle.gate.specs.Gate.{Gate, gate_at, elem, measure, reset, splits, bit_of}
 use Rattle.gate.specs.Operators.{operators}
-use Rattle.gate.specs.Inner.Entries.{flips, row_entry, Ready}
+use Rattle.gate.specs.Inner.Entries.{flips, row_entry}
 use Rattle.kraus.proofs.Counting.{operators-length}
-use Rattle.branches.specs.Inner.Store.{outcome_bit}
+use Rattle.branches.specs.Inner.Store.{no_bit, outcome_bit}
 use Rattle.branches.specs.Inner.Bank.{branch_size}
 use Rattle.branches.specs.Inner.Step.{Step, operator_number, step_words}
 use Rattle.branches.proofs.Steps.{number_is}
@@ -43,10 +44,6 @@ splits-none g e = operators-length g ∙ ap (λ (k : ℕ). 2 ^ k) e
 pub splits-some : (g : Gate) → (splits g ≡ 0 → ⊥) → length (operators g) ≡ 2
 splits-some g h = let e : splits g ≡ 1 = omega (arith, splits-one g, h) in operators-length g ∙ ap (λ (k : ℕ). 2 ^ k) e
 
--- a gate with its second operator
-pub ready_second : {n : ℕ} {g : Gate} → Ready n g 0 → length (operators g) ≡ 2 → Ready n g 1
-ready_second r e = record { known = r.known; on = r.on; able = r.able; which = omega arith }
-
 -- ---- the rows of a gate's operators, written one after the other
 module _ (l : List ℤ) (slots n d : ℕ) (g : Gate) where
   one_written : {b : List ℤ} → b ≡ fill l slots (d * 2) (row_entry n g 0) → b ≡ blocks (branch_size d) l slots 1 (operator_words n d g)
@@ -66,6 +63,10 @@ module _ (l : List ℤ) (slots n d : ℕ) (g : Gate) where
       ∙ fill-block (row_entry n g 1) b (slots + 1 * branch_size d) (d * 2)
       ∙ blocks_step (branch_size d) l slots (operator_words n d g) 1 b (operator_words n d g 1) (one_written e) refl
       ∙ ap (λ (k : ℕ). blocks (branch_size d) l slots k (operator_words n d g)) (sym h)
+
+-- the bit that a gate writes, as a number
+pub bit_is : (g : Gate) → unwrap_or (bit_of g) no_bit ≡ outcome_bit g
+bit_is g = elim (eqb g.kind measure) as (λ (b : Bool). unwrap_or (cond b (Some g.b) None) no_bit ≡ cond b g.b no_bit) [ true ↦ refl | false ↦ refl ]
 
 -- ---- a gate read from its words: g, with `ops` operators in the words m
 module _ {l m : List ℤ} {ws : List ℕ} {at slots n d from to count ops : ℕ} {g : Gate} (p : GateStep l ws at slots n d from to count)

@@ -62,12 +62,6 @@ module _ {l : List ℤ} {f slots stride held : ℕ} {v : ℕ → ℕ} {ops from 
   pub branch_is : (j : ℕ) → j / 2 ^ (ops - 1) ≡ j / ops
   branch_is j = branch_by j ops p.some_op p.few_ops
 
-  pub step_square : d * d ≤ 1024
-  step_square = dim_square d p.dim
-
-  pub total_le : count * ops ≤ length l
-  total_le = let h : 1 ≤ branch_size d = omega arith in omega (arith, p.to_room, mul-le-mul (le_refl (count * ops)) h)
-
   module _ {j : ℕ} (h : j < count * ops) where
     abbrev old : ℕ
     old = from + j / ops * branch_size d

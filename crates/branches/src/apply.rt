@@ -1,6 +1,5 @@
 // A gate's operator applied to the matrix of a branch.
-ghost use Rattle.std.specs.Prelude.{◌≡◌, ◌<◌};
-ghost use Rattle.std.specs.Int.Bits.{bit_xor};
+ghost use Rattle.std.specs.Prelude.{◌≡◌};
 ghost use Rattle.matrix.specs.Inner.Written.{written};
 ghost use Rattle.branches.specs.Inner.Step.{Applying, row_sum};
 
@@ -9,21 +8,13 @@ use cells::{CELL, read_cell};
 use matrix::linear::combine_rows;
 use matrix::words::{clear, is_zero};
 
-// Row r with the bits of m changed: those that are set are cleared, the others set.
-fn partner_row(r: usize, m: usize) -> usize
-    requires { (r < 32) × (m < 32) }
-    ensures { result ≡ bit_xor r m }
-{
-    (r & !m) | (m & !r)
-}
-
 // Write an operator times the matrix at `old` to `new`, row by row. Row r of the operator has entries in columns r and r ^ m alone, which lie from op on, row after row.
 fn apply_rows(work: &mut [i64], m: usize, op: usize, old: usize, new: usize, d: usize)
     requires { Applying work.old m op old new d }
     ensures { work.new ≡ written work.old new d (row_sum work.old m op old d) }
 {
     for r in 0..d {
-        let s = partner_row(r, m);
+        let s = r ^ m;
         let a = op + r * ROW;
         let b = a + CELL;
         let x = read_cell(work, a);

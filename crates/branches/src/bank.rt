@@ -1,10 +1,12 @@
 // Branches in words: where they lie, the first one, and a step of all of them.
-ghost use Rattle.std.specs.Prelude.{◌≡◌, ◌+◌, ◌*◌, ◌<◌, ◌≤◌, length, unwrap_or};
+// Kept (buffers): a place in the buffer. Both banks and the operators lie in one lent buffer, which a step reads at two places and writes at a third.
+// Kept (facts): d ≤ 32 keeps two products in range; d is read off a bank in every loop, and a type for it would be opened there.
+ghost use Rattle.std.specs.Prelude.{◌≡◌, ◌+◌, ◌*◌, ◌^◌, ◌<◌, ◌≤◌, length, unwrap_or};
 ghost use Rattle.std.proofs.lemmas.List.Edits.{sets};
 ghost use Rattle.algebra.specs.Words.{blocks};
 ghost use Rattle.store.specs.Inner.Held.{Bits};
 ghost use Rattle.branches.specs.Inner.Store.{no_bit};
-ghost use Rattle.branches.specs.Inner.Bank.{branch_size, branch_words, identity_branch};
+ghost use Rattle.branches.specs.Inner.Bank.{matrix_size, branch_size, branch_words, identity_branch};
 ghost use Rattle.branches.specs.Inner.Step.{Step, operator_number, step_words};
 
 use super::apply::apply_operator;
@@ -22,6 +24,32 @@ pub fn branch_size(d: usize) -> usize
     ensures { result ≡ branch_size d }
 {
     d * d * CELL + 2
+}
+
+// Branches one after the other in a buffer of words, `count` of them from `at` on, each with a matrix of d rows and columns.
+#[derive(Clone, Copy, Debug, PartialEq, Eq)]
+pub struct Bank {
+    pub at: usize,
+    pub d: usize,
+    pub count: usize,
+}
+
+impl Bank {
+    // Where branch j lies.
+    pub fn branch(self, j: usize) -> usize
+        requires { (self.d ≤ 32) × (self.at + j * branch_size self.d < 2 ^ 64) }
+        ensures { result ≡ self.at + j * branch_size self.d }
+    {
+        self.at + j * branch_size(self.d)
+    }
+
+    // Where the store of branch j lies.
+    pub fn store(self, j: usize) -> usize
+        requires { (self.d ≤ 32) × (self.at + j * branch_size self.d + branch_size self.d < 2 ^ 64) }
+        ensures { result ≡ self.at + j * branch_size self.d + matrix_size self.d }
+    {
+        self.branch(j) + self.d * self.d * CELL
+    }
 }
 
 // Write the identity with a store of bytes.
@@ -46,32 +74,31 @@ pub struct Operators {
     pub stride: usize,
     pub shift: u32,
     pub mask: usize,
+    pub ghost shifts: { shift < 64 },
 }
 
-// Send each of `count` branches to its `ops` products with these operators, and write the operator's number to the store's bit `bit`, if there is one.
+// Send each branch of a bank to its `ops` products with these operators, a bank at `to`, and write the operator's number to the store's bit `bit`, if there is one.
 pub fn step(
     work: &mut [i64],
     m: usize,
     operators: Operators,
     ops: usize,
-    from: usize,
+    from: Bank,
     to: usize,
-    d: usize,
-    count: usize,
     bit: Option<u32>,
 )
-    requires shift { operators.shift < 64 }
-    requires ready { Step work.old m operators.slots operators.stride (operators.mask + 1) (operator_number operators.shift operators.mask) ops from to d count }
-    ensures { work.new ≡ blocks (branch_size d) work.old to (count * ops) (step_words work.old m operators.slots operators.stride (operator_number operators.shift operators.mask) ops from d (unwrap_or bit no_bit)) }
+    requires { Step work.old m operators.slots operators.stride (operators.mask + 1) (operator_number operators.shift operators.mask) ops from.at to from.d from.count }
+    ensures { work.new ≡ blocks (branch_size from.d) work.old to (from.count * ops) (step_words work.old m operators.slots operators.stride (operator_number operators.shift operators.mask) ops from.at from.d (unwrap_or bit no_bit)) }
 {
+    let d = from.d;
     let matrix = d * d * CELL;
     let size = matrix + 2;
-    let total = count * ops;
+    let total = from.count * ops;
     let last = ops - 1;
     for j in 0..total {
         let v = (j >> operators.shift) & operators.mask;
         let op = operators.slots + v * operators.stride;
-        let old = from + (j >> last) * size;
+        let old = from.at + (j >> last) * size;
         let new = to + j * size;
         apply_operator(work, m, op, old, new, d);
         write_store(work, old + matrix, new + matrix, bit, v as u64);

@@ -1,4 +1,5 @@
 // The scalar calls of the C interface: a scalar is five words, n0 to n3 and e. Each writes the scalar that it answers with, and zero where it refuses; its reply is the verdict's number.
+// Kept (together): the parameters are those of the C interface.
 #![tactic(auto)]
 
 ghost use Rattle.std.specs.Prelude.{◌≡◌};

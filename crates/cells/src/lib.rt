@@ -1,4 +1,6 @@
 // A scalar as five words of a lent slice, n0 to n3 and e: read, written, and tested.
+// Kept (buffers): words and a place in them. Rows of cells are read at two places of one lent buffer and written at a third: cut into a slice a cell, the buffer would have to be split there and joined again for every row.
+// Kept (facts): that five words are there, of a reader and two writers: a type that says so is the cut slice of which the line above speaks.
 #![tactic(auto)]
 
 ghost use Rattle.std.specs.Prelude.{◌≡◌, true, ◌+◌, ◌≤◌, length};
@@ -14,8 +16,6 @@ use scalar::Scalar;
 
 // The words of a cell.
 pub const CELL: usize = 5;
-
-// Kept: a buffer and a place in it, as two parameters. There is no heap: rows are read from and written to one buffer that a caller lends, so a cell borrowed as a value of its own could not stand beside the next one.
 
 // The numerators in the first four words from `at` on.
 pub fn numerators_at(s: &[i64], at: usize) -> [i64; 4]

@@ -14,7 +14,7 @@ use Rattle.algebra.specs.Lists.{All, every, total, filter_by}
 use Rattle.algebra.proofs.Lists.{all_get_d, all_map, all_concat}
 use Rattle.algebra.proofs.Totals.{sub_whole, sub_filter, sub_take}
 use Rattle.algebra.proofs.Bits.{bits_below, bits_parts}
-use Rattle.exact.specs.Exact.{Exact, exact}
+use Rattle.exact.specs.Exact.{exact}
 use Rattle.exact.specs.Inner.Sizes.{Room, room_exponent}
 use Rattle.cells.specs.Cells.{cell_size}
 use Rattle.matrix.specs.Inner.Factors.{Factor}

@@ -2,60 +2,23 @@
 use mathlib.Core.Path.{◌≡◌, refl, sym, ap, ◌∙◌, subst}
 use mathlib.Core.Bool.{Bool, true, false, cond}
 use mathlib.Core.List.{List, [], ◌∷◌, ◌++◌}
-use Prim.Native.Nat.{ℕ, zero, suc, ◌+◌, ◌*◌, ◌-◌, ◌/◌, ◌%◌, ◌^◌, ◌≤◌, ◌<◌}
-use native.Mathlib.Nat.{le_refl, add_comm, add-zero}
+use Prim.Native.Nat.{ℕ, zero, suc, ◌+◌, ◌*◌, ◌-◌, ◌≤◌, ◌<◌}
+use native.Mathlib.Nat.{le_refl, add-zero}
 use native.Mathlib.Numerals.{add-one}
 use native.Mathlib.Omega.{arith}
-use lib.Arith.{digits_div, digits_mod}
-use lib.ListN.{length, get_or, set, length-append, get_or-append}
+use lib.ListN.{length, get_or, length-append, get_or-append}
 use lib.Seq.{sets, get_or-append-add}
-use lib.IntN.{ℤ, pos, nat_abs}
+use lib.IntN.{ℤ}
 use Rattle.algebra.specs.Words.{blocks}
-use Rattle.algebra.proofs.Blocks.{Writing, begin, again, done, long, block_in_lem, append_block}
-use Rattle.algebra.proofs.Signed.{word_is}
-use Rattle.store.specs.Inner.Held.{StoreAt}
-use Rattle.store.specs.Store.{max_word, store_from}
+use Rattle.algebra.proofs.Blocks.{Writing, begin, again, done, long, block_in_lem}
 use Rattle.channel.specs.Shared.{Shared}
-use Rattle.channel.specs.Layout.{header_size, record_size, channels, word, record_words}
+use Rattle.channel.specs.Layout.{header_size, record_size, channels, record_words}
 use Rattle.channel.proofs.Restore.{length-block}
 use Rattle.collect.specs.Inner.Bank.{store_of, starts, stores_of, shared_of, record_of, records, Bank, Begun}
 
 -- ---- one record
 pub length_record : (d next s : ℕ) (b : Shared) → length (record_words (channels d) next s b) ≡ record_size (channels d)
 length_record d next s b = omega (arith, length-block (channels d) b.num)
-
--- the two words of a store, from its number
-module _ {l : List ℤ} {at : ℕ} (s : StoreAt l at) where
-  abbrev number : ℕ
-  number = store_from (word l at) (word l (at + 1))
-
-  low : nat_abs (word l at) < 2 ^ 32
-  low = omega (arith, (word_is max_word (word l at) s.low).1)
-
-  swapped : number ≡ nat_abs (word l (at + 1)) * 2 ^ 32 + nat_abs (word l at)
-  swapped = add_comm (nat_abs (word l at)) (nat_abs (word l (at + 1)) * 2 ^ 32)
-
-  pub low_word : word l at ≡ pos (number % 2 ^ 32)
-  low_word = (word_is max_word (word l at) s.low).0 ∙ ap pos (sym (ap (λ (x : ℕ). x % 2 ^ 32) swapped ∙ digits_mod (nat_abs (word l (at + 1))) low))
-
-  pub high_word : word l (at + 1) ≡ pos (number / 2 ^ 32)
-  high_word = (word_is max_word (word l (at + 1)) s.high).0 ∙ ap pos (sym (ap (λ (x : ℕ). x / 2 ^ 32) swapped ∙ digits_div (nat_abs (word l (at + 1))) low))
-
--- three words, then the exponent and the numerators
-pub record_written : (m : List ℤ) (to : ℕ) {l : List ℤ} {at : ℕ} → StoreAt l at → (ws : List ℤ) {x y : ℤ} → x ≡ word l at → y ≡ word l (at + 1) → {b : List ℤ}
-    → b ≡ sets (set (set (set m to (pos 0)) (to + 1) x) (to + 2) y) (to + 3) ws
-    → b ≡ sets m to (pos 0 ∷ pos (store_from (word l at) (word l (at + 1)) % 2 ^ 32) ∷ pos (store_from (word l at) (word l (at + 1)) / 2 ^ 32) ∷ ws)
-record_written m to {l} {at} s ws {x} {y} p q {b} e =
-    append_block m (pos 0 ∷ pos (number s % 2 ^ 32) ∷ pos (number s / 2 ^ 32) ∷ []) ws to 3 refl heads e
-  where
-    first : to + 1 ≡ suc to
-    first = omega arith
-
-    second : to + 2 ≡ suc (suc to)
-    second = omega arith
-
-    heads : set (set (set m to (pos 0)) (to + 1) x) (to + 2) y ≡ sets m to (pos 0 ∷ pos (number s % 2 ^ 32) ∷ pos (number s / 2 ^ 32) ∷ [])
-    heads = λ i. set (set (set m to (pos 0)) (first i) ((p ∙ low_word s) i)) (second i) ((q ∙ high_word s) i)
 
 -- ---- the stores of the first branches
 module _ (l : List ℤ) (at d : ℕ) where
@@ -117,17 +80,6 @@ record_room {m} {n} {l} {at} {d} {count} {b} g e = by (record_size (channels d))
   where
     by : (s k : ℕ) → length (stores_of l at d b) < k → n ≡ length (stores_of l at d b) → header_size + k * s ≤ length m → header_size + n * s + s ≤ length m
     by s k h q r = omega (arith, block_in_lem {i = n} {n = k} (omega arith) s)
-
--- what one branch answers, and leaves
-module _ (m : List ℤ) (n : ℕ) (l : List ℤ) (at d count b : ℕ) where
-  abbrev new : List ℤ
-  new = sets m (header_size + n * record_size (channels d)) (record_of l at d count (store_of l at d b))
-
-  pub unstarted : starts l at d b ≡ false → (n ≡ cond (starts l at d b) (n + 1) n) × (m ≡ cond (starts l at d b) new m)
-  unstarted e = (sym (ap (λ (t : Bool). cond t (n + 1) n) e), sym (ap (λ (t : Bool). cond t new m) e))
-
-  pub newly-started : starts l at d b ≡ true → {q : List ℤ} → q ≡ new → (n + 1 ≡ cond (starts l at d b) (n + 1) n) × (q ≡ cond (starts l at d b) new m)
-  newly-started e f = (sym (ap (λ (t : Bool). cond t (n + 1) n) e), f ∙ sym (ap (λ (t : Bool). cond t new m) e))
 
 -- ---- b branches are collected into q
 pub record Collected (m l : List ℤ) (at d count : ℕ) (q : List ℤ) (n b : ℕ) : Type 0 where

@@ -25,7 +25,7 @@ use Rattle.share.specs.Share.{number_at, with_numerators, shared_from}
 use Rattle.overlaps.specs.Inner.Overlap.{number_in}
 use Rattle.hermitian.specs.Inner.Sparse.{mirrored_at}
 use Rattle.overlaps.proofs.Numbers.{number-filled}
-use Rattle.collect.specs.Inner.Bank.{store_of, entry, has, overlaps, numerators, shared_of, Bank}
+use Rattle.collect.specs.Inner.Bank.{entry, has, overlaps, numerators, shared_of, Bank}
 use Rattle.collect.proofs.Numerators.{entry_is}
 use Rattle.collect.proofs.Summing.{Summed, number_is, upper_is, summed_long}
 

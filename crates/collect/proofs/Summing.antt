@@ -2,8 +2,8 @@
 use mathlib.Core.Path.{◌≡◌, refl, sym, ap, ◌∙◌, subst}
 use mathlib.Core.Bool.{Bool, true, false, cond}
 use mathlib.Core.List.{List, [], ◌∷◌}
-use Prim.Native.Nat.{ℕ, zero, suc, ◌+◌, ◌*◌, ◌-◌, ◌/◌, ◌%◌, ◌≤◌, ◌<◌}
-use native.Mathlib.Nat.{le_refl, add-zero}
+use Prim.Native.Nat.{ℕ, ◌+◌, ◌*◌, ◌/◌, ◌%◌, ◌≤◌, ◌<◌}
+use native.Mathlib.Nat.{le_refl}
 use native.Mathlib.Numerals.{add-one}
 use native.Mathlib.Omega.{arith}
 use lib.Arith.{digits_lt, digits_div, digits_mod}
@@ -14,19 +14,14 @@ use lib.Dec.{leb}
 use borrow.Author.Tests.{le-leb}
 use Rattle.algebra.specs.Quadratic.{conjugate}
 use Rattle.algebra.specs.Words.{fill_words, joined}
-use Rattle.algebra.proofs.Blocks.{Writing, wrote, long, block_in_lem, blocks-same, blocks_over, blocks-joined, joined-rows}
+use Rattle.algebra.proofs.Blocks.{wrote, long, blocks-same, blocks_over, blocks-joined, joined-rows}
 use Rattle.exact.specs.Exact.{Number, numbers, root2, list_of, narrow_exponent, max_numerator}
 use Rattle.exact.specs.Inner.Sizes.{Within}
-use Rattle.cells.specs.Cells.{cell_size}
-use Rattle.branches.specs.Inner.Bank.{branch_size}
 use Rattle.share.specs.Share.{with_numerators}
 use Rattle.overlaps.specs.Inner.Overlap.{number_in, upper_added, Block, Upper}
 use Rattle.overlaps.proofs.Numbers.{number-filled}
-use Rattle.collect.specs.Inner.Bank.{place, store_of, has, raised, numerators, upper, Branch, Bank}
+use Rattle.collect.specs.Inner.Bank.{place, store_of, has, raised, numerators, upper, Bank}
 use Rattle.collect.proofs.Numerators.{entry_is, sum-within}
-
-pub bank-branch : {l : List ℤ} {at d n : ℕ} → Bank l at d n → (j : ℕ) → j < n → Branch l at d j
-bank-branch {d = d} b j h = record { dim = b.dim; room = omega (arith, b.room, block_in_lem h (branch_size d)); store = b.stores j h }
 
 -- ---- one branch more
 module _ (l : List ℤ) (at d : ℕ) where

@@ -11,15 +11,16 @@ ghost use Rattle.kraus.specs.Blocks.{survivors};
 ghost use Rattle.collect.specs.Inner.Bank.{bank_in, Deliverable};
 ghost use Rattle.collect.specs.Delivered.{branches_words, overwritten};
 
+use branches::bank::Bank;
 use links::{link_records, write_header};
 use records::collect;
 
-// Write the channel of the bank of `count` branches at `at` of `work`, with `bits` bits in a store, to the start of `res`.
-pub fn deliver(res: &mut [i64], work: &[i64], at: usize, d: usize, bits: u32, count: usize)
-    requires { Deliverable res.old work.now at d bits count }
-    ensures { res.new ≡ overwritten (branches_words d bits (survivors (bank_in work.now at d bits count))) res.old }
+// Write the channel of a bank of `work`, with `bits` bits in a store, to the start of `res`.
+pub fn deliver(res: &mut [i64], work: &[i64], bank: Bank, bits: u32)
+    requires { Deliverable res.old work.now bank.at bank.d bits bank.count }
+    ensures { res.new ≡ overwritten (branches_words bank.d bits (survivors (bank_in work.now bank.at bank.d bits bank.count))) res.old }
 {
-    let n = collect(res, work, at, d, count);
-    link_records(res, d, n);
-    write_header(res, d, bits, n);
+    let n = collect(res, work, bank);
+    link_records(res, bank.d, n);
+    write_header(res, bank.d, bits, n);
 }

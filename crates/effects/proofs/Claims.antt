@@ -8,7 +8,7 @@ use lib.Arith.{digits_lt, digits_div, digits_mod}
 use lib.IntN.{ℤ, pos}
 use Rattle.exact.specs.Exact.{list_of}
 use Rattle.channel.specs.Shared.{shared_exponent, scaled}
-use Rattle.channel.specs.Layout.{channels, effects, record_head, record_at, word, entry_at, effect_of, dim_at, count_at}
+use Rattle.channel.specs.Layout.{channels, record_head, record_at, word, entry_at, effect_of, dim_at, count_at}
 use Rattle.effects.specs.Effects.{effect_at, povm_at, effect_record, effects_words}
 use Rattle.effects.specs.Inner.Readable.{Dim, Ready}
 use Rattle.effects.specs.Claims.{Exchanged, Transposes}

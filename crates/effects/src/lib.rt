@@ -1,4 +1,5 @@
 // The effects of a channel's blocks, transposed and as the textbook has them. The sums are tried before the first word is written, so that a refusal leaves the result as it was.
+// Kept (buffers): a place in the result. The contracts say what all of it becomes, record by record; a cut slice would tell of its own part alone. d beside the words is the dimension, and no length.
 #![tactic(auto)]
 
 ghost use Rattle.std.specs.Prelude.{◌≡◌, true, cond, ℕ, ◌+◌, ◌*◌, ◌<◌, ◌≤◌, [], ◌∷◌, length, pos, Err};
@@ -14,8 +15,9 @@ ghost use Rattle.channel.specs.Inner.Shapes.{shape_by};
 ghost use Rattle.share.specs.Share.{with_numerators};
 ghost use Rattle.effects.specs.Effects.{term, effect_at, partials_fit, terms_fit, record_fits, sums_fit, effect_header, effect_shared, effect_record, with_records, effects_words, result_by, effects_verdict, result_of, povm_of};
 ghost use Rattle.effects.specs.Inner.Readable.{Dim, Readable, Records, Linked, Ready};
-ghost use Rattle.effects.specs.Inner.Strides.{strided, strided_at, Strides, form_at, Effect, shared_words};
+ghost use Rattle.effects.specs.Inner.Strides.{strided, strided_at, form_at, Strides, Effect, shared_words};
 
+use cells::write_numerators;
 use channel::Shape;
 use channel::layout::{ENTRY, EXPONENT, HEADER, read_entry, record_size};
 use channel::well_formed::judge;
@@ -36,56 +38,6 @@ fn term_place(d: usize, r: usize, c: usize, o: usize) -> usize
     row * w + col
 }
 
-// Entry i of the effect of the block at `at`, or a refusal where a partial sum leaves the range.
-fn sum_entry(s: &[i64], at: usize, d: usize, i: usize) -> Result<Scalar, Refusal>
-    requires { Readable s.now at d × (i < d * d) }
-    ensures { result ≡ cond (partials_fit d (term s.now at d i)) (accepted (effect_at s.now at d i)) (Err TooLarge) }
-{
-    let r = i / d;
-    let c = i % d;
-    let mut acc = ZERO;
-    for o in 0..d {
-        let k = term_place(d, r, c, o);
-        let x = read_entry(s, at, k);
-        acc = acc.add(x)?;
-    }
-    Ok(acc)
-}
-
-// Whether every partial sum of the block at `at` fits.
-fn terms_fit(s: &[i64], at: usize, d: usize) -> bool
-    requires { Readable s.now at d }
-    ensures { result ≡ terms_fit s.now at d }
-{
-    for i in 0..d * d {
-        if sum_entry(s, at, d, i).is_err() {
-            return false;
-        }
-    }
-    true
-}
-
-// Entry i of an effect whose partial sums fit.
-fn entry(s: &[i64], at: usize, d: usize, i: usize) -> Scalar
-    requires { Readable s.now at d × ((i < d * d) × (terms_fit s.now at d ≡ true)) }
-    ensures { result ≡ scalar_of (effect_at s.now at d i) }
-{
-    sum_entry(s, at, d, i).unwrap()
-}
-
-// The exponent that the entries of the effect share: the largest of theirs.
-fn effect_exponent(s: &[i64], at: usize, d: usize) -> u32
-    requires { Readable s.now at d × (terms_fit s.now at d ≡ true) }
-    ensures { result ≡ shared_exponent (d * d) (effect_at s.now at d) }
-{
-    let mut e = 0u32;
-    for i in 0..d * d {
-        let x = entry(s, at, d, i);
-        e = e.max(x.e);
-    }
-    e
-}
-
 // Whether the numerators of x fit over 2^e.
 fn fits_over(x: Scalar, e: u32) -> bool
     requires { (x.e ≤ e) × (e ≤ max_exponent) }
@@ -94,40 +46,150 @@ fn fits_over(x: Scalar, e: u32) -> bool
     are_within(x.n, MAX_NUMERATOR >> (e - x.e))
 }
 
-// Whether the entries of the effect fit over 2^e, the exponent that they share.
-fn entries_fit(s: &[i64], at: usize, d: usize, e: u32) -> bool
-    requires { Readable s.now at d × ((terms_fit s.now at d ≡ true) × (e ≡ shared_exponent (d * d) (effect_at s.now at d))) }
-    ensures { result ≡ all_below (d * d) (λ (i : ℕ). within max_numerator (scaled e (effect_at s.now at d i))) }
-{
-    for i in 0..d * d {
-        let x = entry(s, at, d, i);
-        if !fits_over(x, e) {
+// Which entry of the transposed effect is written as entry (r, c): entry r·rows + c·cols.
+#[derive(Clone, Copy)]
+struct Stride {
+    rows: usize,
+    cols: usize,
+}
+
+// A block of a channel of dimension d, in its shared form: its record lies at `at` of the words.
+#[derive(Clone, Copy)]
+struct Block<'a> {
+    words: &'a [i64],
+    at: usize,
+    d: usize,
+    ghost readable: { Readable words.now at d },
+}
+
+impl<'a> Block<'a> {
+    // Entry i of the effect, or a refusal where a partial sum leaves the range.
+    fn sum_entry(self, i: usize) -> Result<Scalar, Refusal>
+        requires { i < self.d * self.d }
+        ensures { let b = self.entry in result ≡ cond (partials_fit b.d (term b.words.now b.at b.d i)) (accepted (effect_at b.words.now b.at b.d i)) (Err TooLarge) }
+    {
+        let r = i / self.d;
+        let c = i % self.d;
+        let mut acc = ZERO;
+        for o in 0..self.d {
+            let k = term_place(self.d, r, c, o);
+            let x = read_entry(self.words, self.at, k);
+            acc = acc.add(x)?;
+        }
+        Ok(acc)
+    }
+
+    // Whether every partial sum fits.
+    fn terms_fit(self) -> bool
+        ensures { let b = self.entry in result ≡ terms_fit b.words.now b.at b.d }
+    {
+        for i in 0..self.d * self.d {
+            if self.sum_entry(i).is_err() {
+                return false;
+            }
+        }
+        true
+    }
+
+    // Entry i of an effect whose partial sums fit.
+    fn entry(self, i: usize) -> Scalar
+        requires { (i < self.d * self.d) × (terms_fit self.words.now self.at self.d ≡ true) }
+        ensures { let b = self.entry in result ≡ scalar_of (effect_at b.words.now b.at b.d i) }
+    {
+        self.sum_entry(i).unwrap()
+    }
+
+    // The exponent that the entries of the effect share: the largest of theirs.
+    fn exponent(self) -> u32
+        requires { terms_fit self.words.now self.at self.d ≡ true }
+        ensures { let b = self.entry in result ≡ shared_exponent (b.d * b.d) (effect_at b.words.now b.at b.d) }
+    {
+        let mut e = 0u32;
+        for i in 0..self.d * self.d {
+            let x = self.entry(i);
+            e = e.max(x.e);
+        }
+        e
+    }
+
+    // Whether the entries of the effect fit over 2^e, the exponent that they share.
+    fn entries_fit(self, e: u32) -> bool
+        requires { (terms_fit self.words.now self.at self.d ≡ true) × (e ≡ shared_exponent (self.d * self.d) (effect_at self.words.now self.at self.d)) }
+        ensures { let b = self.entry in result ≡ all_below (b.d * b.d) (λ (i : ℕ). within max_numerator (scaled e (effect_at b.words.now b.at b.d i))) }
+    {
+        for i in 0..self.d * self.d {
+            let x = self.entry(i);
+            if !fits_over(x, e) {
+                return false;
+            }
+        }
+        true
+    }
+
+    // Whether every partial sum fits, and then the finished effect.
+    fn fits(self) -> bool
+        ensures { let b = self.entry in result ≡ record_fits b.words.now b.at b.d }
+    {
+        if !self.terms_fit() {
             return false;
         }
+        let e = self.exponent();
+        self.entries_fit(e)
     }
-    true
+
+    // Write the d² entries of the effect, over 2^e, from `out` on.
+    fn write_entries(self, strides: Stride, e: u32, res: &mut [i64], out: usize)
+        requires { Effect self.words.now self.at self.d strides.rows strides.cols
+            × ((e ≡ shared_exponent (self.d * self.d) (effect_at self.words.now self.at self.d)) × (out + block_size (effects self.d) ≤ length res.old)) }
+        ensures { let b = self.entry in res.new ≡ with_numerators res.old out (b.d * b.d) (λ (i : ℕ). scaled e (strided_at strides.rows strides.cols b.words.now b.at b.d i)) }
+    {
+        for i in 0..self.d * self.d {
+            let k = strided(self.d, strides, i);
+            let x = self.entry(k);
+            write_scaled(res, out + i * ENTRY, x, e);
+        }
+    }
+
+    // Write the effect's shared exponent to `out`, and its numerators after it.
+    fn write(self, strides: Stride, res: &mut [i64], out: usize)
+        requires { Effect self.words.now self.at self.d strides.rows strides.cols × (out + 1 + block_size (effects self.d) ≤ length res.old) }
+        ensures { let b = self.entry in res.new ≡ sets res.old out (shared_words b.d (effect_shared (strided_at strides.rows strides.cols) b.words.now b.at b.d)) }
+    {
+        let e = self.exponent();
+        res[out] = e as i64;
+        self.write_entries(strides, e, res, out + 1);
+    }
+
+    // Write the effect's record from `out` on.
+    fn write_record(self, strides: Stride, res: &mut [i64], out: usize)
+        requires { Effect self.words.now self.at self.d strides.rows strides.cols × (out + record_size (effects self.d) ≤ length res.old) }
+        ensures { let b = self.entry in res.new ≡ sets res.old out (effect_record (strided_at strides.rows strides.cols) b.words.now b.d b.at) }
+    {
+        let next = relinked(self.d, self.words[self.at]);
+        put_three(
+            res,
+            out,
+            next,
+            self.words[self.at + 1],
+            self.words[self.at + 2],
+        );
+        self.write(strides, res, out + EXPONENT);
+    }
 }
 
-// Whether every partial sum of the block at `at` fits, and then the finished effect.
-fn record_fits(s: &[i64], at: usize, d: usize) -> bool
-    requires { Readable s.now at d }
-    ensures { result ≡ record_fits s.now at d }
+// Whether all that is written of a channel's blocks fits.
+fn sums_fit(s: &[i64], h: Shape) -> bool
+    requires { Records s.now h.dim h.count }
+    ensures { result ≡ sums_fit s.now h.dim h.count }
 {
-    if !terms_fit(s, at, d) {
-        return false;
-    }
-    let e = effect_exponent(s, at, d);
-    entries_fit(s, at, d, e)
-}
-
-// Whether all that is written of n blocks fits.
-fn sums_fit(s: &[i64], d: usize, n: usize) -> bool
-    requires { Records s.now d n }
-    ensures { result ≡ sums_fit s.now d n }
-{
-    let size = record_size(d * d);
-    for j in 0..n {
-        if !record_fits(s, HEADER + j * size, d) {
+    let size = record_size(h.dim * h.dim);
+    for j in 0..h.count {
+        let block = Block {
+            words: s,
+            at: HEADER + j * size,
+            d: h.dim,
+        };
+        if !block.fits() {
             return false;
         }
     }
@@ -149,22 +211,11 @@ fn relinked(d: usize, z: i64) -> i64
 }
 
 // Which entry of the transposed effect is written as entry i: for i = r·d + c, entry r·rows + c·cols.
-fn strided(d: usize, rows: usize, cols: usize, i: usize) -> usize
-    requires { Strides d rows cols × (i < d * d) }
-    ensures { result ≡ strided d rows cols i }
+fn strided(d: usize, strides: Stride, i: usize) -> usize
+    requires { Strides d strides.rows strides.cols × (i < d * d) }
+    ensures { result ≡ strided d strides.rows strides.cols i }
 {
-    i / d * rows + i % d * cols
-}
-
-// Write four numerators from `at` on.
-fn write_number(res: &mut [i64], at: usize, x: [i64; 4])
-    requires { at + 4 ≤ length res.old }
-    ensures { res.new ≡ sets res.old at (list_of (number_of x)) }
-{
-    res[at] = x[0];
-    res[at + 1] = x[1];
-    res[at + 2] = x[2];
-    res[at + 3] = x[3];
+    i / d * strides.rows + i % d * strides.cols
 }
 
 // Write the numerators of x over 2^e from `at` on.
@@ -173,46 +224,7 @@ fn write_scaled(res: &mut [i64], at: usize, x: Scalar, e: u32)
     ensures { res.new ≡ sets res.old at (list_of (scaled e (value x))) }
 {
     let y = scaled4(x.n, e - x.e);
-    write_number(res, at, y);
-}
-
-// Write the d² entries of the effect of the block at `at`, over 2^e, from `out` on.
-fn write_entries(
-    s: &[i64],
-    at: usize,
-    d: usize,
-    rows: usize,
-    cols: usize,
-    e: u32,
-    res: &mut [i64],
-    out: usize,
-)
-    requires { Effect s.now at d rows cols × ((e ≡ shared_exponent (d * d) (effect_at s.now at d)) × (out + block_size (effects d) ≤ length res.old)) }
-    ensures { res.new ≡ with_numerators res.old out (d * d) (λ (i : ℕ). scaled e (strided_at rows cols s.now at d i)) }
-{
-    for i in 0..d * d {
-        let k = strided(d, rows, cols, i);
-        let x = entry(s, at, d, k);
-        write_scaled(res, out + i * ENTRY, x, e);
-    }
-}
-
-// Write the effect's shared exponent to `out`, and its numerators after it.
-fn write_block(
-    s: &[i64],
-    at: usize,
-    d: usize,
-    rows: usize,
-    cols: usize,
-    res: &mut [i64],
-    out: usize,
-)
-    requires { Effect s.now at d rows cols × (out + 1 + block_size (effects d) ≤ length res.old) }
-    ensures { res.new ≡ sets res.old out (shared_words d (effect_shared (strided_at rows cols) s.now at d)) }
-{
-    let e = effect_exponent(s, at, d);
-    res[out] = e as i64;
-    write_entries(s, at, d, rows, cols, e, res, out + 1);
+    write_numerators(res, at, y);
 }
 
 // Write three words from `at` on.
@@ -225,32 +237,20 @@ fn put_three(res: &mut [i64], at: usize, a: i64, b: i64, c: i64)
     res[at + 2] = c;
 }
 
-// Write the effect's record of the block at `at` from `out` on.
-fn write_record(
-    s: &[i64],
-    at: usize,
-    d: usize,
-    rows: usize,
-    cols: usize,
-    res: &mut [i64],
-    out: usize,
-)
-    requires { Effect s.now at d rows cols × (out + record_size (effects d) ≤ length res.old) }
-    ensures { res.new ≡ sets res.old out (effect_record (strided_at rows cols) s.now d at) }
+// Write the effects' records of a channel's blocks, in the channel's own order.
+fn write_records(s: &[i64], h: Shape, strides: Stride, res: &mut [i64])
+    requires { Records s.now h.dim h.count × (Strides h.dim strides.rows strides.cols × ((sums_fit s.now h.dim h.count ≡ true) × (header_size + h.count * record_size (effects h.dim) ≤ length res.old))) }
+    ensures { res.new ≡ with_records (strided_at strides.rows strides.cols) s.now h.dim h.count res.old }
 {
-    put_three(res, out, relinked(d, s[at]), s[at + 1], s[at + 2]);
-    write_block(s, at, d, rows, cols, res, out + EXPONENT);
-}
-
-// Write the effects' records of n blocks, in the channel's own order.
-fn write_records(s: &[i64], d: usize, n: usize, rows: usize, cols: usize, res: &mut [i64])
-    requires { Records s.now d n × (Strides d rows cols × ((sums_fit s.now d n ≡ true) × (header_size + n * record_size (effects d) ≤ length res.old))) }
-    ensures { res.new ≡ with_records (strided_at rows cols) s.now d n res.old }
-{
-    let from = record_size(d * d);
-    let to = record_size(d);
-    for j in 0..n {
-        write_record(s, HEADER + j * from, d, rows, cols, res, HEADER + j * to);
+    let from = record_size(h.dim * h.dim);
+    let to = record_size(h.dim);
+    for j in 0..h.count {
+        let block = Block {
+            words: s,
+            at: HEADER + j * from,
+            d: h.dim,
+        };
+        block.write_record(strides, res, HEADER + j * to);
     }
 }
 
@@ -272,23 +272,23 @@ fn judge_effects(channel: &[i64], res: &[i64]) -> Result<Shape, Refusal>
     if res.len() < HEADER + h.count * size {
         return Err(Refusal::ShortBuffer);
     }
-    if !sums_fit(channel, h.dim, h.count) {
+    if !sums_fit(channel, h) {
         return Err(Refusal::TooLarge);
     }
     Ok(h)
 }
 
 // Write the effects' words.
-fn write_effects(s: &[i64], d: usize, n: usize, rows: usize, cols: usize, res: &mut [i64])
-    requires { Ready s.now res.old d n × Strides d rows cols }
-    ensures { res.new ≡ effects_words (strided_at rows cols) s.now res.old }
+fn write_effects(s: &[i64], h: Shape, strides: Stride, res: &mut [i64])
+    requires { Ready s.now res.old h.dim h.count × Strides h.dim strides.rows strides.cols }
+    ensures { res.new ≡ effects_words (strided_at strides.rows strides.cols) s.now res.old }
 {
-    write_header(s, d, res);
-    write_records(s, d, n, rows, cols, res);
+    write_header(s, h.dim, res);
+    write_records(s, h, strides, res);
 }
 
 // The stride of one of an entry's two digits: that of a row, or of a column.
-fn stride(d: usize, row: bool) -> usize
+fn step_of(d: usize, row: bool) -> usize
     ensures { result ≡ cond row d 1 }
 {
     if row { d } else { 1 }
@@ -300,9 +300,9 @@ fn effects_in(channel: &[i64], textbook: bool, res: &mut [i64]) -> Verdict
     ensures words { res.new ≡ result_by (form_at textbook) (effects_verdict channel.now res.old) channel.now res.old }
 {
     let h = judge_effects(channel, res)?;
-    let rows = stride(h.dim, !textbook);
-    let cols = stride(h.dim, textbook);
-    write_effects(channel, h.dim, h.count, rows, cols, res);
+    let rows = step_of(h.dim, !textbook);
+    let cols = step_of(h.dim, textbook);
+    write_effects(channel, h, Stride { rows, cols }, res);
     Ok(())
 }
 

@@ -9,12 +9,12 @@ use lib.IntN.{ℤ, pos}
 use lib.Signed.{mag}
 use lib.Bits.{bit_and, bit_or}
 use mir.Syntax.{w64}
-use mir.Val.{to_z, of_z}
+use mir.Val.{of_z}
 use borrow.Author.Tests.{le-leb, leb-true}
 use Rattle.algebra.specs.Dyadic.{evenℤ}
 use Rattle.algebra.proofs.Tests.{and_split}
-use Rattle.algebra.proofs.Signed.{reads, and_one, or_even, bit-parity}
-use Rattle.exact.specs.Exact.{Exact, Number, number, within, number_halves, in_range, is_lowest, well_formed, narrow, max_numerator, max_exponent, narrow_numerator, narrow_exponent, number_of}
+use Rattle.algebra.proofs.Signed.{and_one, or_even, bit-parity}
+use Rattle.exact.specs.Exact.{Exact, Number, within, number_halves, in_range, is_lowest, well_formed, narrow, max_numerator, max_exponent, narrow_numerator, narrow_exponent, number_of}
 use Rattle.exact.specs.Inner.Sizes.{Within, room_numerator}
 use Rattle.exact.proofs.Align.{roomy}
 
@@ -38,11 +38,6 @@ module _ (l : List ℤ) where
       ap (λ (k : ℕ). eqb k 0) (and_one (bit_or (bit_or (of_z w64 (n 0)) (of_z w64 (n 1))) (bit_or (of_z w64 (n 2)) (of_z w64 (n 3)))))
       ∙ or_even (bit_or (of_z w64 (n 0)) (of_z w64 (n 1))) (bit_or (of_z w64 (n 2)) (of_z w64 (n 3)))
       ∙ (λ i. even-two (n 0) (n 1) a b i && even-two (n 2) (n 3) c d i)
-
-  -- the numerators that were read
-  pub number_back : mag (n 0) < 2 ^ 63 → mag (n 1) < 2 ^ 63 → mag (n 2) < 2 ^ 63 → mag (n 3) < 2 ^ 63
-      → number (to_z w64 (of_z w64 (n 0))) (to_z w64 (of_z w64 (n 1))) (to_z w64 (of_z w64 (n 2))) (to_z w64 (of_z w64 (n 3))) ≡ number_of l
-  number_back a b c d = λ i. number (reads (n 0) a i) (reads (n 1) b i) (reads (n 2) c i) (reads (n 3) d i)
 
 -- ---- bounds, as tests and as facts
 pub within_of : (m : ℕ) (z : Number) → within m z ≡ true → Within m z

@@ -1,4 +1,5 @@
 // Four numerators: their sums, products and multiples, and the zeros that end all of them. No verdicts: a caller shows that all fits.
+// Kept (facts): a range is asked of one operand where a sum or a sign could leave it; a type of numerators in range would have to be left for each sum and entered again.
 ghost use Rattle.std.specs.Prelude.{◌≡◌, ◌%◌, ◌≤◌, ◌^◌};
 ghost use Rattle.std.specs.Int.Bits.{bit_or};
 ghost use Rattle.std.specs.Int.Count.{count_trailing_zeros};

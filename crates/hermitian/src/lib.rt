@@ -1,5 +1,7 @@
 // Hermitian blocks of numerators over one power of two: their lower half from their upper, and all of them brought to their shared form in place.
+// Kept (facts): t ≤ 63, the bits of a word, is what a shift itself asks.
 // A row whose number on the diagonal is zero is zero, and is passed over.
+// Kept (buffers, together): a block by its place and its w rows. It is read and written across its diagonal, at two places of one buffer, and stands in a result that is longer; a struct that holds the `&mut` would be lent anew for each row.
 #![tactic(auto)]
 
 ghost use Rattle.std.specs.Prelude.{◌≡◌, ℕ, ◌+◌, ◌*◌, ◌^◌, ◌<◌, ◌≤◌, length, get_or, pos};
@@ -15,10 +17,10 @@ ghost use Rattle.share.specs.Share.{or_words, shared_from, with_numerators};
 ghost use Rattle.overlaps.specs.Inner.Overlap.{number_in};
 ghost use Rattle.hermitian.specs.Inner.Sparse.{diagonal, mirrored_at, Half, Column, Row, Sparse};
 
+use cells::{numerators_at, write_numerators};
 use channel::layout::ENTRY;
 use exact::numerators::common_zeros;
 use exact::ranges::all_zero;
-use overlaps::{read_number, write_number};
 use share::{or_more, shift_words};
 
 // Whether the number on the diagonal of row r of the block at `at`, of w rows, is zero.
@@ -26,7 +28,7 @@ fn is_zero_row(s: &[i64], at: usize, w: usize, r: usize) -> bool
     requires { (r < w) × (at + w * w * 4 ≤ length s.now) }
     ensures { result ≡ is_zero (diagonal s.now at w r) }
 {
-    let x = read_number(s, at + (r * w + r) * ENTRY);
+    let x = numerators_at(s, at + (r * w + r) * ENTRY);
     all_zero(x)
 }
 
@@ -35,9 +37,9 @@ fn write_conj(s: &mut [i64], from: usize, at: usize)
     requires { (from + 4 ≤ length s.old) × ((at + 4 ≤ length s.old) × Within room_numerator (number_in s.old from)) }
     ensures { s.new ≡ sets s.old at (list_of (conjugate root2 (number_in s.old from))) }
 {
-    let x = read_number(s, from);
+    let x = numerators_at(s, from);
     let y = [x[0], x[1], -x[2], -x[3]];
-    write_number(s, at, y);
+    write_numerators(s, at, y);
 }
 
 // Write the conjugates of the first r numbers of column r of the block at `out`, of w columns, to row r.

@@ -19,7 +19,7 @@ use Rattle.exact.proofs.Exact.{exact_halving, exacts}
 use Rattle.exact.proofs.IsZero.{zero_is}
 use Rattle.gate.specs.Operators.{same_bits}
 use Rattle.gate.proofs.Bits.{same_true, same_refl}
-use Rattle.kraus.specs.Branch.{Store, Branch, branches}
+use Rattle.kraus.specs.Branch.{Store, Branch}
 use Rattle.kraus.specs.Blocks.{alive, survivors, having, overlap, block, squared, povm, stores}
 use Rattle.kraus.proofs.Stores.{Distinct, stores-distinct, stores_some}
 use Rattle.kraus.proofs.Complete.{gram}

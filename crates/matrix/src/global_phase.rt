@@ -1,4 +1,6 @@
 // Equality up to a global phase.
+// Kept (buffers): n is how many entries the dimension says, which the questions compare with the length of the words.
+// Kept (together): each matrix is words with the dimension that a caller claims for them; whether both belong together is the first question of this call.
 ghost use Rattle.std.specs.Prelude.{◌≡◌, true, ℕ, ◌*◌, ◌<◌, ◌≤◌, length};
 ghost use Rattle.algebra.specs.Lists.{all_below};
 ghost use Rattle.exact.specs.Exact.{conj, narrow};
@@ -75,42 +77,55 @@ fn squared_modulus(x: Scalar) -> Scalar
     times(x, x.conj().unwrap())
 }
 
-// Whether each pair is in the ratio of a to b.
-fn ratios_same(left: &[i64], right: &[i64], n: usize, a: Scalar, b: Scalar) -> bool
-    requires { (Operands left.now n × Operands right.now n) × (Operand (value a) × Operand (value b)) }
-    ensures { result ≡ equal_ratios n (entry_of left.now) (entry_of right.now) (value a) (value b) }
-{
-    for j in 0..n {
-        let x = read_cell(left, j * CELL);
-        let y = read_cell(right, j * CELL);
-        if !times(x, b).equals(times(y, a)) {
+// The n entries of each of two matrices, well formed and narrow, so that they can be multiplied.
+#[derive(Clone, Copy)]
+struct Pair<'a> {
+    left: &'a [i64],
+    right: &'a [i64],
+    n: usize,
+    ghost left_operands: { Operands left.now n },
+    ghost right_operands: { Operands right.now n },
+}
+
+impl<'a> Pair<'a> {
+    // Whether each entry of the left matrix is in the ratio of a to b to that of the right one.
+    fn ratios_same(self, a: Scalar, b: Scalar) -> bool
+        requires { Operand (value a) × Operand (value b) }
+        ensures { let p = self.entry in result ≡ equal_ratios p.n (entry_of p.left.now) (entry_of p.right.now) (value a) (value b) }
+    {
+        for j in 0..self.n {
+            let x = read_cell(self.left, j * CELL);
+            let y = read_cell(self.right, j * CELL);
+            if !times(x, b).equals(times(y, a)) {
+                return false;
+            }
+        }
+        true
+    }
+
+    // Whether the rule holds with entry i as the pivot.
+    fn in_phase_at(self, i: usize) -> bool
+        requires { i < self.n }
+        ensures { let p = self.entry in result ≡ in_phase_at p.n (entry_of p.left.now) (entry_of p.right.now) i }
+    {
+        let a = read_cell(self.left, i * CELL);
+        let b = read_cell(self.right, i * CELL);
+        let p = squared_modulus(a);
+        let q = squared_modulus(b);
+        if !p.equals(q) {
             return false;
         }
+        self.ratios_same(a, b)
     }
-    true
-}
 
-fn in_phase_at(left: &[i64], right: &[i64], n: usize, i: usize) -> bool
-    requires { (i < n) × (Operands left.now n × Operands right.now n) }
-    ensures { result ≡ in_phase_at n (entry_of left.now) (entry_of right.now) i }
-{
-    let a = read_cell(left, i * CELL);
-    let b = read_cell(right, i * CELL);
-    let p = squared_modulus(a);
-    let q = squared_modulus(b);
-    if !p.equals(q) {
-        return false;
-    }
-    ratios_same(left, right, n, a, b)
-}
-
-fn in_phase(left: &[i64], right: &[i64], n: usize) -> bool
-    requires { Operands left.now n × Operands right.now n }
-    ensures { result ≡ in_phase n (entry_of left.now) (entry_of right.now) }
-{
-    match first_nonzero(left, 0, n, 0) {
-        Some(i) => in_phase_at(left, right, n, i),
-        None => is_zero(right, 0, n),
+    // Whether the rule holds.
+    fn in_phase(self) -> bool
+        ensures { let p = self.entry in result ≡ in_phase p.n (entry_of p.left.now) (entry_of p.right.now) }
+    {
+        match first_nonzero(self.left, 0, self.n, 0) {
+            Some(i) => self.in_phase_at(i),
+            None => is_zero(self.right, 0, self.n),
+        }
     }
 }
 
@@ -146,5 +161,6 @@ pub fn equivalent_up_to_global_phase(
     if !narrow {
         return Err(Refusal::TooLarge);
     }
-    Ok(phase_of(in_phase(left, right, n)))
+    let pair = Pair { left, right, n };
+    Ok(phase_of(pair.in_phase()))
 }

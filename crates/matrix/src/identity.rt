@@ -1,4 +1,5 @@
 // The identity, written.
+// Kept (buffers): a place in the buffer, as in `words`: the contract says of all of it what it becomes.
 ghost use Rattle.std.specs.Prelude.{◌≡◌, ◌+◌, ◌*◌, ◌≤◌, length};
 ghost use Rattle.algebra.specs.Sum.{δ};
 ghost use Rattle.exact.specs.Exact.{exact};

@@ -1,5 +1,6 @@
 // Rows of numbers in words: one multiplied, or two multiplied and added.
-// Kept: rows as places in one buffer. There is no heap: the rows that are read and the row that is written lie in the buffer that a caller lends, and cannot be borrowed apart.
+// Kept (buffers, together): rows as places in one buffer. The two rows that are read and the row that is written lie in the buffer that a caller lends; as slices they would have to be split out of it and joined again for each row of a product.
+// Kept (facts): that the numerators of two factors are narrow. A type of narrow scalars would be a second scalar, which each row is turned into and each product out of.
 ghost use Rattle.std.specs.Prelude.{◌≡◌};
 ghost use Rattle.exact.specs.Exact.{exact, narrow_exponent};
 ghost use Rattle.exact.specs.Inner.Sizes.{Coords};

@@ -1,4 +1,5 @@
 // Words cleared, copied, and searched for what is not zero.
+// Kept (buffers): a place and a length. A contract here says of the whole buffer what it becomes; of a cut slice it would speak of that part alone, and each caller would have to show again that the rest stayed as it was.
 ghost use Rattle.std.specs.Prelude.{◌≡◌, ℕ, ◌+◌, ◌*◌, ◌-◌, ◌≤◌, length, get_or, pos};
 ghost use Rattle.algebra.specs.Words.{fill_words};
 ghost use Rattle.algebra.specs.Inner.Apart.{Apart};
@@ -19,6 +20,7 @@ pub fn clear(s: &mut [i64], at: usize, n: usize)
     }
 }
 
+// Kept: by a loop. `s.copy_within(from..from + n, to)` tells what it leaves by take and drop, where the writers here tell it block by block: a lemma that leads from one to the other would be longer than the loop and its proof.
 // Copy n words from `from` on to `to` on; the two parts do not overlap.
 pub fn copy(s: &mut [i64], from: usize, to: usize, n: usize)
     requires { (from + n ≤ length s.old) × ((to + n ≤ length s.old) × Apart from n to n) }

@@ -1,34 +1,16 @@
 // Overlaps of a Kraus matrix's entries, added to a block of numerators over one power of two: integer products and sums, with no lowest form for any entry.
+// Kept (buffers, together): a place in each of two buffers: the result, of which the contracts say what all of it becomes, and the words of the branches, where a row is read at two places.
 #![tactic(auto)]
 
 ghost use Rattle.std.specs.Prelude.{◌≡◌, ◌+◌, ◌*◌, ◌≤◌, length};
 ghost use Rattle.std.proofs.lemmas.List.Edits.{sets};
 ghost use Rattle.exact.specs.Exact.{number_of, list_of};
 ghost use Rattle.share.specs.Share.{with_numerators};
-ghost use Rattle.overlaps.specs.Inner.Overlap.{number_in, raised_at, added, row_added, upper_added, Raised, Adding, Row, Upper};
+ghost use Rattle.overlaps.specs.Inner.Overlap.{raised_at, added, row_added, upper_added, Raised, Adding, Row, Upper};
 
-use cells::{CELL, read_cell, zero_at};
+use cells::{CELL, numerators_at, read_cell, write_numerators, zero_at};
 use channel::layout::ENTRY;
 use exact::numerators::{conj_product, scaled4, sum4};
-
-// The numerators at `at`.
-pub fn read_number(s: &[i64], at: usize) -> [i64; 4]
-    requires { at + 4 ≤ length s.now }
-    ensures { result ≡ list_of (number_in s.now at) }
-{
-    [s[at], s[at + 1], s[at + 2], s[at + 3]]
-}
-
-// Write numerators to `at`.
-pub fn write_number(s: &mut [i64], at: usize, x: [i64; 4])
-    requires { at + 4 ≤ length s.old }
-    ensures { s.new ≡ sets s.old at (list_of (number_of x)) }
-{
-    s[at] = x[0];
-    s[at + 1] = x[1];
-    s[at + 2] = x[2];
-    s[at + 3] = x[3];
-}
 
 // The numerators of the scalar at q, over 2^e.
 fn read_scaled(s: &[i64], q: usize, e: u32) -> [i64; 4]
@@ -48,8 +30,8 @@ fn add_number(res: &mut [i64], at: usize, x: [i64; 4], work: &[i64], q: usize, e
         return;
     }
     let p = conj_product(x, read_scaled(work, q, e));
-    let v = sum4(read_number(res, at), p);
-    write_number(res, at, v);
+    let v = sum4(numerators_at(res, at), p);
+    write_numerators(res, at, v);
 }
 
 // Add the scalar at p of `work` times the conjugates of the n scalars from k on, over 2^e, to the n numbers from `to` on of `res`; a zero is passed over.

@@ -1,4 +1,5 @@
 // A product, and a sum of two products. No verdicts: a caller shows that all fits.
+// Kept (facts): that the numerators of two factors are narrow. A type of narrow scalars would be a second scalar, which each row is turned into and each product out of.
 #![tactic(auto)]
 
 ghost use Rattle.std.specs.Prelude.{◌≡◌};

@@ -11,9 +11,6 @@ module _ (x : Exact) (a : Answer) where
   pub asked-yes : well_formed x ≡ true → asked x a ≡ a
   asked-yes h = ap (λ (b : Bool). cond b a (Err Malformed)) h
 
-  pub asked_no : well_formed x ≡ false → asked x a ≡ Err Malformed
-  asked_no h = ap (λ (b : Bool). cond b a (Err Malformed)) h
-
 -- one operand, as code asks it
 module _ (x : Exact) {b : Bool} (e : b ≡ well_formed x) where
   pub formed : not b ≡ false → well_formed x ≡ true
@@ -26,15 +23,9 @@ module _ (x y : Exact) where
   pub both_yes : (a : Answer) → (well_formed x && well_formed y) ≡ true → asked_both x y a ≡ a
   both_yes a h = ap (λ (b : Bool). cond b a (Err Malformed)) h
 
-  pub both_no : (a : Answer) → (well_formed x && well_formed y) ≡ false → asked_both x y a ≡ Err Malformed
-  both_no a h = ap (λ (b : Bool). cond b a (Err Malformed)) h
-
   -- the answer of a product whose operands are well formed
   abbrev product : Bool → Answer
   product b = cond b (accepted (exact.◌⊗◌ x y)) (Err TooLarge)
 
   pub mul-yes : (well_formed x && well_formed y) ≡ true → (narrow x && narrow y) ≡ true → mul_answer x y ≡ accepted (exact.◌⊗◌ x y)
   mul-yes g h = λ i. cond (g i) (product (h i)) (Err Malformed)
-
-  pub mul_wide : (well_formed x && well_formed y) ≡ true → (narrow x && narrow y) ≡ false → mul_answer x y ≡ Err TooLarge
-  mul_wide g h = λ i. cond (g i) (product (h i)) (Err Malformed)

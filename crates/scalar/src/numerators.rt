@@ -1,4 +1,5 @@
 // The lowest form of four numerators over a power of two, and a sum at two powers. No verdicts: a caller shows that all fits.
+// Kept (facts): as in exact.
 ghost use Rattle.std.specs.Prelude.{◌≡◌, ◌-◌, ◌≤◌};
 ghost use Rattle.algebra.specs.Dyadic.{frac};
 ghost use Rattle.exact.specs.Exact.{exact, lowest, max_numerator, max_exponent, number_of};

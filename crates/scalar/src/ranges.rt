@@ -33,6 +33,7 @@ impl Scalar {
         self.in_range() & self.is_lowest()
     }
 
+    // Kept: a name for `==`. The derive tells `==` field by field; here it is told in the word of the specification, `equal`, once for all callers.
     // Whether both are the same number: lowest forms are unique.
     pub fn equals(self, other: Scalar) -> bool
         ensures { result ≡ equal (value self) (value other) }

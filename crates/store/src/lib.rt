@@ -1,4 +1,5 @@
 // Stores: the values of the classical bits. As bytes, one a bit; as a number, in which bit j weighs 2^j; as two words of 32 bits, the low one first.
+// Kept (facts): at most 64 bits, as a number of the header of a channel, which is read as one.
 #![tactic(auto)]
 
 ghost use Rattle.std.specs.Prelude.{◌≡◌, true, ◌+◌, ◌≤◌, ◌^◌, ltb, length, get_or, take, drop, pos};
@@ -58,6 +59,7 @@ pub fn join(low: i64, high: i64) -> u64
     low as u64 + high as u64 * HIGH
 }
 
+// Kept: words and a place in them, since a store stands between the other words of a branch or a record.
 // The store in the two words from `at` on.
 pub fn store_from(s: &[i64], at: usize) -> u64
     requires { StoreAt s.now at }

@@ -30,7 +30,7 @@ write_effects-requires c =
     let able = ready l c.args.res.now c.in_ok-h.ensures in
     let d = c.in_ok-h.h.dim in
     let dim : Dim d = subst (λ (h : Shape). Dim h.dim) (sym (answer-shape l c.args.res.now c.in_ok-h.ensures)) (dim_of l able.form) in
-    (able, subst (λ (r : ℕ). Strides d r c.stride-cols.result) (sym c.stride-rows.ensures) (subst (Strides d (cond (not c.args.textbook) d 1)) (sym c.stride-cols.ensures) (form_strides c.args.textbook dim)))
+    (able, subst (λ (r : ℕ). Strides d r c.step_of-cols.result) (sym c.step_of-rows.ensures) (subst (Strides d (cond (not c.args.textbook) d 1)) (sym c.step_of-cols.ensures) (form_strides c.args.textbook dim)))
 
 pub returns : goal.returns
 returns c =
@@ -41,7 +41,7 @@ returns c =
     let accepted = verdict_accepted l room c.in_ok-h.ensures in
     record {
       verdict = accepted;
-      words = c.write_effects.ensures ∙ (λ i. effects_words (strided_at (c.stride-rows.ensures i) (c.stride-cols.ensures i)) l room)
+      words = c.write_effects.ensures ∙ (λ i. effects_words (strided_at (c.step_of-rows.ensures i) (c.step_of-cols.ensures i)) l room)
           ∙ ap (λ (h : Shape). effects_words (strided_at (cond (not t) h.dim 1) (cond t h.dim 1)) l room) is
           ∙ form-records t l (dim_at l) (count_at l) _ (dim_of l (ready l room c.in_ok-h.ensures).form)
           ∙ ap (λ (v : Verdict). result_by (form_at t) v l room) accepted;

@@ -6,14 +6,14 @@ use Rattle.channel.specs.Layout.{channels, header_size, record_at}
 use Rattle.effects.specs.Effects.{record_fits}
 use Rattle.effects.proofs.sums_fit.Goals as goal
 
-pub returns-then-not-record_fits : goal.returns-then-not-record_fits
-returns-then-not-record_fits c =
+pub returns-then-not-fits : goal.returns-then-not-fits
+returns-then-not-fits c =
     let s = c.args in
-    let tested = c.record_fits.ensures ∙ ap (λ (r : ℕ). record_fits s.s.now (header_size + c.loop-j.j * r) s.d) c.record_size-size.ensures in
-    sym (all_no s.n c.loop-j.j (λ (j : ℕ). record_fits s.s.now (record_at (channels s.d) j) s.d) c.loop-j-test.true (sym tested ∙ c.if-not-record_fits.true))
+    let tested = c.fits.ensures ∙ ap (λ (r : ℕ). record_fits s.s.now (header_size + c.loop-j.j * r) s.h.dim) c.record_size-size.ensures in
+    sym (all_no s.h.count c.loop-j.j (λ (j : ℕ). record_fits s.s.now (record_at (channels s.h.dim) j) s.h.dim) c.loop-j-test.true (sym tested ∙ c.if-not-fits.true))
 
 pub loop-j-preserved : goal.loop-j-preserved
 loop-j-preserved c =
     let s = c.args in
-    let tested = c.record_fits.ensures ∙ ap (λ (r : ℕ). record_fits s.s.now (header_size + c.loop-j.j * r) s.d) c.record_size-size.ensures in
-    all-step c.loop-j.j (λ (j : ℕ). record_fits s.s.now (record_at (channels s.d) j) s.d) c.loop-j.invariant (sym tested ∙ c.if-not-record_fits.false)
+    let tested = c.fits.ensures ∙ ap (λ (r : ℕ). record_fits s.s.now (header_size + c.loop-j.j * r) s.h.dim) c.record_size-size.ensures in
+    all-step c.loop-j.j (λ (j : ℕ). record_fits s.s.now (record_at (channels s.h.dim) j) s.h.dim) c.loop-j.invariant (sym tested ∙ c.if-not-fits.false)

@@ -5,4 +5,4 @@ use Rattle.effects.specs.Effects.{sums_fit}
 use Rattle.effects.proofs.sums_fit.Given as goal
 
 abbrev pub invariant-loop-j : goal.invariant-loop-j
-invariant-loop-j l = sums_fit l.s l.d l.j ≡ true
+invariant-loop-j l = sums_fit l.s l.h.dim l.j ≡ true

@@ -27,7 +27,7 @@ write_records-requires c =
         c.requires.1,
         (
           ready_fit _ _ _ _ r,
-          subst (λ (m : ℕ). header_size + c.args.n * record_size (effects c.args.d) ≤ m) (sym e) (ready_room _ _ _ _ r),
+          subst (λ (m : ℕ). header_size + c.args.h.count * record_size (effects c.args.h.dim) ≤ m) (sym e) (ready_room _ _ _ _ r),
         ),
       ),
     )
@@ -36,6 +36,6 @@ pub returns : goal.returns
 returns c =
     let a = c.args in
     let r = c.requires.0 in
-    let records = with_records (strided_at a.rows a.cols) a.s.now in
-    c.write_records.ensures ∙ ap (records a.d a.n) c.write_header.ensures
+    let records = with_records (strided_at a.strides.rows a.strides.cols) a.s.now in
+    c.write_records.ensures ∙ ap (records a.h.dim a.h.count) c.write_header.ensures
     ∙ (λ i. records (r.dim i) (r.count i) (sets a.res.now 0 (effect_header a.s.now (r.dim i))))

@@ -8,4 +8,4 @@ use Rattle.effects.proofs.write_records.Given as goal
 
 abbrev pub invariant-loop-j : goal.invariant-loop-j
 invariant-loop-j l =
-    Writing (record_size (effects l.d)) l.initial.res header_size l.n (λ (k : ℕ). effect_record (strided_at l.rows l.cols) l.s l.d (record_at (channels l.d) k)) l.res l.j
+    Writing (record_size (effects l.h.dim)) l.initial.res header_size l.h.count (λ (k : ℕ). effect_record (strided_at l.strides.rows l.strides.cols) l.s l.h.dim (record_at (channels l.h.dim) k)) l.res l.j

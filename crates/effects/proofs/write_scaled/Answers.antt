@@ -19,5 +19,5 @@ scaled4-y-requires c =
 pub returns : goal.returns
 returns c =
     let s = c.args in
-    c.write_number.ensures ∙ ap (λ (y : List ℤ). sets s.res.now s.at (list_of (number_of y))) c.scaled4-y.ensures
+    c.write_numerators.ensures ∙ ap (λ (y : List ℤ). sets s.res.now s.at (list_of (number_of y))) c.scaled4-y.ensures
     ∙ ap (λ (z : Number). sets s.res.now s.at (list_of z)) (scaled_is (number_of s.x.n) (s.e - s.x.e))

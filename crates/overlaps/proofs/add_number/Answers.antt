@@ -29,7 +29,7 @@ sum4-v-requires c =
     let a = c.args in
     let f = c.requires.factor in
     let y = raised_at a.e a.work.now a.q in (
-      subst (λ (l : List ℤ). Within room_numerator (number_of l)) (sym c.read_number.ensures) (roomy (number_in a.res.now a.at) c.requires.sum),
+      subst (λ (l : List ℤ). Within room_numerator (number_of l)) (sym c.numerators_at.ensures) (roomy (number_in a.res.now a.at) c.requires.sum),
       subst (λ (l : List ℤ). Within max_numerator (number_of l)) (sym c.conj_product-p.ensures)
           (subst (λ (l : List ℤ). Within max_numerator (numbers.◌⊗◌ (number_of a.x) (conjugate root2 (number_of l)))) (sym c.read_scaled.ensures) (term-within a.e (number_of a.x) y f.small c.requires.scale (raised-within a.work.now a.q a.e f))),
     )

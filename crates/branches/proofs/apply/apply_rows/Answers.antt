@@ -1,7 +1,8 @@
 -- `apply_rows` meets its contract.
-use mathlib.Core.Path.{◌≡◌, sym, ap, ◌∙◌, subst}
+use mathlib.Core.Path.{◌≡◌, sym, ap, ◌∙◌, subst, refl}
 use Prim.Native.Nat.{ℕ, ◌+◌, ◌*◌, ◌≤◌, ◌<◌}
 use native.Mathlib.Omega.{arith}
+use lib.Bits.{bit_xor}
 use lib.ListN.{length}
 use Rattle.branches.specs.Inner.Bank.{row_size}
 use Rattle.exact.specs.Exact.{narrow_exponent}
@@ -12,48 +13,30 @@ use Rattle.cells.specs.Cells.{cell_at, cell_size}
 use Rattle.cells.proofs.Cell.{cell_same, exponent_same}
 use Rattle.branches.proofs.Products.{Applied, none_applied, own_same, other-same, scaling, applied_more}
 use Rattle.branches.proofs.apply.apply_rows.Goals as goal
-use Rattle.branches.proofs.apply.apply_rows.Goals.{After-partner_row-s, In-loop-r, Start, After-read_cell-y, After-read_cell-x}
+use Rattle.branches.proofs.apply.apply_rows.Goals.{In-loop-r, Start, After-read_cell-y, After-read_cell-x}
 
 pub loop-r-init : goal.loop-r-init
 loop-r-init c = let a = c.args in none_applied a.work.now a.m a.op a.old a.new a.d
 
--- a row, and its partner
-module _ (u : After-partner_row-s) where
-  abbrev t : In-loop-r
-  t = u.before
-
+-- a row
+module _ (u : In-loop-r) where
   abbrev s : Start
-  s = t.before.before
+  s = u.before.before
 
   abbrev r : ℕ
-  r = t.loop-r.r
+  r = u.loop-r.r
 
   taken : r < s.args.d
-  taken = t.loop-r-test.true
-
-  abbrev other : ℕ
-  other = u.partner_row-s.result
-
-  other_lt : other < s.args.d
-  other_lt = subst (λ (k : ℕ). k < s.args.d) (sym u.partner_row-s.ensures) (s.requires.below r taken)
+  taken = u.loop-r-test.true
 
   entries_in : s.args.op + r * row_size + row_size ≤ length s.args.work.now
   entries_in = omega (arith, s.requires.op_room, taken)
 
-  inv : Applied s.args.work.now s.args.m s.args.op s.args.old s.args.new s.args.d t.loop-r.work r
-  inv = t.loop-r.invariant
+  inv : Applied s.args.work.now s.args.m s.args.op s.args.old s.args.new s.args.d u.loop-r.work r
+  inv = u.loop-r.invariant
 
-  same_size : length t.loop-r.work ≡ length s.args.work.now
+  same_size : length u.loop-r.work ≡ length s.args.work.now
   same_size = long inv
-
--- both are below 32, the row as it is in the matrix and m as the partner of row 0
-pub partner_row-s-requires : goal.partner_row-s-requires
-partner_row-s-requires c =
-    let p = c.requires in
-    let h = c.loop-r-test.true in
-    let d = p.dim in
-    let first = p.below 0 (omega (arith, h)) in
-    (omega (arith, h, d), omega (arith, first, d))
 
 pub read_cell-x-requires : goal.read_cell-x-requires
 read_cell-x-requires c = (omega (arith, entries_in c, same_size c), exponent_same (own_same (s c).requires (taken c) (inv c)) ∙ ((s c).requires.own (r c) (taken c)).exponent)
@@ -67,7 +50,7 @@ module _ (y : After-read_cell-y) where
   abbrev x : After-read_cell-x
   x = y.before
 
-  abbrev at : After-partner_row-s
+  abbrev at : In-loop-r
   at = x.before
 
   own_is : value x.read_cell-x.result ≡ cell_at (s at).args.work.now ((s at).args.op + r at * row_size)
@@ -82,10 +65,10 @@ combine_rows-requires c =
     let p = (s u).requires in
     let h = taken u in (
       scaling p h (inv u) (r u) h (subst (Coords 1 narrow_exponent) (sym (own_is c.before)) (p.own (r u) h).coords),
-      scaling p h (inv u) (other u) (other_lt u) (subst (Coords 1 narrow_exponent) (sym (partner_is c.before)) (p.other (r u) h).coords),
+      scaling p h (inv u) (bit_xor (r u) c.args.m) (p.below (r u) h) (subst (Coords 1 narrow_exponent) (sym (partner_is c.before)) (p.other (r u) h).coords),
     )
 
 pub loop-r-preserved : goal.loop-r-preserved
 loop-r-preserved c =
     let u = at c.before.before.before in
-    applied_more (s u).requires (taken u) (inv u) (own_is c.before.before.before) (partner_is c.before.before.before) u.partner_row-s.ensures c.combine_rows.ensures
+    applied_more (s u).requires (taken u) (inv u) (own_is c.before.before.before) (partner_is c.before.before.before) refl c.combine_rows.ensures

@@ -10,4 +10,4 @@ use Rattle.branches.proofs.bank.step.Given as goal
 abbrev pub invariant-loop-j : goal.invariant-loop-j
 invariant-loop-j l =
     let o = l.operators in
-    Writing (branch_size l.d) l.initial.work l.to (l.count * l.ops) (step_words l.initial.work l.m o.slots o.stride (operator_number o.shift o.mask) l.ops l.from l.d (unwrap_or l.bit no_bit)) l.work l.j
+    Writing (branch_size l.from.d) l.initial.work l.to (l.from.count * l.ops) (step_words l.initial.work l.m o.slots o.stride (operator_number o.shift o.mask) l.ops l.from.at l.from.d (unwrap_or l.bit no_bit)) l.work l.j

@@ -7,7 +7,7 @@ use lib.IntN.{ℤ, pos, nat_abs}
 use mir.Syntax.{w64}
 use mir.Val.{to_z, of_z}
 use mir.Facts.{to_z_pos}
-use Rattle.std.specs.Prelude.{Option, Some, unwrap_or}
+use Rattle.std.specs.Prelude.{Option, unwrap_or}
 use Rattle.algebra.specs.Words.{up_to}
 use Rattle.algebra.proofs.Signed.{back, word_is}
 use Rattle.store.specs.Store.{max_word}

@@ -1,9 +1,12 @@
 -- `run_gates` meets its contract.
-use mathlib.Core.Path.{◌≡◌, ap}
-use Prim.Native.Nat.{ℕ, ◌*◌, ◌^◌, ◌≤◌}
+use mathlib.Core.Path.{◌≡◌, refl, sym, ap, ◌∙◌, subst}
+use Prim.Native.Nat.{ℕ, ◌+◌, ◌*◌, ◌-◌, ◌^◌, ◌≤◌}
 use native.Mathlib.Omega.{arith}
 use lib.Pow.{pow_mono}
-use Rattle.branches.proofs.Runs.{work_is, begins, ready, more, ends}
+use Rattle.gate.specs.Gate.{gate_at, gate_size}
+use Rattle.branches.specs.Inner.Run.{GateStep, gate_stepped}
+use Rattle.branches.specs.declared.bank.Bank.{Bank}
+use Rattle.branches.proofs.Runs.{Running, work_is, begins, ready, more, ends}
 use Rattle.branches.proofs.run.run_gates.Goals as goal
 
 dim_small : (n : ℕ) {d : ℕ} → d ≡ 2 ^ n → n ≤ 5 → d ≤ 32
@@ -18,13 +21,27 @@ start_branch-requires c =
     (dim_small c.args.n c.requires.dim c.requires.few, (omega (arith, c.requires.room, work_is c.args.d c.args.banks, size), (c.requires.short, c.requires.bits)))
 
 pub loop-i-init : goal.loop-i-init
-loop-i-init c = begins c.requires c.start_branch.ensures
+loop-i-init c = (refl, begins c.requires c.start_branch.ensures)
 
-pub step_gate-count-requires : goal.step_gate-count-requires
-step_gate-count-requires c = ready c.requires c.start_branch.ensures c.loop-i.invariant c.loop-i-test.true c.branch_size.ensures
+-- what a gate asks of the bank that it is given
+pub step_gate-bank-requires : goal.step_gate-bank-requires
+step_gate-bank-requires c =
+    let l = c.loop-i in
+    subst (λ (d : ℕ). GateStep l.work c.args.gates.now (l.i * gate_size) (2 * (c.args.banks * c.branch_size.result)) c.args.n d l.bank.at (c.args.banks * c.branch_size.result - l.bank.at) l.bank.count) (sym l.invariant.0)
+    (ready c.requires c.start_branch.ensures l.invariant.1 c.loop-i-test.true c.branch_size.ensures)
 
 pub loop-i-preserved : goal.loop-i-preserved
-loop-i-preserved c = more c.requires c.start_branch.ensures c.loop-i.invariant c.loop-i-test.true c.branch_size.ensures c.step_gate-count.ensures.0 c.step_gate-count.ensures.1
+loop-i-preserved c =
+    let l = c.loop-i in
+    let a = c.args in
+    let e = c.step_gate-bank.ensures.bank in
+    let size = c.branch_size.result in
+    let words : c.step_gate-bank.new.work ≡ gate_stepped l.work (2 * (a.banks * size)) a.n a.d l.bank.at (a.banks * size - l.bank.at) l.bank.count (gate_at a.gates.now (l.i * gate_size))
+    = c.step_gate-bank.ensures.words ∙ ap (λ (d : ℕ). gate_stepped l.work (2 * (a.banks * size)) a.n d l.bank.at (a.banks * size - l.bank.at) l.bank.count (gate_at a.gates.now (l.i * gate_size))) l.invariant.0 in (
+      ap (λ (b : Bank). b.d) e ∙ l.invariant.0,
+      subst (λ (k : ℕ). Running c.start_branch.new.work a.gates.now a.store.now a.n a.d a.banks c.step_gate-bank.new.work k c.step_gate-bank.result.count (l.i + 1)) (sym (ap (λ (b : Bank). b.at) e))
+          (more c.requires c.start_branch.ensures l.invariant.1 c.loop-i-test.true c.branch_size.ensures (ap (λ (b : Bank). b.count) e) words),
+    )
 
 pub returns : goal.returns
-returns c = ends c.requires c.start_branch.ensures c.loop-i.invariant c.loop-i-test.false
+returns c = ends c.requires c.start_branch.ensures c.loop-i.invariant.1 c.loop-i-test.false

@@ -7,4 +7,4 @@ use Rattle.collect.specs.Inner.Bank.{store_of, has}
 use Rattle.collect.proofs.bank.is_first.Given as goal
 
 abbrev pub invariant-loop-j : goal.invariant-loop-j
-invariant-loop-j l = all_below l.j (λ (i : ℕ). not (has l.work l.at l.d (store_of l.work l.at l.d l.b) i)) ≡ true
+invariant-loop-j l = all_below l.j (λ (i : ℕ). not (has l.work l.bank.at l.bank.d (store_of l.work l.bank.at l.bank.d l.b) i)) ≡ true

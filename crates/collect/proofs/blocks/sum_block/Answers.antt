@@ -1,5 +1,5 @@
 -- `sum_block` meets its contract.
-use mathlib.Core.Path.{◌≡◌, sym, ap, ◌∙◌, subst}
+use mathlib.Core.Path.{sym, ap, ◌∙◌, subst}
 use mathlib.Core.List.{List}
 use Prim.Native.Nat.{ℕ, ◌+◌}
 use lib.IntN.{ℤ}
@@ -12,14 +12,14 @@ pub loop-j-init : goal.loop-j-init
 loop-j-init c = none_summed c.clear.ensures
 
 pub add_upper-requires : goal.add_upper-requires
-add_upper-requires c = addable c.requires.1.1 c.requires.0 c.requires.1.0 c.loop-j.invariant c.loop-j-test.true
+add_upper-requires c = rw c.branch-bank.ensures (addable c.requires.1.1 c.requires.0 c.requires.1.0 c.loop-j.invariant c.loop-j-test.true)
 
 pub loop-j-preserved : goal.loop-j-preserved
 loop-j-preserved c =
     let s = c.args in
-    let store = store_of s.work.now s.at s.d s.b in
-    let tested = ap (λ (x : ℕ). has s.work.now s.at s.d x c.loop-j.j) (sym c.branch_store-store.ensures) ∙ sym c.has_store.ensures in
+    let store = store_of s.work.now s.bank.at s.bank.d s.b in
+    let tested = ap (λ (x : ℕ). has s.work.now s.bank.at s.bank.d x c.loop-j.j) (sym c.branch_store-store.ensures) ∙ sym c.has_store.ensures in
     elim c.if-has_store.branch [
-      | then-has_store w ↦ summed_more c.loop-j.invariant c.requires.1.0 (tested ∙ w.if-has_store.true) (w.res-is ∙ w.add_upper.ensures)
-      | else-has_store w ↦ subst (λ (r : List ℤ). Summed s.res.now s.out s.work.now s.at s.d store r (c.loop-j.j + 1)) (sym w.res-is) (summed_past c.loop-j.invariant (tested ∙ w.if-has_store.false))
+      | then-has_store w ↦ summed_more c.loop-j.invariant c.requires.1.0 (tested ∙ w.if-has_store.true) (w.res-is ∙ (rw w.branch-bank.ensures at w.add_upper.ensures))
+      | else-has_store w ↦ subst (λ (r : List ℤ). Summed s.res.now s.out s.work.now s.bank.at s.bank.d store r (c.loop-j.j + 1)) (sym w.res-is) (summed_past c.loop-j.invariant (tested ∙ w.if-has_store.false))
     ]

@@ -1,7 +1,7 @@
 -- `write_block` meets its contract.
 use mathlib.Core.Path.{◌≡◌, ap, ◌∙◌}
 use mathlib.Core.List.{List}
-use Prim.Native.Nat.{ℕ, ◌+◌, ◌*◌}
+use Prim.Native.Nat.{ℕ, ◌*◌}
 use native.Mathlib.Omega.{arith}
 use lib.ListN.{set}
 use lib.IntN.{ℤ, pos}
@@ -23,7 +23,7 @@ mirror-requires c = let p = c.requires in half_asks p.1.1 p.0 p.1.0 (summed c.su
 pub share_block-e-requires : goal.share_block-e-requires
 share_block-e-requires c =
     let p = c.requires in
-    let s = store_of c.args.work.now c.args.at c.args.d c.args.b in
+    let s = store_of c.args.work.now c.args.bank.at c.args.bank.d c.args.b in
     let w = summed c.sum_block.ensures in
     let long = mirrored_long p.1.1 s p.1.0 w c.mirror.ensures in
     (sparse_asks p.1.1 p.0 p.1.0 w c.mirror.ensures long, omega arith)
@@ -32,9 +32,9 @@ pub returns : goal.returns
 returns c =
     let s = c.args in
     let p = c.requires in
-    let store = store_of s.work.now s.at s.d s.b in
-    let b = shared_of s.work.now s.at s.d s.count store in
+    let store = store_of s.work.now s.bank.at s.bank.d s.b in
+    let b = shared_of s.work.now s.bank.at s.bank.d s.bank.count store in
     let w = summed c.sum_block.ensures in
     let numerators = numerators_are p.1.1 store p.1.0 w c.mirror.ensures c.share_block-e.ensures.numerators in
     let exponent = c.share_block-e.ensures.exponent ∙ exponent_is p.1.1 store p.1.0 w c.mirror.ensures in
-    (λ i. set (numerators i) s.to ((to_z_pos w64 {n = c.share_block-e.result} (omega arith) ∙ ap pos exponent) i)) ∙ block_written s.res.now s.to s.d b.num (pos b.exp)
+    (λ i. set (numerators i) s.to ((to_z_pos w64 {n = c.share_block-e.result} (omega arith) ∙ ap pos exponent) i)) ∙ block_written s.res.now s.to s.bank.d b.num (pos b.exp)

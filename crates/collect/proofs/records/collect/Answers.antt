@@ -1,11 +1,9 @@
 -- `collect` meets its contract.
-use Prim.Native.Nat.{◌-◌}
-use native.Mathlib.Omega.{arith}
-use Rattle.collect.proofs.Recording.{none-collected, begun, collected-more, all-collected, collected_long}
+use Rattle.collect.proofs.Recording.{none-collected, collected-more}
 use Rattle.collect.proofs.records.collect.Goals as goal
 
 pub loop-b-init : goal.loop-b-init
-loop-b-init c = let s = c.args in none-collected s.res.now s.work.now s.at s.d s.count
+loop-b-init c = let s = c.args in none-collected s.res.now s.work.now s.bank.at s.bank.d s.bank.count
 
 pub loop-b-preserved : goal.loop-b-preserved
 loop-b-preserved c =

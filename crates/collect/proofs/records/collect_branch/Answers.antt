@@ -35,4 +35,4 @@ write_record-requires c =
 
 pub overflow_add-result : goal.overflow_add-result
 overflow_add-result c =
-    omega (arith, room c.requires (sym c.is_alive.ensures ∙ c.if-not-is_alive.false) (sym c.is_first.ensures ∙ c.if-not-is_first.false), grows c.args.n (side c.args.d * side c.args.d))
+    omega (arith, room c.requires (sym c.is_alive.ensures ∙ c.if-not-is_alive.false) (sym c.is_first.ensures ∙ c.if-not-is_first.false), grows c.args.n (side c.args.bank.d * side c.args.bank.d))

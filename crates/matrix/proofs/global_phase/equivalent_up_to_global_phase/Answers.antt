@@ -101,11 +101,12 @@ returns-then-not-narrow c =
     sym (ap (λ (k : ℕ). phase_answer s.left_dim s.left.now k s.right.now) (sym c.if-left_dim-right_dim.false)
     ∙ replied s.left_dim s.left.now s.left_dim s.right.now (passed_same c.before.before.before) (eq-eqb s.left_dim s.left_dim refl) (sym (narrow-is c.before) ∙ c.if-not-narrow.true))
 
-pub in_phase-requires : goal.in_phase-requires
-in_phase-requires c = let p = narrow_both c in (formed_operands (left-formed c.before.before.before) p.0, formed_operands (right-formed c.before.before.before) p.1)
+pub invariant_of-pair : goal.invariant_of-pair
+invariant_of-pair c =
+    let p = narrow_both c in record { left_operands = formed_operands (left-formed c.before.before.before) p.0; right_operands = formed_operands (right-formed c.before.before.before) p.1 }
 
 pub returns : goal.returns
 returns c =
     let s = c.args in
     agreeing c.phase_of.ensures c.in_phase.ensures ∙ sym (ap (λ (k : ℕ). phase_answer s.left_dim s.left.now k s.right.now) (sym c.if-left_dim-right_dim.false)
-    ∙ replied s.left_dim s.left.now s.left_dim s.right.now (passed_same c.before.before.before.before.before) (eq-eqb s.left_dim s.left_dim refl) (sym (narrow-is c.before.before.before) ∙ c.if-not-narrow.false))
+    ∙ replied s.left_dim s.left.now s.left_dim s.right.now (passed_same c.before.before.before.before.before.before) (eq-eqb s.left_dim s.left_dim refl) (sym (narrow-is c.before.before.before.before) ∙ c.if-not-narrow.false))

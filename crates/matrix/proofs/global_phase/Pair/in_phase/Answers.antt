@@ -1,4 +1,4 @@
--- `matrix::global_phase::in_phase` meets its contract.
+-- `matrix::global_phase::Pair::in_phase` meets its contract.
 use mathlib.Core.Path.{◌≡◌, sym, ap, ◌∙◌, subst}
 use mathlib.Core.List.{List}
 use Prim.Native.Nat.{ℕ, ◌+◌, ◌*◌, ◌-◌, ◌≤◌, ◌<◌}
@@ -11,33 +11,33 @@ use Rattle.cells.specs.Inner.Zero.{zero_at}
 use Rattle.matrix.specs.Phase.{entry_of, pivot, in_phase_at, first_not}
 use Rattle.matrix.proofs.First.{first-whole, found-some, found-none}
 use Rattle.matrix.proofs.GlobalPhase.{phase-pivot, phase-none}
-use Rattle.matrix.proofs.global_phase.in_phase.Goals as goal
+use Rattle.matrix.proofs.global_phase.Pair.in_phase.Goals as goal
 
 -- what is looked for is the pivot
 at_pivot : (l : List ℤ) (n : ℕ) → first_not (n - 0) 0 (λ (k : ℕ). zero_at l (0 + k * cell_size)) ≡ pivot n (entry_of l)
 at_pivot l n = λ t. first-whole n (λ (k : ℕ). zero_at l (zero-add (k * cell_size) t)) t
 
 pub first_nonzero-requires : goal.first_nonzero-requires
-first_nonzero-requires c = (omega arith, omega (arith, c.requires.0.room))
+first_nonzero-requires c = (omega arith, omega (arith, c.args.self.left_operands.room))
 
 pub in_phase_at-requires : goal.in_phase_at-requires
-in_phase_at-requires c = let p = found-some c.in-Some.ensures in (omega (arith, p.0, p.1), c.requires)
+in_phase_at-requires c = let p = found-some c.in-Some.ensures in omega (arith, p.0, p.1)
 
 pub is_zero-requires : goal.is_zero-requires
-is_zero-requires c = omega (arith, c.requires.1.room)
+is_zero-requires c = omega (arith, c.args.self.right_operands.room)
 
 pub returns-in-Some : goal.returns-in-Some
 returns-in-Some c =
-    let n = c.args.n in
-    let x = entry_of c.args.left.now in
-    let y = entry_of c.args.right.now in
+    let n = c.args.self.n in
+    let x = entry_of c.args.self.left.now in
+    let y = entry_of c.args.self.right.now in
     let p = found-some c.in-Some.ensures in
-    let e = at_pivot c.args.left.now n in
+    let e = at_pivot c.args.self.left.now n in
     c.in_phase_at.ensures ∙ ap (in_phase_at n x y) (p.0 ∙ e) ∙ sym (phase-pivot n x y (subst (λ (k : ℕ). k < n) e p.1))
 
 pub returns-in-None : goal.returns-in-None
 returns-in-None c =
     let s = c.args in
     c.is_zero.ensures
-    ∙ (λ t. all_below s.n (λ (k : ℕ). zero_at s.right.now (zero-add (k * cell_size) t)))
-    ∙ sym (phase-none s.n (entry_of s.left.now) (entry_of s.right.now) (subst (λ (k : ℕ). s.n ≤ k) (at_pivot s.left.now s.n) (found-none c.in-None.ensures)))
+    ∙ (λ t. all_below s.self.n (λ (k : ℕ). zero_at s.self.right.now (zero-add (k * cell_size) t)))
+    ∙ sym (phase-none s.self.n (entry_of s.self.left.now) (entry_of s.self.right.now) (subst (λ (k : ℕ). s.self.n ≤ k) (at_pivot s.self.left.now s.self.n) (found-none c.in-None.ensures)))

@@ -6,10 +6,10 @@ use Rattle.algebra.proofs.Tests.{all-at}
 use Rattle.scalar.specs.Calls.{Answer}
 use Rattle.effects.specs.Effects.{term, partials_fit}
 use Rattle.effects.proofs.Summing.{answer-value}
-use Rattle.effects.proofs.entry.Goals as goal
+use Rattle.effects.proofs.Block.entry.Goals as goal
 
 pub unwrap-requires : goal.unwrap-requires
 unwrap-requires c =
     let s = c.args in
-    let fits = all-at (s.d * s.d) (λ (k : ℕ). partials_fit s.d (term s.s.now s.at s.d k)) c.requires.1.1 s.i c.requires.1.0 in
-    subst (λ (a : Answer). IsOk a) (sym (answer-value (term s.s.now s.at s.d s.i) s.d c.sum_entry.ensures fits)) refl
+    let fits = all-at (s.self.d * s.self.d) (λ (k : ℕ). partials_fit s.self.d (term s.self.words.now s.self.at s.self.d k)) c.requires.1 s.i c.requires.0 in
+    subst (λ (a : Answer). IsOk a) (sym (answer-value (term s.self.words.now s.self.at s.self.d s.i) s.self.d c.sum_entry.ensures fits)) refl

@@ -1,4 +1,4 @@
--- `matrix::global_phase::ratios_same` meets its contract.
+-- `matrix::global_phase::Pair::ratios_same` meets its contract.
 use mathlib.Core.Path.{◌≡◌, sym, ap, ◌∙◌, subst}
 use mathlib.Core.Bool.{Bool}
 use Prim.Native.Nat.{ℕ}
@@ -9,29 +9,29 @@ use Rattle.scalar.specs.declared.Scalar.{Scalar}
 use Rattle.scalar.specs.Calls.{value, scalar_of}
 use Rattle.matrix.specs.Phase.{◌·◌, equal_ratios, entry_of}
 use Rattle.matrix.specs.Inner.Operands.{Operand}
-use Rattle.matrix.proofs.global_phase.ratios_same.Goals as goal
+use Rattle.matrix.proofs.global_phase.Pair.ratios_same.Goals as goal
 
 -- the test of the products p and q of what was read, x and y
 tested : (A B : Exact) {r : Bool} {p q x y : Scalar} {X Y : Exact} → r ≡ equal (value p) (value q) → p ≡ scalar_of (value x · B) → q ≡ scalar_of (value y · A) → x ≡ scalar_of X → y ≡ scalar_of Y → r ≡ equal (X · B) (Y · A)
 tested A B e ep eq ex ey = e ∙ (λ i. equal (value (ep i)) (value (eq i))) ∙ (λ i. equal (value (ex i) · B) (value (ey i) · A))
 
 pub read_cell-x-requires : goal.read_cell-x-requires
-read_cell-x-requires c = (omega (arith, c.requires.0.0.room), c.requires.0.0.exponent c.loop-j.j c.loop-j-test.true)
+read_cell-x-requires c = (omega (arith, c.args.self.left_operands.room), c.args.self.left_operands.exponent c.loop-j.j c.loop-j-test.true)
 
 pub read_cell-y-requires : goal.read_cell-y-requires
-read_cell-y-requires c = (omega (arith, c.requires.0.1.room), c.requires.0.1.exponent c.loop-j.j c.loop-j-test.true)
+read_cell-y-requires c = (omega (arith, c.args.self.right_operands.room), c.args.self.right_operands.exponent c.loop-j.j c.loop-j-test.true)
 
 pub times-requires : goal.times-requires
 times-requires c =
-    (subst (λ (v : Scalar). Operand (value v)) (sym c.read_cell-x.ensures) (c.requires.0.0.operand c.loop-j.j c.loop-j-test.true), c.requires.1.1)
+    (subst (λ (v : Scalar). Operand (value v)) (sym c.read_cell-x.ensures) (c.args.self.left_operands.operand c.loop-j.j c.loop-j-test.true), c.requires.1)
 
 pub times-requires-in-loop-j : goal.times-requires-in-loop-j
 times-requires-in-loop-j c =
-    (subst (λ (v : Scalar). Operand (value v)) (sym c.read_cell-y.ensures) (c.requires.0.1.operand c.loop-j.j c.loop-j-test.true), c.requires.1.0)
+    (subst (λ (v : Scalar). Operand (value v)) (sym c.read_cell-y.ensures) (c.args.self.right_operands.operand c.loop-j.j c.loop-j-test.true), c.requires.0)
 
 pub returns-then-not-equals : goal.returns-then-not-equals
 returns-then-not-equals c =
-    sym (all_no c.args.n c.loop-j.j _ c.loop-j-test.true (sym (tested (value c.args.a) (value c.args.b) c.equals.ensures c.times.ensures c.times-in-loop-j.ensures c.read_cell-x.ensures c.read_cell-y.ensures) ∙ c.if-not-equals.true))
+    sym (all_no c.args.self.n c.loop-j.j _ c.loop-j-test.true (sym (tested (value c.args.a) (value c.args.b) c.equals.ensures c.times.ensures c.times-in-loop-j.ensures c.read_cell-x.ensures c.read_cell-y.ensures) ∙ c.if-not-equals.true))
 
 pub loop-j-preserved : goal.loop-j-preserved
 loop-j-preserved c =
@@ -40,5 +40,5 @@ loop-j-preserved c =
 pub returns : goal.returns
 returns c =
     let s = c.args in
-    let e : c.loop-j.j ≡ s.n = omega arith in
-    sym (ap (λ (n : ℕ). equal_ratios n (entry_of s.left.now) (entry_of s.right.now) (value s.a) (value s.b)) (sym e) ∙ c.loop-j.invariant)
+    let e : c.loop-j.j ≡ s.self.n = omega arith in
+    sym (ap (λ (n : ℕ). equal_ratios n (entry_of s.self.left.now) (entry_of s.self.right.now) (value s.a) (value s.b)) (sym e) ∙ c.loop-j.invariant)

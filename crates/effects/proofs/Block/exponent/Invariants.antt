@@ -2,7 +2,7 @@
 use mathlib.Core.Path.{◌≡◌}
 use Rattle.channel.specs.Shared.{shared_exponent}
 use Rattle.effects.specs.Effects.{effect_at}
-use Rattle.effects.proofs.effect_exponent.Given as goal
+use Rattle.effects.proofs.Block.exponent.Given as goal
 
 abbrev pub invariant-loop-i : goal.invariant-loop-i
-invariant-loop-i l = l.e ≡ shared_exponent l.i (effect_at l.s l.at l.d)
+invariant-loop-i l = l.e ≡ shared_exponent l.i (effect_at l.self.words.now l.self.at l.self.d)

@@ -13,7 +13,7 @@ use Rattle.effects.specs.Effects.{term}
 use Rattle.effects.specs.Inner.Readable.{Readable}
 use Rattle.effects.proofs.Summing.{row_below, col_below, place_below, stops, goes_on}
 use Rattle.effects.proofs.Entries.{entries_in, entry-formed}
-use Rattle.effects.proofs.sum_entry.Goals as goal
+use Rattle.effects.proofs.Block.sum_entry.Goals as goal
 
 -- the term that comes next is one of the block's entries
 module _ (l : List ℤ) (at d i o : ℕ) (r : Readable l at d) (h : i < d * d) (k : o < d) where
@@ -26,18 +26,18 @@ module _ (l : List ℤ) (at d i o : ℕ) (r : Readable l at d) (h : i < d * d) (
 pub read_entry-x-requires : goal.read_entry-x-requires
 read_entry-x-requires c =
     let s = c.args in
-    let inside : c.term_place-k.result < side s.d * side s.d = subst (λ (k : ℕ). k < side s.d * side s.d) (sym c.term_place-k.ensures) (below s.s.now s.at s.d s.i c.loop-o.o c.requires.0 c.requires.1 c.loop-o-test.true) in
-    entries_in s.s.now s.at s.d c.requires.0 (c.term_place-k.result + 1) (omega (arith, inside))
+    let inside : c.term_place-k.result < side s.self.d * side s.self.d = subst (λ (k : ℕ). k < side s.self.d * side s.self.d) (sym c.term_place-k.ensures) (below s.self.words.now s.self.at s.self.d s.i c.loop-o.o s.self.readable c.requires c.loop-o-test.true) in
+    entries_in s.self.words.now s.self.at s.self.d s.self.readable (c.term_place-k.result + 1) (omega (arith, inside))
 
 pub returns-in_err-acc : goal.returns-in_err-acc
 returns-in_err-acc c =
     let s = c.args in
-    let read = c.read_entry-x.ensures ∙ ap (λ (k : ℕ). scalar_of (entry_at (channels s.d) s.s.now s.at k)) c.term_place-k.ensures in
+    let read = c.read_entry-x.ensures ∙ ap (λ (k : ℕ). scalar_of (entry_at (channels s.self.d) s.self.words.now s.self.at k)) c.term_place-k.ensures in
     returned _ c.from_residual.ensures.1
-    ∙ stops (term s.s.now s.at s.d s.i) c.loop-o.invariant (formed s.s.now s.at s.d s.i c.loop-o.o c.requires.0 c.requires.1 c.loop-o-test.true) read s.d c.loop-o-test.true c.in_err-acc.ensures
+    ∙ stops (term s.self.words.now s.self.at s.self.d s.i) c.loop-o.invariant (formed s.self.words.now s.self.at s.self.d s.i c.loop-o.o s.self.readable c.requires c.loop-o-test.true) read s.self.d c.loop-o-test.true c.in_err-acc.ensures
 
 pub loop-o-preserved : goal.loop-o-preserved
 loop-o-preserved c =
     let s = c.args in
-    let read = c.read_entry-x.ensures ∙ ap (λ (k : ℕ). scalar_of (entry_at (channels s.d) s.s.now s.at k)) c.term_place-k.ensures in
-    goes_on (term s.s.now s.at s.d s.i) c.loop-o.invariant (formed s.s.now s.at s.d s.i c.loop-o.o c.requires.0 c.requires.1 c.loop-o-test.true) read c.in_ok-acc.ensures
+    let read = c.read_entry-x.ensures ∙ ap (λ (k : ℕ). scalar_of (entry_at (channels s.self.d) s.self.words.now s.self.at k)) c.term_place-k.ensures in
+    goes_on (term s.self.words.now s.self.at s.self.d s.i) c.loop-o.invariant (formed s.self.words.now s.self.at s.self.d s.i c.loop-o.o s.self.readable c.requires c.loop-o-test.true) read c.in_ok-acc.ensures

@@ -1,9 +1,0 @@
--- `record_fits` meets its contract.
-use mathlib.Core.Path.{sym, ◌∙◌}
-use Rattle.effects.proofs.Entries.{fits_by}
-use Rattle.effects.proofs.record_fits.Goals as goal
-
-pub returns : goal.returns
-returns c =
-    let s = c.args in
-    c.entries_fit.ensures ∙ sym (fits_by s.s.now s.at s.d (sym c.terms_fit.ensures ∙ c.if-not-terms_fit.false) _ c.effect_exponent-e.ensures)

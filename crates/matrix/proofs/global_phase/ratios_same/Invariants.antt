@@ -1,9 +1,0 @@
--- `matrix::global_phase::ratios_same` meets its contract.
-use mathlib.Core.Path.{◌≡◌}
-use mathlib.Core.Bool.{true}
-use Rattle.scalar.specs.Calls.{value}
-use Rattle.matrix.specs.Phase.{equal_ratios, entry_of}
-use Rattle.matrix.proofs.global_phase.ratios_same.Given as goal
-
-abbrev pub invariant-loop-j : goal.invariant-loop-j
-invariant-loop-j l = equal_ratios l.j (entry_of l.left) (entry_of l.right) (value l.a) (value l.b) ≡ true
