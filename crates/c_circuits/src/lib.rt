@@ -1,4 +1,5 @@
 // The calls of the C interface on circuits.
+// Kept (twins, together): each call has the parameters of its C function, which lends every buffer apart; the circuit and the limits become a `Circuit` and `Limits` at once.
 #![tactic(auto)]
 
 ghost use Rattle.std.specs.Prelude.{◌≡◌};
@@ -10,6 +11,7 @@ ghost use Rattle.unitary.specs.Unitary as unitary;
 ghost use Rattle.c_circuits.specs.Circuits.{limits_of};
 
 use c_words::report;
+use circuit::Circuit;
 use circuit::limits::Limits;
 use circuit::questions::judge_layered_channel;
 
@@ -43,8 +45,13 @@ pub fn circuit_channel(
     ensures res_after { res.new ≡ channel.result_after qubits bits store.now (limits_of limits.now) gates.now res.old work.old }
     ensures work_after { work.new ≡ channel.work_after qubits bits store.now (limits_of limits.now) gates.now res.old work.old }
 {
-    let l = read_limits(limits);
-    let v = judge::call::circuit_channel(qubits, bits, store, gates, l, res, work);
+    let circuit = Circuit {
+        qubits,
+        bits,
+        store,
+        gates,
+    };
+    let v = judge::call::circuit_channel(circuit, read_limits(limits), res, work);
     report(&v, index)
 }
 
@@ -65,11 +72,17 @@ pub fn layered_channel(
     ensures res_after { res.new ≡ layered_result qubits bits store.now (limits_of limits.now) gates.now ends.now res.old work.old }
     ensures work_after { work.new ≡ layered_work qubits bits store.now (limits_of limits.now) gates.now ends.now res.old work.old }
 {
-    let l = read_limits(limits);
-    let v = judge::call::layered_channel(qubits, bits, store, gates, ends, l, res, work);
+    let circuit = Circuit {
+        qubits,
+        bits,
+        store,
+        gates,
+    };
+    let v = judge::call::layered_channel(circuit, ends, read_limits(limits), res, work);
     report(&v, index)
 }
 
+// Kept: the verdicts of c_plain and c_pauli are twins of it: they share `read_limits` and `report`; a function that takes the call between them as a closure would save one line of each, and need a contract on it.
 // The verdict of a layered circuit alone, for buffers of so many words: its number, and its index in `index`.
 pub fn layered_verdict(
     qubits: u32,
@@ -86,16 +99,13 @@ pub fn layered_verdict(
     ensures index_after { index.new ≡ verdict_index (layered_verdict qubits bits store.now (limits_of limits.now) gates.now ends.now result_words work_words) }
 {
     let l = read_limits(limits);
-    let v = judge_layered_channel(
+    let circuit = Circuit {
         qubits,
         bits,
         store,
-        l,
         gates,
-        ends,
-        result_words as u64,
-        work_words as u64,
-    );
+    };
+    let v = judge_layered_channel(circuit, l, ends, result_words as u64, work_words as u64);
     report(&v, index)
 }
 
@@ -113,7 +123,6 @@ pub fn circuit_unitary(
     ensures res_after { res.new ≡ unitary.result_after qubits (limits_of limits.now) gates.now res.old work.old }
     ensures work_after { work.new ≡ unitary.work_after qubits (limits_of limits.now) gates.now res.old work.old }
 {
-    let l = read_limits(limits);
-    let v = unitary::circuit_unitary(qubits, gates, l, res, work);
+    let v = unitary::circuit_unitary(qubits, gates, read_limits(limits), res, work);
     report(&v, index)
 }

@@ -1,4 +1,5 @@
 // The calls of the C interface on the plain-gate profile.
+// Kept (together): each call has the parameters of its C function, which lends every buffer apart; the circuit and the limits become a `Circuit` and `Limits` at once.
 #![tactic(auto)]
 
 ghost use Rattle.std.specs.Prelude.{◌≡◌};
@@ -9,6 +10,7 @@ ghost use Rattle.c_circuits.specs.Circuits.{limits_of};
 
 use c_circuits::read_limits;
 use c_words::report;
+use circuit::Circuit;
 use plain::judge_plain_channel;
 
 // The channel of a circuit of the profile: the verdict's number, and its index in `index`.
@@ -27,11 +29,17 @@ pub fn plain_channel(
     ensures res_after { res.new ≡ plain_result qubits bits store.now (limits_of limits.now) gates.now res.old work.old }
     ensures work_after { work.new ≡ plain_work qubits bits store.now (limits_of limits.now) gates.now res.old work.old }
 {
-    let l = read_limits(limits);
-    let v = plain::plain_channel(qubits, bits, store, gates, l, res, work);
+    let circuit = Circuit {
+        qubits,
+        bits,
+        store,
+        gates,
+    };
+    let v = plain::plain_channel(circuit, read_limits(limits), res, work);
     report(&v, index)
 }
 
+// Kept: a twin of the verdicts of c_circuits and c_pauli, with which it shares `read_limits` and `report`; what is left is the call.
 // The verdict alone, for buffers of so many words: its number, and its index in `index`.
 pub fn plain_verdict(
     qubits: u32,
@@ -47,14 +55,12 @@ pub fn plain_verdict(
     ensures index_after { index.new ≡ verdict_index (plain_verdict qubits bits store.now (limits_of limits.now) gates.now result_words work_words) }
 {
     let l = read_limits(limits);
-    let v = judge_plain_channel(
+    let circuit = Circuit {
         qubits,
         bits,
         store,
-        l,
         gates,
-        result_words as u64,
-        work_words as u64,
-    );
+    };
+    let v = judge_plain_channel(circuit, l, result_words as u64, work_words as u64);
     report(&v, index)
 }

@@ -2,7 +2,7 @@
 use Rattle.std.specs.Prelude.{Ok, Err}
 use mathlib.Core.Path.{◌≡◌, sym, ap, ◌∙◌}
 use mathlib.Core.List.{List, ◌++◌}
-use Prim.Native.Nat.{ℕ, ◌+◌, ◌-◌, ◌*◌, ◌/◌, ◌≤◌, ◌<◌}
+use Prim.Native.Nat.{ℕ, ◌+◌, ◌-◌, ◌*◌, ◌/◌, ◌<◌}
 use native.Mathlib.Numerals.{add-one}
 use lib.ListN.{length}
 use Rattle.verdict.specs.declared.Refusal.{Refusal}
@@ -11,7 +11,7 @@ use Rattle.verdict.proofs.Questions.{refused, passed}
 use Rattle.gate.specs.declared.judge.Asking.{Asking}
 use Rattle.gate.specs.Gate.{Gate, gate_size, gate_at, gates_from}
 use Rattle.gate.specs.Questions.{gate_questions}
-use Rattle.gate.proofs.Listed.{gates-more, gates-none}
+use Rattle.gate.proofs.Listed.{gates-more}
 use Rattle.circuit.specs.Questions.{gates_questions}
 
 module _ (ws : List ℕ) (a : Asking) (n : ℕ) where
@@ -34,6 +34,3 @@ module _ (ws : List ℕ) (a : Asking) (n : ℕ) where
 
     pub rest_decides : Ok tt ≡ first_no (gate_questions a n i g) → first_no (from i) ≡ first_no (from (i + 1))
     rest_decides h = ap first_no split ∙ sym (passed tt tt (gate_questions a n i g) (from (i + 1)) h)
-
-  pub none_left : (i : ℕ) → length ws / gate_size ≤ i → first_no (from i) ≡ Ok tt
-  none_left i l = ap (λ (gs : List Gate). first_no (gates_questions a n i gs)) (gates-none ws count i l)

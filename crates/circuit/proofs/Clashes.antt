@@ -5,12 +5,11 @@ use mathlib.Core.Bool.{Bool, true, not, ◌&&◌}
 use mathlib.Core.List.{List, [], ◌∷◌, ◌++◌}
 use Prim.Native.Nat.{ℕ, suc}
 use lib.ListN.{length}
-use Rattle.algebra.specs.Lists.{All, every, some}
+use Rattle.algebra.specs.Lists.{every, some}
 use Rattle.algebra.proofs.Tests.{and_split}
-use Rattle.algebra.proofs.Lists.{all_append}
 use Rattle.verdict.specs.Questions.{Question}
 use Rattle.verdict.proofs.Questions.{yes, all_yes, every_append}
-use Rattle.gate.specs.Gate.{Gate, gates_of}
+use Rattle.gate.specs.Gate.{gates_of}
 use Rattle.circuit.specs.declared.limits.Limits.{Limits}
 use Rattle.circuit.specs.Footprint.{footprint_of}
 use Rattle.circuit.specs.Questions.{word_questions, number_questions, channel_verdict}

@@ -5,11 +5,13 @@ use mathlib.Core.List.{List, [], ◌∷◌}
 use Prim.Native.Nat.{ℕ, zero, suc, ◌+◌, ◌-◌, ◌*◌, ◌/◌, ◌≤◌, ◌<◌}
 use native.Mathlib.Omega.{arith}
 use lib.Dec.{eqb, ltb}
-use lib.ListN.{length}
+use lib.ListN.{length, get_or, take, drop}
+use Rattle.std.proofs.Common.{length-drop}
+use Rattle.std.proofs.lemmas.List.{get_or-drop, take_all}
 use borrow.Author.Tests.{eqb-true, eqb-false, lt-ltb, le-ltb}
 use Rattle.algebra.specs.Lists.{some, total, marks}
 use Rattle.algebra.proofs.Tests.{leb_same}
-use Rattle.gate.specs.Gate.{Gate, gate_size, measure, reset, elem, gate_at, gates_from, gates_of, splits, weight}
+use Rattle.gate.specs.Gate.{Gate, gate, gate_size, measure, reset, elem, gate_at, gates_from, gates_of, splits, weight}
 use Rattle.gate.proofs.Listed.{gates-more, gates-none, gates-length}
 use Rattle.circuit.specs.Footprint.{writes, footprint_of}
 use Rattle.circuit.specs.Inner.Footprint.{newly}
@@ -71,6 +73,25 @@ weight-one g = at_most_one (elem g.kind (0 ∷ 16 ∷ 25 ∷ []))
 
 pub newly-one : (m : ℕ) (g : Gate) (gs : List Gate) → newly m g gs ≤ 1
 newly-one m g gs = at_most_one (eqb g.kind measure && (ltb g.b m && not (some (λ (h : Gate). writes h g.b) gs)))
+
+-- ---- the gates behind the first i
+gates-dropped : (ws : List ℕ) (i j n : ℕ) → gates_from (drop (i * gate_size) ws) j n ≡ gates_from ws (i + j) n
+gates-dropped ws i j zero = refl
+gates-dropped ws i j (suc n) =
+    let word : (k : ℕ) → get_or (drop (i * gate_size) ws) (j * gate_size + k) 0 ≡ get_or ws ((i + j) * gate_size + k) 0 =
+    λ k. get_or-drop (i * gate_size) ws (j * gate_size + k) 0 ∙ ap (λ (x : ℕ). get_or ws x 0) (omega arith) in
+    let first : get_or (drop (i * gate_size) ws) (j * gate_size) 0 ≡ get_or ws ((i + j) * gate_size) 0 =
+    get_or-drop (i * gate_size) ws (j * gate_size) 0 ∙ ap (λ (x : ℕ). get_or ws x 0) (omega arith) in
+    let e : i + suc j ≡ suc (i + j) = omega arith in
+    λ k. gate (first k) (word 1 k) (word 2 k) (word 3 k) (word 4 k) ∷ (gates-dropped ws i (suc j) n ∙ ap (λ (x : ℕ). gates_from ws x n) e) k
+
+pub gates-behind : (ws : List ℕ) (i : ℕ) → gates_of (take (length ws - i * gate_size) (drop (i * gate_size) ws)) ≡ gates_from ws i (length ws / gate_size - i)
+gates-behind ws i =
+    let long = length-drop (i * gate_size) ws in
+    let e : length (drop (i * gate_size) ws) / gate_size ≡ length ws / gate_size - i = omega (arith, long) in
+    let f : i + 0 ≡ i = omega arith in
+    ap gates_of (take_all (length ws - i * gate_size) (drop (i * gate_size) ws) (omega (arith, long)))
+    ∙ gates-dropped ws i 0 (length (drop (i * gate_size) ws) / gate_size) ∙ (λ k. gates_from ws (f k) (e k))
 
 -- ---- gate i of a list of words, and those after it
 module _ (ws : List ℕ) where

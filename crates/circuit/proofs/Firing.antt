@@ -10,16 +10,17 @@ use native.Mathlib.Omega.{arith}
 use lib.Dec.{eqb, leb, ltb}
 use lib.ListN.{length, get_or, drop, drop_of_length-le}
 use lib.Seq.{drop-cons}
-use borrow.Author.Tests.{le-leb, lt-leb, eq-eqb, ne_eqb, eqb-true, ltb-true, lt-ltb, le-ltb}
+use borrow.Author.Tests.{le-leb, lt-leb, eq-eqb, ne_eqb, eqb-true, ltb-true}
 use Rattle.algebra.specs.Lists.{some}
 use Rattle.algebra.proofs.Tests.{and_split}
+use Rattle.verdict.specs.declared.Refusal.{Refusal}
 use Rattle.verdict.specs.Questions.{Verdict}
 use Rattle.verdict.specs.declared.Refusal.TheVariants.{BadLayers, ClashAt}
 use Rattle.verdict.specs.Questions.{first_no}
 use Rattle.gate.specs.Gate.{Gate, gate_size, gate_at, gates_from, gates_of}
 use Rattle.gate.proofs.Listed.{gates-length}
 use Rattle.circuit.specs.Layers.{closing, layer_of, Fired, fired, clash, clash_questions, layer_questions}
-use Rattle.circuit.specs.Inner.Firing.{any_from, first_from, sharing, shares_from, clashes_at}
+use Rattle.circuit.specs.Inner.Firing.{any_from, first_clash, sharing, shares_from, clashes_at}
 
 -- ---- ends
 module _ (count : ℕ) where
@@ -44,9 +45,6 @@ module _ (count : ℕ) where
 
 -- ---- the gates before a gate
 module _ (p : ℕ → Bool) where
-  pub any_none : (from : ℕ) → any_from from (from - from) p ≡ false
-  any_none from = let e : from - from ≡ 0 = omega arith in ap (λ (n : ℕ). any_from from n p) e
-
   -- one more at which it does not hold
   pub any_more : (from j : ℕ) → from ≤ j → any_from from (j - from) p ≡ false → p j ≡ false → any_from from (j + 1 - from) p ≡ false
   any_more from j l h k =
@@ -88,42 +86,55 @@ any_cut a b start (suc n) h k =
 
 -- ---- the first
 module _ (p : ℕ → Bool) where
-  pub first_more : (i end : ℕ) → i < end → first_from i (end - i) p ≡ cond (p i) i (first_from (i + 1) (end - (i + 1)) p)
+  first_more : (i end : ℕ) → i < end → first_clash i (end - i) p ≡ cond (p i) (Err (ClashAt i)) (first_clash (i + 1) (end - (i + 1)) p)
   first_more i end l =
       let e : end - i ≡ suc (end - (i + 1)) = omega arith in
-      ap (λ (n : ℕ). first_from i n p) e ∙ ap (λ (k : ℕ). cond (p i) i (first_from k (end - (i + 1)) p)) (sym (add-one i))
+      ap (λ (n : ℕ). first_clash i n p) e ∙ ap (λ (k : ℕ). cond (p i) (Err (ClashAt i)) (first_clash k (end - (i + 1)) p)) (sym (add-one i))
 
-  pub first-none : (i end : ℕ) → end ≤ i → first_from i (end - i) p ≡ i
-  first-none i end l = let e : end - i ≡ 0 = omega arith in ap (λ (n : ℕ). first_from i n p) e
+  pub clashes : (i end : ℕ) → i < end → p i ≡ true → Err (ClashAt i) ≡ first_clash i (end - i) p
+  clashes i end l e = sym (first_more i end l ∙ ap (λ (b : Bool). cond b (Err (ClashAt i)) (first_clash (i + 1) (end - (i + 1)) p)) e)
 
-  first-split : (i m n : ℕ) → first_from i (m + n) p ≡ cond (ltb (first_from i m p) (i + m)) (first_from i m p) (first_from (i + m) n p)
-  first-split i zero n =
+  pub clashes_not : (i end : ℕ) → i < end → p i ≡ false → first_clash i (end - i) p ≡ first_clash (i + 1) (end - (i + 1)) p
+  clashes_not i end l e = first_more i end l ∙ ap (λ (b : Bool). cond b (Err (ClashAt i)) (first_clash (i + 1) (end - (i + 1)) p)) e
+
+  first-none : (i end : ℕ) → end ≤ i → first_clash i (end - i) p ≡ Ok tt
+  first-none i end l = let e : end - i ≡ 0 = omega arith in ap (λ (n : ℕ). first_clash i n p) e
+
+  -- m numbers decide, or leave it to the n after them
+  first_decides : (i m n : ℕ) {r : Refusal} → Err r ≡ first_clash i m p → Err r ≡ first_clash i (m + n) p
+  first_decides i zero n h = cc
+  first_decides i (suc m) n h = let e : suc m + n ≡ suc (m + n) = omega arith in go (p i) (first_decides (suc i) m n) h ∙ ap (λ (k : ℕ). first_clash i k p) (sym e)
+    where
+      go : (b : Bool) {r : Refusal} → (Err r ≡ first_clash (suc i) m p → Err r ≡ first_clash (suc i) (m + n) p)
+          → Err r ≡ cond b (Err (ClashAt i)) (first_clash (suc i) m p) → Err r ≡ cond b (Err (ClashAt i)) (first_clash (suc i) (m + n) p)
+      go true f h = h
+      go false f h = f h
+
+  first_leaves : (i m n : ℕ) → Ok tt ≡ first_clash i m p → first_clash i (m + n) p ≡ first_clash (i + m) n p
+  first_leaves i zero n h =
       let e : i + 0 ≡ i = omega arith in
       let f : 0 + n ≡ n = omega arith in
-      (λ k. first_from (sym e k) (f k) p) ∙ ap (λ (t : Bool). cond t i (first_from (i + 0) n p)) (sym (le-ltb i (i + 0) (omega arith)))
-  first-split i (suc m) n =
+      λ k. first_clash (sym e k) (f k) p
+  first_leaves i (suc m) n h =
       let e : suc m + n ≡ suc (m + n) = omega arith in
-      let f : i + suc m ≡ suc i + m = omega arith in
-      ap (λ (k : ℕ). first_from i k p) e ∙ go (p i) (first-split (suc i) m n) ∙ ap (λ (k : ℕ). cond (ltb (first_from i (suc m) p) k) (first_from i (suc m) p) (first_from k n p)) (sym f)
+      let f : suc i + m ≡ i + suc m = omega arith in
+      ap (λ (k : ℕ). first_clash i k p) e ∙ go (p i) (first_leaves (suc i) m n) h ∙ ap (λ (k : ℕ). first_clash k n p) f
     where
-      go : (t : Bool) → first_from (suc i) (m + n) p ≡ cond (ltb (first_from (suc i) m p) (suc i + m)) (first_from (suc i) m p) (first_from (suc i + m) n p)
-          → cond t i (first_from (suc i) (m + n) p) ≡ cond (ltb (cond t i (first_from (suc i) m p)) (suc i + m)) (cond t i (first_from (suc i) m p)) (first_from (suc i + m) n p)
-      go true h = ap (λ (t : Bool). cond t i (first_from (suc i + m) n p)) (sym (lt-ltb i (suc i + m) (omega arith)))
-      go false h = h
+      go : (b : Bool) → (Ok tt ≡ first_clash (suc i) m p → first_clash (suc i) (m + n) p ≡ first_clash (suc i + m) n p)
+          → Ok tt ≡ cond b (Err (ClashAt i)) (first_clash (suc i) m p) → cond b (Err (ClashAt i)) (first_clash (suc i) (m + n) p) ≡ first_clash (suc i + m) n p
+      go true f h = cc
+      go false f h = f h
 
-first-same : (p q : ℕ → Bool) (i n : ℕ) → ((k : ℕ) → i ≤ k → k < i + n → p k ≡ q k) → first_from i n p ≡ first_from i n q
+first-same : (p q : ℕ → Bool) (i n : ℕ) → ((k : ℕ) → i ≤ k → k < i + n → p k ≡ q k) → first_clash i n p ≡ first_clash i n q
 first-same p q i zero h = refl
-first-same p q i (suc n) h = (λ k. cond (h i (omega arith) (omega arith) k) i (first-same p q (suc i) n (λ j l m. h j (omega arith) (omega arith)) k))
+first-same p q i (suc n) h = (λ k. cond (h i (omega arith) (omega arith) k) (Err (ClashAt i)) (first-same p q (suc i) n (λ j l m. h j (omega arith) (omega arith)) k))
 
 -- ---- layer by layer: t layers are passed, and `start` gates with them
 pub record Passing (ws ends : List ℕ) (start t : ℕ) : Type 0 where
   pub closes : closing (length ws / gate_size) start (drop t ends) ≡ true
-  pub left : first_from 0 (length ws / gate_size) (clashes_at ws ends) ≡ first_from start (length ws / gate_size - start) (clashes_at ws ends)
+  pub left : first_clash 0 (length ws / gate_size) (clashes_at ws ends) ≡ first_clash start (length ws / gate_size - start) (clashes_at ws ends)
   pub above : (i : ℕ) → start ≤ i → layer_of ends i ≡ t + layer_of (drop t ends) i
   pub below : (j : ℕ) → j < start → layer_of ends j < t
-
-pub passing_none : (ws ends : List ℕ) → closing (length ws / gate_size) 0 ends ≡ true → Passing ws ends 0 0
-passing_none ws ends e = let f : length ws / gate_size ≡ length ws / gate_size - 0 = omega arith in record { closes = e; left = ap (λ (n : ℕ). first_from 0 n (clashes_at ws ends)) f; above = λ i l. omega arith; below = λ j l. absurd (omega arith) }
 
 module _ {ws ends : List ℕ} {start t : ℕ} (h : Passing ws ends start t) (l : t < length ends) where
   abbrev end : ℕ
@@ -157,39 +168,41 @@ module _ {ws ends : List ℕ} {start t : ℕ} (h : Passing ws ends start t) (l :
       (λ j k. ne_eqb (layer_of ends i) (layer_of ends j) (λ s. absurd (omega (arith, here i p q, h.below j k))))
       (λ j k m. eq-eqb (layer_of ends i) (layer_of ends j) (here i p q ∙ sym (here j k (omega arith))))
 
-  module _ (r : ℕ) (found : r ≡ first_from start (end - start) (shares_from ws start)) where
-    split : first_from 0 (length ws / gate_size) (clashes_at ws ends) ≡ cond (ltb r end) r (first_from end (length ws / gate_size - end) (clashes_at ws ends))
-    split =
-        let e : length ws / gate_size - start ≡ (end - start) + (length ws / gate_size - end) = omega (arith, rises, ends-inside) in
-        let f : start + (end - start) ≡ end = omega (arith, rises) in
-        let g : first_from start (end - start) (clashes_at ws ends) ≡ r =
-        first-same (clashes_at ws ends) (shares_from ws start) start (end - start) (λ i p q. same_test i p (omega (arith, f))) ∙ sym found in
-        h.left ∙ ap (λ (n : ℕ). first_from start n (clashes_at ws ends)) e
-        ∙ first-split (clashes_at ws ends) start (end - start) (length ws / gate_size - end)
-        ∙ (λ i. cond (ltb (g i) (f i)) (g i) (first_from (f i) (length ws / gate_size - end) (clashes_at ws ends)))
+  -- the gates from `start` on are those of the layer and those after it
+  split : length ws / gate_size - start ≡ (end - start) + (length ws / gate_size - end)
+  split = omega (arith, rises, ends-inside)
 
-    pub clash-found : r < end → r ≡ first_from 0 (length ws / gate_size) (clashes_at ws ends)
-    clash-found p = sym (split ∙ ap (λ (b : Bool). cond b r (first_from end (length ws / gate_size - end) (clashes_at ws ends))) (lt-ltb r end p))
+  layer_same : first_clash start (end - start) (shares_from ws start) ≡ first_clash start (end - start) (clashes_at ws ends)
+  layer_same = let f : start + (end - start) ≡ end = omega (arith, rises) in sym (first-same (clashes_at ws ends) (shares_from ws start) start (end - start) (λ i p q. same_test i p (omega (arith, f))))
 
-    pub passing_more : end ≤ r → Passing ws ends end (t + 1)
-    passing_more p = record {
-      closes = next.1;
-      left = split ∙ ap (λ (b : Bool). cond b r (first_from end (length ws / gate_size - end) (clashes_at ws ends))) (le-ltb r end p);
-      above = λ i q. let s : leb end i ≡ true = le-leb end i q in
-          let u : layer_of (drop t ends) i ≡ 1 + layer_of (drop (t + 1) ends) i = rest_of i ∙ (λ k. cond (s k) 1 0 + layer_of (drop (t + 1) ends) i) in
-          omega (arith, h.above i (omega (arith, rises)));
-      below = λ j q. earlier j q (dec_lt j start);
-    }
-      where
-        earlier : (j : ℕ) → j < end → Dec (j < start) → layer_of ends j < t + 1
-        earlier j q (yes s) = omega (arith, h.below j s)
-        earlier j q (no s) = omega (arith, here j (omega arith) q)
+  pub clash-found : {r : Refusal} → Err r ≡ first_clash start (end - start) (shares_from ws start) → Err r ≡ first_clash 0 (length ws / gate_size) (clashes_at ws ends)
+  clash-found e =
+      first_decides (clashes_at ws ends) start (end - start) (length ws / gate_size - end) (e ∙ layer_same)
+      ∙ ap (λ (n : ℕ). first_clash start n (clashes_at ws ends)) (sym split) ∙ sym h.left
+
+  pub passing_more : Ok tt ≡ first_clash start (end - start) (shares_from ws start) → Passing ws ends end (t + 1)
+  passing_more e =
+      let f : start + (end - start) ≡ end = omega (arith, rises) in
+      record {
+        closes = next.1;
+        left = h.left ∙ ap (λ (n : ℕ). first_clash start n (clashes_at ws ends)) split
+            ∙ first_leaves (clashes_at ws ends) start (end - start) (length ws / gate_size - end) (e ∙ layer_same)
+            ∙ ap (λ (k : ℕ). first_clash k (length ws / gate_size - end) (clashes_at ws ends)) f;
+        above = λ i q. let s : leb end i ≡ true = le-leb end i q in
+            let u : layer_of (drop t ends) i ≡ 1 + layer_of (drop (t + 1) ends) i = rest_of i ∙ (λ k. cond (s k) 1 0 + layer_of (drop (t + 1) ends) i) in
+            omega (arith, h.above i (omega (arith, rises)));
+        below = λ j q. earlier j q (dec_lt j start);
+      }
+    where
+      earlier : (j : ℕ) → j < end → Dec (j < start) → layer_of ends j < t + 1
+      earlier j q (yes s) = omega (arith, h.below j s)
+      earlier j q (no s) = omega (arith, here j (omega arith) q)
 
 -- all layers passed: no gate clashes
-pub passing_all : {ws ends : List ℕ} {start t : ℕ} → Passing ws ends start t → length ends ≤ t → start ≡ first_from 0 (length ws / gate_size) (clashes_at ws ends)
+pub passing_all : {ws ends : List ℕ} {start t : ℕ} → Passing ws ends start t → length ends ≤ t → first_clash 0 (length ws / gate_size) (clashes_at ws ends) ≡ Ok tt
 passing_all {ws} {ends} {start} {t} h l =
     let e : start ≡ length ws / gate_size = eqb-true start (length ws / gate_size) (sym (closing-none (length ws / gate_size) start ends t l) ∙ h.closes) in
-    sym (h.left ∙ first-none (clashes_at ws ends) start (length ws / gate_size) (omega arith))
+    h.left ∙ first-none (clashes_at ws ends) start (length ws / gate_size) (omega arith)
 
 -- ---- the questions of the layers, by what the loops find
 module _ (ws ends : List ℕ) where
@@ -198,9 +211,8 @@ module _ (ws ends : List ℕ) where
 
   -- from gate i on, n gates
   clash-from : (n i : ℕ) (before : List Fired) → ((q : Fired → Bool) → some q before ≡ any_from 0 i (λ (j : ℕ). q (at j)))
-      → first_no (clash_questions before i (fired ends i (gates_from ws i n)))
-      ≡ cond (ltb (first_from i n (clashes_at ws ends)) (i + n)) (Err (ClashAt (first_from i n (clashes_at ws ends)))) (Ok tt)
-  clash-from zero i before h = ap (λ (b : Bool). cond b (Err (ClashAt i)) (Ok tt)) (sym (le-ltb i (i + 0) (omega arith)))
+      → first_no (clash_questions before i (fired ends i (gates_from ws i n))) ≡ first_clash i n (clashes_at ws ends)
+  clash-from zero i before h = refl
   clash-from (suc n) i before h =
       ap (λ (b : Bool). cond (not b) rest (Err (ClashAt i))) (h (clash (at i)))
       ∙ go (clashes_at ws ends i) (clash-from n (suc i) (at i ∷ before) more)
@@ -211,12 +223,9 @@ module _ (ws ends : List ℕ) where
       more : (q : Fired → Bool) → some q (at i ∷ before) ≡ any_from 0 (suc i) (λ (j : ℕ). q (at j))
       more q = let e : i ≡ 0 + i = omega arith in λ k. q (at (e k)) || h q k
 
-      go : (b : Bool) → rest ≡ cond (ltb (first_from (suc i) n (clashes_at ws ends)) (suc i + n)) (Err (ClashAt (first_from (suc i) n (clashes_at ws ends)))) (Ok tt)
-          → cond (not b) rest (Err (ClashAt i)) ≡ cond (ltb (cond b i (first_from (suc i) n (clashes_at ws ends))) (i + suc n)) (Err (ClashAt (cond b i (first_from (suc i) n (clashes_at ws ends))))) (Ok tt)
-      go true r = ap (λ (t : Bool). cond t (Err (ClashAt i)) (Ok tt)) (sym (lt-ltb i (i + suc n) (omega arith)))
-      go false r =
-          let e : suc i + n ≡ i + suc n = omega arith in
-          r ∙ ap (λ (k : ℕ). cond (ltb (first_from (suc i) n (clashes_at ws ends)) k) (Err (ClashAt (first_from (suc i) n (clashes_at ws ends)))) (Ok tt)) e
+      go : (b : Bool) → rest ≡ first_clash (suc i) n (clashes_at ws ends) → cond (not b) rest (Err (ClashAt i)) ≡ cond b (Err (ClashAt i)) (first_clash (suc i) n (clashes_at ws ends))
+      go true r = refl
+      go false r = r
 
   abbrev gates : List Gate
   gates = gates_of ws
@@ -224,16 +233,7 @@ module _ (ws ends : List ℕ) where
   pub ends_bad : closing (length ws / gate_size) 0 ends ≡ false → Err BadLayers ≡ first_no (layer_questions ends gates)
   ends_bad e = sym (ap (λ (b : Bool). cond b (first_no (clash_questions [] 0 (fired ends 0 gates))) (Err BadLayers)) (ap (λ (k : ℕ). closing k 0 ends) (gates-length ws 0 (length ws / gate_size)) ∙ e))
 
-  module _ (e : closing (length ws / gate_size) 0 ends ≡ true) {r : ℕ} (found : r ≡ first_from 0 (length ws / gate_size) (clashes_at ws ends)) where
-    by-clash : first_no (layer_questions ends gates) ≡ cond (ltb r (length ws / gate_size)) (Err (ClashAt r)) (Ok tt)
-    by-clash =
-        let z : 0 + length ws / gate_size ≡ length ws / gate_size = omega arith in
-        ap (λ (b : Bool). cond b (first_no (clash_questions [] 0 (fired ends 0 gates))) (Err BadLayers)) (ap (λ (k : ℕ). closing k 0 ends) (gates-length ws 0 (length ws / gate_size)) ∙ e)
-        ∙ clash-from (length ws / gate_size) 0 [] (λ q. refl)
-        ∙ (λ i. cond (ltb (sym found i) (z i)) (Err (ClashAt (sym found i))) (Ok tt))
-
-    pub clash-at : r < length ws / gate_size → Err (ClashAt r) ≡ first_no (layer_questions ends gates)
-    clash-at l = sym (by-clash ∙ ap (λ (b : Bool). cond b (Err (ClashAt r)) (Ok tt)) (lt-ltb r (length ws / gate_size) l))
-
-    pub no_clash : length ws / gate_size ≤ r → Ok tt ≡ first_no (layer_questions ends gates)
-    no_clash l = sym (by-clash ∙ ap (λ (b : Bool). cond b (Err (ClashAt r)) (Ok tt)) (le-ltb r (length ws / gate_size) l))
+  pub by_clash : closing (length ws / gate_size) 0 ends ≡ true → first_no (layer_questions ends (gates_of ws)) ≡ first_clash 0 (length ws / gate_size) (clashes_at ws ends)
+  by_clash e =
+      ap (λ (b : Bool). cond b (first_no (clash_questions [] 0 (fired ends 0 gates))) (Err BadLayers)) (ap (λ (k : ℕ). closing k 0 ends) (gates-length ws 0 (length ws / gate_size)) ∙ e)
+      ∙ clash-from (length ws / gate_size) 0 [] (λ q. refl)

@@ -9,7 +9,6 @@ use lib.Dec.{eqb, leb}
 use lib.ListN.{length, get_or}
 use borrow.Author.Tests.{le-leb, leb-true, eq-eqb, ne_eqb, eqb-true, eqb-false}
 use Rattle.algebra.specs.Schedule.{Schedule}
-use Rattle.algebra.proofs.Trace.{Trace}
 use Rattle.algebra.proofs.Schedule.{schedule_trace}
 use Rattle.circuit.proofs.Pairs.{free, free_of, free-pairs}
 use Rattle.gate.specs.Gate.{Gate, gate, elem, meet, qubits, bits, share}

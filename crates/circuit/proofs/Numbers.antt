@@ -3,27 +3,25 @@ use Rattle.std.specs.Prelude.{Ok, Err}
 use mathlib.Core.Path.{◌≡◌, refl, sym, ap, ◌∙◌}
 use mathlib.Core.Bool.{Bool, true, false, cond, ◌&&◌, and-false, true≢false}
 use mathlib.Core.List.{List, [], ◌∷◌}
-use Prim.Native.Nat.{ℕ, suc, ◌^◌, ◌/◌, ◌%◌, ◌≤◌}
+use Prim.Native.Nat.{ℕ, suc, ◌^◌, ◌≤◌}
 use native.Mathlib.Omega.{arith}
-use lib.Dec.{leb, eqb}
-use lib.ListN.{length}
+use lib.Dec.{leb}
 use lib.Pow.{pow_mono}
 use borrow.Author.Tests.{leb-true, leb-false, lt-leb}
 use Rattle.algebra.specs.Lists.{total}
 use Rattle.algebra.proofs.Tests.{and_split}
-use Rattle.verdict.specs.declared.Refusal.TheVariants.{OverLimit, BadStore, MalformedAt, OverCeiling, TooHeavy, ShortBuffer}
+use Rattle.verdict.specs.declared.Refusal.TheVariants.{OverLimit, BadStore, TooHeavy, ShortBuffer}
 use Rattle.verdict.specs.Questions.{Question, question, first_no}
-use Rattle.gate.specs.declared.judge.Asking.TheVariants.{Channel}
-use Rattle.gate.specs.Gate.{gate_size, gates_of, weight, max_weight}
+use Rattle.gate.specs.Gate.{gates_of, weight, max_weight}
 use Rattle.store.specs.Store.{store_fits}
 use Rattle.circuit.specs.declared.limits.Limits.{Limits}
 use Rattle.circuit.specs.declared.footprint.Footprint.{Footprint}
 use Rattle.circuit.specs.declared.sizes.Sizes.{Sizes}
 use Rattle.circuit.specs.Limits.{ceilings, matrix_ceilings, branch_ceilings}
 use Rattle.circuit.specs.Footprint.{footprint_of}
-use Rattle.circuit.specs.Sizes.{cells_needed, terms_needed, unitary_cells, unitary_terms}
-use Rattle.circuit.specs.Questions.{gates_questions, sizes_of, within_limits, room_for, word_questions, number_questions, unitary_within, unitary_room, matrix_questions, unitary_verdict}
-use Rattle.circuit.specs.Inner.Small.{max_splits, max_branches, max_qubits, max_rows, max_gates}
+use Rattle.circuit.specs.Sizes.{cells_needed, terms_needed}
+use Rattle.circuit.specs.Questions.{sizes_of, within_limits, room_for, number_questions, unitary_room}
+use Rattle.circuit.specs.Inner.Small.{max_splits, max_branches, max_qubits, max_gates}
 
 module _ (l : Limits) where
   pub matrix_low : matrix_ceilings l ≡ true → (l.max_qubits ≤ max_qubits) × (l.max_operations ≤ max_gates)
@@ -53,12 +51,6 @@ module _ (l : Limits) where
     abbrev pub few : Bool
     few = leb m l.max_classical_bits && (leb n l.max_qubits && leb f.splits max_splits)
 
-    abbrev pub fits : Sizes → Bool
-    fits s =
-        leb s.branches l.max_branches
-        && (leb (cells_needed s.branches s.stores s.rows) l.max_matrix_cells
-        && leb (terms_needed f.gates s.branches s.rows) l.max_multiply_terms)
-
     many-branches : leb f.splits max_splits ≡ false → leb (2 ^ f.splits) l.max_branches ≡ false
     many-branches e =
         let a : suc max_splits ≤ f.splits = leb-false f.splits max_splits e in
@@ -74,72 +66,13 @@ module _ (l : Limits) where
         go true true false k r h e = ap (λ (t : Bool). t && r) (h refl)
         go true true true k r h e = absurd (true≢false e)
 
-    as_fits : few ≡ true → within_limits f n m l ≡ fits (sizes_of f n)
-    as_fits e =
-        let s : Sizes = sizes_of f n in
-        let a = and_split (leb m l.max_classical_bits) (leb n l.max_qubits && leb f.splits max_splits) e in
-        let b = and_split (leb n l.max_qubits) (leb f.splits max_splits) a.1 in
-        λ i. a.0 i && (leb s.branches l.max_branches
-        && (b.0 i && (leb (cells_needed s.branches s.stores s.rows) l.max_matrix_cells
-        && leb (terms_needed f.gates s.branches s.rows) l.max_multiply_terms)))
-
-    pub few-small : few ≡ true → (f.splits ≤ max_splits) × (n ≤ max_qubits)
-    few-small e =
-        let a = and_split (leb m l.max_classical_bits) (leb n l.max_qubits && leb f.splits max_splits) e in
-        let b = and_split (leb n l.max_qubits) (leb f.splits max_splits) a.1 in
-        (leb-true f.splits max_splits b.1, let h : n ≤ l.max_qubits = leb-true n l.max_qubits b.0 in omega (arith, low.qubits_low))
-
-    pub within-found : {s : Sizes} {w : Bool} → few ≡ true → s ≡ sizes_of f n → w ≡ fits s → within_limits f n m l ≡ w
-    within-found e h r = as_fits e ∙ ap fits (sym h) ∙ sym r
-
 -- ---- questions 7 to 10, by their answers
 pub four_answers : (f : Footprint) (n m : ℕ) (σ : List ℕ) (l : Limits) (result work : ℕ) {a b c d : Bool}
     → store_fits m σ ≡ a → within_limits f n m l ≡ b → leb f.weight max_weight ≡ c → room_for (sizes_of f n) result work ≡ d
     → cond a (cond b (cond c (cond d (Ok tt) (Err ShortBuffer)) (Err TooHeavy)) (Err OverLimit)) (Err BadStore) ≡ first_no (number_questions f n m σ l result work)
 four_answers f n m σ l result work p q r s = sym (λ i. cond (p i) (cond (q i) (cond (r i) (cond (s i) (Ok tt) (Err ShortBuffer)) (Err TooHeavy)) (Err OverLimit)) (Err BadStore))
 
--- ---- questions 1 to 3, by their answers
-pub three_answers : (n m : ℕ) (l : Limits) (ws : List ℕ) {a b c : Bool}
-    → (matrix_ceilings l && branch_ceilings l) ≡ a → eqb (length ws % gate_size) 0 ≡ b → leb (length ws / gate_size) l.max_operations ≡ c
-    → cond a (cond b (cond c (first_no (gates_questions (Channel m) n 0 (gates_of ws))) (Err OverLimit)) (Err (MalformedAt 0))) (Err OverCeiling) ≡ first_no (word_questions n m l ws)
-three_answers n m l ws p q r = sym (λ i. cond (p i) (cond (q i) (cond (r i) (first_no (gates_questions (Channel m) n 0 (gates_of ws))) (Err OverLimit)) (Err (MalformedAt 0))) (Err OverCeiling))
-
 -- ---- circuit_unitary
-pub unitary_answers : (n : ℕ) (l : Limits) (ws : List ℕ) (result work : ℕ) {a b c : Bool}
-    → matrix_ceilings l ≡ a → eqb (length ws % gate_size) 0 ≡ b → unitary_within n (length ws / gate_size) l ≡ c
-    → cond a (cond b (cond c (first_no (matrix_questions n ws result work)) (Err OverLimit)) (Err (MalformedAt 0))) (Err OverCeiling) ≡ unitary_verdict n l ws result work
-unitary_answers n l ws result work p q r = sym (λ i. cond (p i) (cond (q i) (cond (r i) (first_no (matrix_questions n ws result work)) (Err OverLimit)) (Err (MalformedAt 0))) (Err OverCeiling))
-
-module _ (n : ℕ) (l : Limits) (G : ℕ) where
-  abbrev pub few_gates : Bool
-  few_gates = leb n l.max_qubits && leb G l.max_operations
-
-  -- with d rows
-  abbrev sized : ℕ → Bool
-  sized d = leb (unitary_cells d) l.max_matrix_cells && leb (unitary_terms G d) l.max_multiply_terms
-
-  pub unitary-few : {d : ℕ} {t : Bool} → d ≡ 2 ^ n → few_gates ≡ true → t ≡ sized d → unitary_within n G l ≡ t
-  unitary-few h e f =
-      let a = and_split (leb n l.max_qubits) (leb G l.max_operations) e in
-      let g = ap sized (sym h) ∙ sym f in
-      λ i. a.0 i && (a.1 i && g i)
-
-  pub unitary-many : few_gates ≡ false → unitary_within n G l ≡ false
-  unitary-many = go (leb n l.max_qubits) (leb G l.max_operations) (sized (2 ^ n))
-    where
-      go : (a b c : Bool) → (a && b) ≡ false → (a && (b && c)) ≡ false
-      go false b c e = refl
-      go true b c e = ap (λ (t : Bool). t && c) e
-
-  pub few-gates-small : matrix_ceilings l ≡ true → few_gates ≡ true → (n ≤ max_qubits) × (2 ^ n ≤ max_rows) × (G ≤ max_gates)
-  few-gates-small low e =
-      let a = and_split (leb n l.max_qubits) (leb G l.max_operations) e in
-      let h : n ≤ l.max_qubits = leb-true n l.max_qubits a.0 in
-      let k : G ≤ l.max_operations = leb-true G l.max_operations a.1 in
-      let m = matrix_low l low in
-      let q : n ≤ max_qubits = omega (arith, m.0) in
-      (q, pow_mono q, omega (arith, m.1))
-
 -- the last two questions, by their answers
 module _ (n : ℕ) (ws : List ℕ) (result work : ℕ) where
   abbrev pub last_questions : List Question

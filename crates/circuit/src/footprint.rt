@@ -6,8 +6,8 @@ ghost use Rattle.gate.specs.Inner.Words.{gate_of};
 ghost use Rattle.circuit.specs.Footprint.{writes, footprint_of};
 ghost use Rattle.circuit.specs.Inner.Footprint.{newly};
 
+use gate::GATE;
 use gate::judge::{GateWords, read_gate};
-use gate::{GATE, MEASURE};
 
 #[derive(Clone, Copy)]
 pub struct Footprint {
@@ -20,11 +20,11 @@ pub struct Footprint {
     pub weight: u64,
 }
 
-// Whether some gate from gate `from` on measures into the bit.
-fn is_written(words: &[u32], from: usize, bit: u32) -> bool
-    ensures { result ≡ some (λ (g : Gate). writes g bit) (gates_from words.now from (length words.now / gate_size - from)) }
+// Whether some gate measures into the bit.
+fn is_written(words: &[u32], bit: u32) -> bool
+    ensures { result ≡ some (λ (g : Gate). writes g bit) (gates_of words.now) }
 {
-    for i in from..words.len() / GATE {
+    for i in 0..words.len() / GATE {
         let g = read_gate(words, i * GATE);
         if g.writes(bit) {
             return true;
@@ -33,15 +33,12 @@ fn is_written(words: &[u32], from: usize, bit: u32) -> bool
     false
 }
 
-// 1 if the gate measures into one of the bits and no gate from gate `from` on does.
-fn newly_written(words: &[u32], from: usize, g: GateWords, bits: u32) -> u64
-    ensures { result ≡ newly bits (gate_of g) (gates_from words.now from (length words.now / gate_size - from)) }
+// 1 if the gate measures into one of the bits and none of the gates after it does.
+fn newly_written(g: GateWords, after: &[u32], bits: u32) -> u64
+    ensures { result ≡ newly bits (gate_of g) (gates_of after.now) }
 {
-    if g.kind == MEASURE && g.b < bits && !is_written(words, from, g.b) {
-        1
-    } else {
-        0
-    }
+    g.bit()
+        .is_some_and(|bit| bit < bits && !is_written(after, bit)) as u64
 }
 
 impl Footprint {
@@ -55,7 +52,7 @@ impl Footprint {
         for i in 0..count {
             let g = read_gate(words, i * GATE);
             splits += g.splits();
-            written += newly_written(words, i + 1, g, bits);
+            written += newly_written(g, &words[(i + 1) * GATE..], bits);
             weight += g.weight();
         }
         Footprint {

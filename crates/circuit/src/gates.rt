@@ -1,4 +1,5 @@
 // The questions of the gates of a list.
+// Kept (buffers): n is the number of qubits, and no place in the words.
 ghost use Rattle.std.specs.Prelude.{◌≡◌};
 ghost use Rattle.verdict.specs.Questions.{first_no};
 ghost use Rattle.gate.specs.Gate.{gates_of};

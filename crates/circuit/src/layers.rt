@@ -1,9 +1,10 @@
 // Layers that fire together: their ends, and the first gate that shares a qubit or a classical bit with an earlier one of its layer.
+// Kept (buffers): the ends must close at the count of gates, and a gate is told by its place in the whole list, since a refusal names that; a slice of a layer would need its first place beside it.
 ghost use Rattle.std.specs.Prelude.{◌≡◌, true, ◌+◌, ◌-◌, ◌*◌, ◌/◌, ◌≤◌, ◌<◌, length};
 ghost use Rattle.verdict.specs.Questions.{first_no};
 ghost use Rattle.gate.specs.Gate.{gate_size, gates_of};
 ghost use Rattle.circuit.specs.Layers.{closing, layer_questions};
-ghost use Rattle.circuit.specs.Inner.Firing.{first_from, shares_from, clashes_at};
+ghost use Rattle.circuit.specs.Inner.Firing.{first_clash, shares_from};
 
 use gate::GATE;
 use gate::judge::read_gate;
@@ -38,47 +39,31 @@ fn shares_from(words: &[u32], start: usize, i: usize) -> bool
     false
 }
 
-// The first gate of the layer from `start` to before `end` that shares with an earlier one; `end` where none does.
-fn clash_in(words: &[u32], start: usize, end: usize) -> usize
+// Question 12 of the gates of a layer, from `start` to before `end`: none shares with an earlier one.
+fn judge_layer(words: &[u32], start: usize, end: usize) -> Verdict
     requires { (start ≤ end) × (end ≤ length words.now / gate_size) }
-    ensures { result ≡ first_from start (end - start) (shares_from words.now start) }
+    ensures { result ≡ first_clash start (end - start) (shares_from words.now start) }
 {
     for i in start..end {
         if shares_from(words, start, i) {
-            return i;
+            return Err(Refusal::ClashAt(i));
         }
     }
-    end
-}
-
-// The first gate that shares with an earlier one of its layer; the gate count where none does.
-fn first_clash(words: &[u32], ends: &[u32]) -> usize
-    requires { closing (length words.now / gate_size) 0 ends.now ≡ true }
-    ensures { result ≡ first_from 0 (length words.now / gate_size) (clashes_at words.now ends.now) }
-{
-    let mut start = 0;
-    for &e in ends {
-        let end = e as usize;
-        let i = clash_in(words, start, end);
-        if i < end {
-            return i;
-        }
-        start = end;
-    }
-    start
+    Ok(())
 }
 
 // Questions 11 and 12: the ends, then the gates that fire together.
 pub fn judge_layers(words: &[u32], ends: &[u32]) -> Verdict
     ensures { result ≡ first_no (layer_questions ends.now (gates_of words.now)) }
 {
-    let count = words.len() / GATE;
-    if !are_closing(ends, count) {
+    if !are_closing(ends, words.len() / GATE) {
         return Err(Refusal::BadLayers);
     }
-    let i = first_clash(words, ends);
-    if i < count {
-        return Err(Refusal::ClashAt(i));
+    let mut start = 0;
+    for &e in ends {
+        let end = e as usize;
+        judge_layer(words, start, end)?;
+        start = end;
     }
     Ok(())
 }

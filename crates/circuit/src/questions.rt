@@ -1,4 +1,5 @@
 // The questions of circuit_channel and of circuit_unitary, in order.
+// Kept (together): the limits and the lengths of the two buffers; every caller holds them apart, and a struct of them would be built only to be read once, by `judge_numbers`.
 ghost use Rattle.std.specs.Prelude.{◌≡◌, true, ◌&&◌, ◌≤◌, ◌^◌, is_ok};
 ghost use Rattle.algebra.specs.Lists.{total};
 ghost use Rattle.verdict.specs.Questions.{granted, first_no};
@@ -6,14 +7,14 @@ ghost use Rattle.gate.specs.Gate.{gates_of, splits};
 ghost use Rattle.circuit.specs.Limits.{matrix_ceilings, branch_ceilings};
 ghost use Rattle.circuit.specs.Footprint.{footprint_of};
 ghost use Rattle.circuit.specs.Layers.{layered_questions, layered_verdict};
-ghost use Rattle.circuit.specs.Questions.{word_questions, number_questions, channel_questions, channel_verdict, matrix_questions, unitary_verdict};
-ghost use Rattle.circuit.specs.Inner.Small.{max_rows};
+ghost use Rattle.circuit.specs.Questions.{length_questions, word_questions, number_questions, channel_questions, channel_verdict, matrix_questions, unitary_verdict};
 
+use crate::Circuit;
 use crate::footprint::Footprint;
 use crate::gates::judge_gates;
 use crate::layers::judge_layers;
 use crate::limits::Limits;
-use crate::sizes::{MAX_SPLITS, Sizes, has_unitary_room, is_unitary_within, power};
+use crate::sizes::{MAX_SPLITS, Rows, Sizes, has_unitary_room, is_unitary_within};
 use gate::GATE;
 use gate::judge::Asking;
 use store::is_store;
@@ -21,9 +22,9 @@ use verdict::{Refusal, Verdict};
 
 const MAX_WEIGHT: u64 = 56;
 
-// Questions 1 to 6.
-pub fn judge_words(n: u32, bits: u32, l: Limits, words: &[u32]) -> Verdict
-    ensures { result ≡ first_no (word_questions n bits l words.now) }
+// Questions 1 to 3, of the limits and of the list's length.
+pub fn judge_length(words: &[u32], l: Limits) -> Verdict
+    ensures { result ≡ first_no (length_questions l words.now) }
 {
     if !(l.are_matrix_limits_low() & l.are_branch_limits_low()) {
         return Err(Refusal::OverCeiling);
@@ -34,10 +35,18 @@ pub fn judge_words(n: u32, bits: u32, l: Limits, words: &[u32]) -> Verdict
     if l.max_operations < (words.len() / GATE) as u64 {
         return Err(Refusal::OverLimit);
     }
-    judge_gates(words, n, Asking::Channel(bits))
+    Ok(())
 }
 
-// Questions 7 to 10, of limits that are low and of gates that are within them.
+// Questions 1 to 6.
+pub fn judge_words(circuit: Circuit, l: Limits) -> Verdict
+    ensures { let c = circuit.entry in result ≡ first_no (word_questions c.qubits c.bits l c.gates.now) }
+{
+    judge_length(circuit.gates, l)?;
+    judge_gates(circuit.gates, circuit.qubits, Asking::Channel(circuit.bits))
+}
+
+// Questions 7 to 10, of limits that are low and of gates that are within them. A kept circuit, which is judged by its counts, has no gate words that would make it a `Circuit`.
 pub fn judge_numbers(
     f: Footprint,
     n: u32,
@@ -72,100 +81,70 @@ pub fn judge_numbers(
 }
 
 // Questions 7 to 10, of gates that have passed questions 1 to 6; the measures and resets.
-fn judge_counted(
-    n: u32,
-    bits: u32,
-    store: &[u8],
-    l: Limits,
-    words: &[u32],
-    res: u64,
-    work: u64,
-) -> Result<u64, Refusal>
-    requires { is_ok (first_no (word_questions n bits l words.now)) ≡ true }
-    ensures { result ≡ granted (total splits (gates_of words.now)) (number_questions (footprint_of bits (gates_of words.now)) n bits store.now l res work) }
+fn judge_counted(circuit: Circuit, l: Limits, res: u64, work: u64) -> Result<u64, Refusal>
+    requires { is_ok (first_no (word_questions circuit.qubits circuit.bits l circuit.gates.now)) ≡ true }
+    ensures { let c = circuit.entry in let gs = gates_of c.gates.now in result ≡ granted (total splits gs) (number_questions (footprint_of c.bits gs) c.qubits c.bits c.store.now l res work) }
 {
-    let f = Footprint::of(words, bits);
-    judge_numbers(f, n, bits, store, l, res, work)?;
+    let f = Footprint::of(circuit.gates, circuit.bits);
+    judge_numbers(f, circuit.qubits, circuit.bits, circuit.store, l, res, work)?;
     Ok(f.splits)
 }
 
 // All ten questions, and the measures and resets of a circuit that passes; `res` and `work` are the lengths of the buffers.
-pub fn judge_circuit(
-    n: u32,
-    bits: u32,
-    store: &[u8],
-    l: Limits,
-    words: &[u32],
-    res: u64,
-    work: u64,
-) -> Result<u64, Refusal>
-    ensures { result ≡ granted (total splits (gates_of words.now)) (channel_questions n bits store.now l words.now res work) }
+pub fn judge_circuit(circuit: Circuit, l: Limits, res: u64, work: u64) -> Result<u64, Refusal>
+    ensures { let c = circuit.entry in result ≡ granted (total splits (gates_of c.gates.now)) (channel_questions c.qubits c.bits c.store.now l c.gates.now res work) }
 {
-    judge_words(n, bits, l, words)?;
-    judge_counted(n, bits, store, l, words, res, work)
+    judge_words(circuit, l)?;
+    judge_counted(circuit, l, res, work)
 }
 
 // As `judge_circuit`, of a layered circuit: the layers are asked between the gates and the store.
 pub fn judge_layered(
-    n: u32,
-    bits: u32,
-    store: &[u8],
+    circuit: Circuit,
     l: Limits,
-    words: &[u32],
     ends: &[u32],
     res: u64,
     work: u64,
 ) -> Result<u64, Refusal>
-    ensures { result ≡ granted (total splits (gates_of words.now)) (layered_questions n bits store.now l words.now ends.now res work) }
+    ensures { let c = circuit.entry in result ≡ granted (total splits (gates_of c.gates.now)) (layered_questions c.qubits c.bits c.store.now l c.gates.now ends.now res work) }
 {
-    judge_words(n, bits, l, words)?;
-    judge_layers(words, ends)?;
-    judge_counted(n, bits, store, l, words, res, work)
+    judge_words(circuit, l)?;
+    judge_layers(circuit.gates, ends)?;
+    judge_counted(circuit, l, res, work)
 }
 
 // The verdict alone.
-pub fn judge_channel(
-    n: u32,
-    bits: u32,
-    store: &[u8],
-    l: Limits,
-    words: &[u32],
-    res: u64,
-    work: u64,
-) -> Verdict
-    ensures { result ≡ channel_verdict n bits store.now l words.now res work }
+pub fn judge_channel(circuit: Circuit, l: Limits, res: u64, work: u64) -> Verdict
+    ensures { let c = circuit.entry in result ≡ channel_verdict c.qubits c.bits c.store.now l c.gates.now res work }
 {
-    judge_circuit(n, bits, store, l, words, res, work)?;
+    judge_circuit(circuit, l, res, work)?;
     Ok(())
 }
 
 // The verdict alone, of a layered circuit.
 pub fn judge_layered_channel(
-    n: u32,
-    bits: u32,
-    store: &[u8],
+    circuit: Circuit,
     l: Limits,
-    words: &[u32],
     ends: &[u32],
     res: u64,
     work: u64,
 ) -> Verdict
-    ensures { result ≡ layered_verdict n bits store.now l words.now ends.now res work }
+    ensures { let c = circuit.entry in result ≡ layered_verdict c.qubits c.bits c.store.now l c.gates.now ends.now res work }
 {
-    judge_layered(n, bits, store, l, words, ends, res, work)?;
+    judge_layered(circuit, l, ends, res, work)?;
     Ok(())
 }
 
-// circuit_unitary's questions from the gates on; `d` is the number of rows.
-fn judge_matrix(n: u32, d: u64, words: &[u32], res: u64, work: u64) -> Verdict
-    requires { (d ≡ 2 ^ n) × (d ≤ max_rows) }
+// circuit_unitary's questions from the gates on.
+fn judge_matrix(n: u32, rows: Rows, words: &[u32], res: u64, work: u64) -> Verdict
+    requires { rows ≡ 2 ^ n }
     ensures { result ≡ first_no (matrix_questions n words.now res work) }
 {
     judge_gates(words, n, Asking::Unitary)?;
     if MAX_WEIGHT < Footprint::of(words, 0).weight {
         return Err(Refusal::TooHeavy);
     }
-    if !has_unitary_room(d, res, work) {
+    if !has_unitary_room(rows, res, work) {
         return Err(Refusal::ShortBuffer);
     }
     Ok(())
@@ -185,9 +164,9 @@ pub fn judge_unitary(n: u32, l: Limits, words: &[u32], res: u64, work: u64) -> V
     if (l.max_qubits < n as u64) | (l.max_operations < gates) {
         return Err(Refusal::OverLimit);
     }
-    let d = power(n as u64);
-    if !is_unitary_within(d, gates, l) {
+    let rows = Rows::of(n);
+    if !is_unitary_within(rows, gates, l) {
         return Err(Refusal::OverLimit);
     }
-    judge_matrix(n, d, words, res, work)
+    judge_matrix(n, rows, words, res, work)
 }

@@ -1,22 +1,17 @@
 // How large a circuit's work is, and the formulas of the questions, where their operands are small.
+// Kept (facts): that the gates are 1024 at most is known where the limits are, of a list's length; a type for it would be made at once and read in two formulas.
 ghost use Rattle.std.specs.Prelude.{◌≡◌, ◌&&◌, ◌≤◌, ◌^◌, min, leb};
 ghost use Rattle.circuit.specs.Questions.{sizes_of, room_for, unitary_room};
-ghost use Rattle.circuit.specs.Inner.Small.{max_splits, max_branches, max_qubits, max_rows, max_gates, Small};
+ghost use Rattle.circuit.specs.Inner.Small.{max_splits, max_branches, max_qubits, max_rows, max_gates};
 ghost use Rattle.circuit.specs.Sizes.{cells_needed, terms_needed, result_words, work_words, unitary_cells, unitary_terms, unitary_result, unitary_work};
 
 use crate::footprint::Footprint;
 use crate::limits::Limits;
 use cells::CELL;
+use std::marker::Model;
 
 // As many splits as make MAX_BRANCHES.
 pub const MAX_SPLITS: u64 = 6;
-
-#[derive(Clone, Copy)]
-pub struct Sizes {
-    pub branches: u64,
-    pub stores: u64,
-    pub rows: u64,
-}
 
 // 2^k
 pub fn power(k: u64) -> u64
@@ -26,117 +21,197 @@ pub fn power(k: u64) -> u64
     1u64 << k
 }
 
-fn least(a: u64, b: u64) -> u64
-    ensures { result ≡ min a b }
-{
-    if a <= b { a } else { b }
+// Branches, or the stores that they end with: 64 at most.
+#[derive(Clone, Copy)]
+pub struct Branches {
+    number: u64,
 }
 
-pub fn square(d: u64) -> u64
-    requires { d ≤ max_rows }
-    ensures { (result ≡ d ^ 2) × (result ≤ 1024) }
-{
-    d * d
+impl Model for Branches {
+    ghost use Rattle.std.specs.Prelude.{ℕ, ◌≤◌};
+    ghost use Rattle.circuit.specs.Inner.Small.{max_branches};
+
+    ghost Value = { ℕ };
+
+    ghost view = { λ b. b.number };
+
+    ghost invariant = { λ b. b.number ≤ max_branches };
+
+    ghost inverse = { λ k. record { number = k } };
 }
 
-pub fn cube(d: u64) -> u64
-    requires { d ≤ max_rows }
-    ensures { (result ≡ d ^ 3) × (result ≤ 32768) }
-{
-    d * d * d
+impl Branches {
+    // So many.
+    pub fn new(number: u64) -> Branches
+        requires { number ≤ max_branches }
+        ensures { result ≡ number }
+    {
+        Branches { number }
+    }
+
+    // As many as so many splits make.
+    pub fn of(splits: u64) -> Branches
+        requires { splits ≤ max_splits }
+        ensures { result ≡ 2 ^ splits }
+    {
+        Branches {
+            number: power(splits),
+        }
+    }
+
+    pub fn count(self) -> u64
+        ensures { (result ≡ self) × (result ≤ max_branches) }
+    {
+        self.number
+    }
 }
 
-pub fn fourth(d: u64) -> u64
-    requires { d ≤ max_rows }
-    ensures { (result ≡ d ^ 4) × (result ≤ 1048576) }
-{
-    d * d * d * d
+// The rows of a circuit's matrices: 32 at most.
+#[derive(Clone, Copy)]
+pub struct Rows {
+    count: u64,
 }
 
-fn cells_needed(b: u64, v: u64, d: u64) -> u64
-    requires { (b ≤ max_branches) × (v ≤ max_branches) × (d ≤ max_rows) }
-    ensures { result ≡ cells_needed b v d }
-{
-    v * fourth(d) + (3 * b + 8) * square(d)
+impl Model for Rows {
+    ghost use Rattle.std.specs.Prelude.{ℕ, ◌≤◌};
+    ghost use Rattle.circuit.specs.Inner.Small.{max_rows};
+
+    ghost Value = { ℕ };
+
+    ghost view = { λ d. d.count };
+
+    ghost invariant = { λ d. d.count ≤ max_rows };
+
+    ghost inverse = { λ k. record { count = k } };
 }
 
-pub fn terms_needed(g: u64, b: u64, d: u64) -> u64
-    requires { (g ≤ max_gates) × (b ≤ max_branches) × (d ≤ max_rows) }
-    ensures { result ≡ terms_needed g b d }
-{
-    2 * g * b * cube(d) + b * fourth(d)
+impl Rows {
+    // So many.
+    pub fn new(count: u64) -> Rows
+        requires { count ≤ max_rows }
+        ensures { result ≡ count }
+    {
+        Rows { count }
+    }
+
+    // Those of matrices on n qubits.
+    pub fn of(n: u32) -> Rows
+        requires { n ≤ max_qubits }
+        ensures { result ≡ 2 ^ n }
+    {
+        Rows {
+            count: power(n as u64),
+        }
+    }
+
+    pub fn count(self) -> u64
+        ensures { (result ≡ self) × (result ≤ max_rows) }
+    {
+        self.count
+    }
+
+    pub fn square(self) -> u64
+        ensures { (result ≡ self ^ 2) × (result ≤ 1024) }
+    {
+        self.count * self.count
+    }
+
+    pub fn cube(self) -> u64
+        ensures { (result ≡ self ^ 3) × (result ≤ 32768) }
+    {
+        self.count * self.count * self.count
+    }
+
+    pub fn fourth(self) -> u64
+        ensures { (result ≡ self ^ 4) × (result ≤ 1048576) }
+    {
+        self.count * self.count * self.count * self.count
+    }
 }
 
-pub fn result_words(v: u64, d: u64) -> u64
-    requires { (v ≤ max_branches) × (d ≤ max_rows) }
-    ensures { result ≡ result_words v d }
+fn cells_needed(branches: Branches, stores: Branches, rows: Rows) -> u64
+    ensures { result ≡ cells_needed branches stores rows }
 {
-    4 + v * (4 + 4 * fourth(d))
+    stores.count() * rows.fourth() + (3 * branches.count() + 8) * rows.square()
 }
 
-fn work_words(b: u64, d: u64) -> u64
-    requires { (b ≤ max_branches) × (d ≤ max_rows) }
-    ensures { result ≡ work_words b d }
+pub fn terms_needed(gates: u64, branches: Branches, rows: Rows) -> u64
+    requires { gates ≤ max_gates }
+    ensures { result ≡ terms_needed gates branches rows }
 {
-    (2 * b + 2) * (CELL as u64 * square(d) + 2)
+    2 * gates * branches.count() * rows.cube() + branches.count() * rows.fourth()
 }
 
-fn unitary_cells(d: u64) -> u64
-    requires { d ≤ max_rows }
-    ensures { result ≡ unitary_cells d }
+pub fn result_words(stores: Branches, rows: Rows) -> u64
+    ensures { result ≡ result_words stores rows }
 {
-    8 * square(d)
+    4 + stores.count() * (4 + 4 * rows.fourth())
 }
 
-fn unitary_terms(g: u64, d: u64) -> u64
-    requires { (g ≤ max_gates) × (d ≤ max_rows) }
-    ensures { result ≡ unitary_terms g d }
+fn work_words(branches: Branches, rows: Rows) -> u64
+    ensures { result ≡ work_words branches rows }
 {
-    cube(d) * g
+    (2 * branches.count() + 2) * (CELL as u64 * rows.square() + 2)
 }
 
-fn unitary_result(d: u64) -> u64
-    requires { d ≤ max_rows }
-    ensures { result ≡ unitary_result d }
+fn unitary_cells(rows: Rows) -> u64
+    ensures { result ≡ unitary_cells rows }
 {
-    CELL as u64 * square(d)
+    8 * rows.square()
 }
 
-fn unitary_work(d: u64) -> u64
-    requires { d ≤ max_rows }
-    ensures { result ≡ unitary_work d }
+fn unitary_terms(gates: u64, rows: Rows) -> u64
+    requires { gates ≤ max_gates }
+    ensures { result ≡ unitary_terms gates rows }
 {
-    4 * (CELL as u64 * square(d) + 2)
+    rows.cube() * gates
+}
+
+fn unitary_result(rows: Rows) -> u64
+    ensures { result ≡ unitary_result rows }
+{
+    CELL as u64 * rows.square()
+}
+
+fn unitary_work(rows: Rows) -> u64
+    ensures { result ≡ unitary_work rows }
+{
+    4 * (CELL as u64 * rows.square() + 2)
+}
+
+#[derive(Clone, Copy)]
+pub struct Sizes {
+    pub branches: Branches,
+    pub stores: Branches,
+    pub rows: Rows,
 }
 
 impl Sizes {
     pub fn of(f: Footprint, n: u32) -> Sizes
         requires { (f.splits ≤ max_splits) × (n ≤ max_qubits) }
-        ensures { (result ≡ sizes_of f n) × Small result }
+        ensures { result ≡ sizes_of f n }
     {
-        let written = least(f.splits, f.written);
         Sizes {
-            branches: power(f.splits),
-            stores: power(written),
-            rows: power(n as u64),
+            branches: Branches::of(f.splits),
+            stores: Branches::of(f.splits.min(f.written)),
+            rows: Rows::of(n),
         }
     }
 
     // Question 8, but for the qubits and the classical bits.
-    pub fn is_within(self, gates: u64, l: Limits) -> bool
-        requires { Small self × (gates ≤ max_gates) }
-        ensures { result ≡ leb self.branches l.max_branches && (leb (cells_needed self.branches self.stores self.rows) l.max_matrix_cells && leb (terms_needed gates self.branches self.rows) l.max_multiply_terms) }
+    pub fn is_within(&self, gates: u64, l: Limits) -> bool
+        requires { gates ≤ max_gates }
+        ensures { let s = self.now in result ≡ leb s.branches l.max_branches && (leb (cells_needed s.branches s.stores s.rows) l.max_matrix_cells && leb (terms_needed gates s.branches s.rows) l.max_multiply_terms) }
     {
         let cells = cells_needed(self.branches, self.stores, self.rows);
         let terms = terms_needed(gates, self.branches, self.rows);
-        (self.branches <= l.max_branches)
+        (self.branches.count() <= l.max_branches)
             & ((cells <= l.max_matrix_cells) & (terms <= l.max_multiply_terms))
     }
 
     // Question 10.
-    pub fn has_room(self, res: u64, work: u64) -> bool
-        requires { Small self }
-        ensures { result ≡ room_for self res work }
+    pub fn has_room(&self, res: u64, work: u64) -> bool
+        ensures { result ≡ room_for self.now res work }
     {
         let needed = result_words(self.stores, self.rows);
         let scratch = work_words(self.branches, self.rows);
@@ -144,21 +219,20 @@ impl Sizes {
     }
 }
 
-// circuit_unitary's limits, but for the qubits and the operations: d rows.
-pub fn is_unitary_within(d: u64, gates: u64, l: Limits) -> bool
-    requires { (d ≤ max_rows) × (gates ≤ max_gates) }
-    ensures { result ≡ leb (unitary_cells d) l.max_matrix_cells && leb (unitary_terms gates d) l.max_multiply_terms }
+// circuit_unitary's limits, but for the qubits and the operations.
+pub fn is_unitary_within(rows: Rows, gates: u64, l: Limits) -> bool
+    requires { gates ≤ max_gates }
+    ensures { result ≡ leb (unitary_cells rows) l.max_matrix_cells && leb (unitary_terms gates rows) l.max_multiply_terms }
 {
-    let cells = unitary_cells(d);
-    let terms = unitary_terms(gates, d);
+    let cells = unitary_cells(rows);
+    let terms = unitary_terms(gates, rows);
     (cells <= l.max_matrix_cells) & (terms <= l.max_multiply_terms)
 }
 
-pub fn has_unitary_room(d: u64, res: u64, work: u64) -> bool
-    requires { d ≤ max_rows }
-    ensures { result ≡ unitary_room d res work }
+pub fn has_unitary_room(rows: Rows, res: u64, work: u64) -> bool
+    ensures { result ≡ unitary_room rows res work }
 {
-    let needed = unitary_result(d);
-    let scratch = unitary_work(d);
+    let needed = unitary_result(rows);
+    let scratch = unitary_work(rows);
     (needed <= res) & (scratch <= work)
 }

@@ -2,4 +2,3 @@ pub mod Profile
 pub mod Questions
 pub mod Call
 pub mod Claims
-pub mod Inner

@@ -7,7 +7,7 @@ use mathlib.Core.List.{List, [], ◌∷◌, ◌++◌, append_assoc}
 use Prim.Native.Nat.{ℕ, suc, ◌+◌, ◌*◌, ◌/◌, ◌%◌, ◌^◌, ◌≤◌}
 use native.Mathlib.Omega.{arith}
 use lib.Dec.{leb, eqb}
-use lib.ListN.{length, get_or}
+use lib.ListN.{length, get_or, take, drop}
 use lib.Pow.{pow_mono}
 use lib.IntN.{ℤ, pos}
 use borrow.Author.Tests.{leb-true}
@@ -112,9 +112,11 @@ module _ (n d : ℕ) (ws : List ℕ) (r w : List ℤ) (acc : Accepted n (gates_o
         ∙ ap (bank_words d) (one-branch n (gates_of ws) acc.unitary)
         ∙ append_assoc (cells (d * d) (λ (i : ℕ). get_or (circuit_unitary n (gates_of ws)) i exact.𝟘)) (store_words []) []
 
-    pub written : {q : List ℤ} → q ≡ fill_words r 0 (d * d * cell_size) (λ (i : ℕ). get_or m (at + i) (pos 0)) → q ≡ with_unitary n ws r
-    written e =
-        e ∙ copied r m (bank_words d (branches n σ (gates_of ws))) (store_words [] ++ []) at (d * d) (λ (i : ℕ). get_or (circuit_unitary n (gates_of ws)) i exact.𝟘) held ran.held
+    -- k words from `at` on, copied
+    pub written : {q : List ℤ} (k : ℕ) → k ≡ d * d * cell_size → q ≡ take k (drop at m) → q ++ drop (d * d * cell_size) r ≡ with_unitary n ws r
+    written k g e =
+        ap (λ (q : List ℤ). q ++ drop (d * d * cell_size) r) e
+        ∙ copied r m (bank_words d (branches n σ (gates_of ws))) (store_words [] ++ []) at (d * d) k (λ (i : ℕ). get_or (circuit_unitary n (gates_of ws)) i exact.𝟘) held ran.held g work_room.0 copy_room
         ∙ ap (λ (k : ℕ). fill r 0 (k * k) (λ (i : ℕ). get_or (circuit_unitary n (gates_of ws)) i exact.𝟘)) dim
 
     pub zeroed : {q : List ℤ} (k : ℕ) → k ≡ 4 * (d * d * cell_size + 2) → q ≡ fill_words m 0 k (λ (i : ℕ). pos 0) → q ≡ with_zeros n w

@@ -1,10 +1,10 @@
 -- `plain_verdict` meets its contract.
-use Rattle.plain.specs.Questions.{plain_verdict}
-use Rattle.c_circuits.proofs.Reported.{judged}
+use mathlib.Core.Path.{ap, ◌∙◌}
+use Rattle.verdict.specs.Verdict.{verdict_number, verdict_index}
 use Rattle.c_plain.proofs.plain_verdict.Goals as goal
 
 pub returns : goal.returns
-returns c =
-    let a = c.args in
-    let all = judged (λ l. plain_verdict a.qubits a.bits a.store.now l a.gates.now a.result_words a.work_words) c.judge_plain_channel-v.ensures (c.report.ensures.value, c.report.ensures.index_after)
-    c.read_limits-l.ensures in record { value = all.0; index_after = all.1 }
+returns c = record {
+  value = rw c.read_limits-l.ensures at (c.report.ensures.value ∙ ap verdict_number c.judge_plain_channel-v.ensures);
+  index_after = rw c.read_limits-l.ensures at (c.report.ensures.index_after ∙ ap verdict_index c.judge_plain_channel-v.ensures);
+}

@@ -1,5 +1,7 @@
 -- The first gate that clashes, as the loops find it.
-use Rattle.std.specs.Prelude.{Bool, false, cond, ◌&&◌, ◌||◌, List, ℕ, zero, suc, ◌+◌, ◌-◌, ◌*◌, eqb}
+use Rattle.std.specs.Prelude.{Bool, false, cond, ◌&&◌, ◌||◌, List, ℕ, zero, suc, ◌+◌, ◌-◌, ◌*◌, eqb, Ok, Err}
+use Rattle.verdict.specs.Questions.{Verdict}
+use Rattle.verdict.specs.declared.Refusal.TheVariants.{ClashAt}
 use Rattle.gate.specs.Gate.{gate_size, gate_at, share}
 use Rattle.circuit.specs.Layers.{layer_of}
 
@@ -8,10 +10,10 @@ abbrev pub any_from : ℕ → ℕ → (ℕ → Bool) → Bool
 any_from from zero p = false
 any_from from (suc n) p = p (from + n) || any_from from n p
 
--- the first of the n numbers from i on at which p holds; the number after them where it holds at none
-abbrev pub first_from : ℕ → ℕ → (ℕ → Bool) → ℕ
-first_from i zero p = i
-first_from i (suc n) p = cond (p i) i (first_from (suc i) n p)
+-- a refusal that names the first of the n numbers from i on at which p holds; acceptance where it holds at none
+abbrev pub first_clash : ℕ → ℕ → (ℕ → Bool) → Verdict
+first_clash i zero p = Ok tt
+first_clash i (suc n) p = cond (p i) (Err (ClashAt i)) (first_clash (suc i) n p)
 
 -- gates i and j of a list of words share
 abbrev pub sharing : List ℕ → ℕ → ℕ → Bool

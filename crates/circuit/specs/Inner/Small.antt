@@ -1,6 +1,5 @@
 -- The largest sizes that any limits allow.
-use Rattle.std.specs.Prelude.{ℕ, ◌≤◌}
-use Rattle.circuit.specs.declared.sizes.Sizes.{Sizes}
+use Rattle.std.specs.Prelude.{ℕ}
 
 -- six splits make 64 branches
 abbrev pub max_splits : ℕ
@@ -18,8 +17,3 @@ max_rows = 32
 
 abbrev pub max_gates : ℕ
 max_gates = 1024
-
-pub record Small (s : Sizes) : Type 0 where
-  pub branches_small : s.branches ≤ max_branches
-  pub stores_small : s.stores ≤ max_branches
-  pub rows_small : s.rows ≤ max_rows

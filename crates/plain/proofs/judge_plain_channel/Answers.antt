@@ -13,9 +13,10 @@ pub returns-in_err-judge_profile : goal.returns-in_err-judge_profile
 returns-in_err-judge_profile c =
     let a = c.args in
     returned _ c.from_residual.ensures.1
-    ∙ refused tt tt (plain_word_questions a.n a.bits a.l a.words.now) (number_questions (footprint_of a.bits (gates_of a.words.now)) a.n a.bits a.store.now a.l a.res a.work) c.in_err-judge_profile.ensures
+    ∙ refused tt tt (plain_word_questions a.circuit.qubits a.circuit.bits a.l a.circuit.gates.now)
+    (number_questions (footprint_of a.circuit.bits (gates_of a.circuit.gates.now)) a.circuit.qubits a.circuit.bits a.circuit.store.now a.l a.res a.work) c.in_err-judge_profile.ensures
 
 pub returns : goal.returns
 returns c =
     let a = c.args in
-    c.judge_channel.ensures ∙ sym (as_channel a.n a.bits a.l a.words.now a.store.now a.res a.work (ap is_ok (sym c.in_ok-judge_profile.ensures)))
+    c.judge_channel.ensures ∙ sym (as_channel a.circuit.qubits a.circuit.bits a.l a.circuit.gates.now a.circuit.store.now a.res a.work (ap is_ok (sym c.in_ok-judge_profile.ensures)))

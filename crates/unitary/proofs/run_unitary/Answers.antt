@@ -11,25 +11,17 @@ run_gates-at-requires c =
     let s = c.args in
     runs s.qubits c.power-d.result s.gates.now s.res.now s.work.now c.requires c.power-d.ensures _ refl
 
-pub overflow_mul-d : goal.overflow_mul-d
-overflow_mul-d c =
+pub overflow_mul-words : goal.overflow_mul-words
+overflow_mul-words c =
     let s = c.args in
     let d = c.power-d.result in
     omega (arith, square_small d (dim_small s.qubits d s.gates.now s.res.now s.work.now c.requires c.power-d.ensures))
 
-pub overflow_mul-d-2 : goal.overflow_mul-d-2
-overflow_mul-d-2 c =
+pub overflow_mul-words-2 : goal.overflow_mul-words-2
+overflow_mul-words-2 c =
     let s = c.args in
     let d = c.power-d.result in
     omega (arith, square_small d (dim_small s.qubits d s.gates.now s.res.now s.work.now c.requires c.power-d.ensures))
-
-pub copy_out-requires : goal.copy_out-requires
-copy_out-requires c =
-    let s = c.args in
-    let d = c.power-d.result in (
-      (work_room s.qubits d s.gates.now s.res.now s.work.now c.requires c.power-d.ensures _ refl _ c.run_gates-at.result c.run_gates-at.ensures).0,
-      copy_room s.qubits d s.gates.now s.res.now s.work.now c.requires c.power-d.ensures,
-    )
 
 pub branch_size-requires : goal.branch_size-requires
 branch_size-requires c =
@@ -53,7 +45,7 @@ returns c =
     let s = c.args in
     let d = c.power-d.result in (
       written s.qubits d s.gates.now s.res.now s.work.now c.requires c.power-d.ensures _ refl _ c.run_gates-at.result c.run_gates-at.ensures
-          c.copy_out.ensures,
+          _ (omega arith) c.copy_from_slice.ensures.after,
       zeroed s.qubits d s.gates.now s.res.now s.work.now c.requires c.power-d.ensures _ refl _ c.run_gates-at.result c.run_gates-at.ensures
           (4 * c.branch_size.result) (ap (λ (k : ℕ). 4 * k) c.branch_size.ensures) c.clear.ensures,
     )

@@ -1,19 +1,27 @@
--- The ends decide, then the first clash.
+-- The ends decide, then the layers one by one.
 use mathlib.Core.Path.{sym, ◌∙◌}
-use Rattle.circuit.proofs.Firing.{ends_bad, clash-at, no_clash}
+use native.Mathlib.Omega.{arith}
+use Rattle.verdict.proofs.Questions.{returned}
+use Rattle.circuit.proofs.Firing.{rises, ends-inside, clash-found, passing_more, passing_all, ends_bad, by_clash}
 use Rattle.circuit.proofs.layers.judge_layers.Goals as goal
 
 pub returns-then-not-are_closing : goal.returns-then-not-are_closing
-returns-then-not-are_closing c =
-    let a = c.args in
-    ends_bad a.words.now a.ends.now (sym c.are_closing.ensures ∙ c.if-not-are_closing.true)
+returns-then-not-are_closing c = ends_bad c.args.words.now c.args.ends.now (sym c.are_closing.ensures ∙ c.if-not-are_closing.true)
 
-pub returns-then-i-count : goal.returns-then-i-count
-returns-then-i-count c =
-    let a = c.args in
-    clash-at a.words.now a.ends.now (sym c.are_closing.ensures ∙ c.if-not-are_closing.false) c.first_clash-i.ensures c.if-i-count.true
+pub judge_layer-requires : goal.judge_layer-requires
+judge_layer-requires c =
+    let h = c.loop-e.invariant in
+    let l = c.loop-e-test.true in
+    (omega (arith, rises h l), ends-inside h l)
+
+pub returns-in_err-judge_layer : goal.returns-in_err-judge_layer
+returns-in_err-judge_layer c =
+    returned _ c.from_residual.ensures.1 ∙ clash-found c.loop-e.invariant c.loop-e-test.true c.in_err-judge_layer.ensures
+    ∙ sym (by_clash c.args.words.now c.args.ends.now (sym c.are_closing.ensures ∙ c.if-not-are_closing.false))
+
+pub loop-e-preserved : goal.loop-e-preserved
+loop-e-preserved c = passing_more c.loop-e.invariant c.loop-e-test.true c.in_ok-judge_layer.ensures
 
 pub returns : goal.returns
 returns c =
-    let a = c.args in
-    no_clash a.words.now a.ends.now (sym c.are_closing.ensures ∙ c.if-not-are_closing.false) c.first_clash-i.ensures c.if-i-count.false
+    sym (by_clash c.args.words.now c.args.ends.now (sym c.are_closing.ensures ∙ c.if-not-are_closing.false) ∙ passing_all c.loop-e.invariant c.loop-e-test.false)

@@ -9,9 +9,9 @@ use Rattle.circuit.proofs.questions.judge_channel.Goals as goal
 pub returns-in_err-judge_circuit : goal.returns-in_err-judge_circuit
 returns-in_err-judge_circuit c =
     let a = c.args in
-    returned _ c.from_residual.ensures.1 ∙ refused_alike (total splits (gates_of a.words.now)) tt (channel_questions a.n a.bits a.store.now a.l a.words.now a.res a.work) c.in_err-judge_circuit.ensures
+    returned _ c.from_residual.ensures.1 ∙ refused_alike (total splits (gates_of a.circuit.gates.now)) tt (channel_questions a.circuit.qubits a.circuit.bits a.circuit.store.now a.l a.circuit.gates.now a.res a.work) c.in_err-judge_circuit.ensures
 
 pub returns : goal.returns
 returns c =
     let a = c.args in
-    handed (total splits (gates_of a.words.now)) tt (channel_questions a.n a.bits a.store.now a.l a.words.now a.res a.work) c.in_ok-judge_circuit.ensures
+    handed (total splits (gates_of a.circuit.gates.now)) tt (channel_questions a.circuit.qubits a.circuit.bits a.circuit.store.now a.l a.circuit.gates.now a.res a.work) c.in_ok-judge_circuit.ensures

@@ -11,12 +11,12 @@ pub returns-in_err-judge_words : goal.returns-in_err-judge_words
 returns-in_err-judge_words c =
     let a = c.args in
     returned _ c.from_residual.ensures.1
-    ∙ refused tt (total splits (gates_of a.words.now)) (word_questions a.n a.bits a.l a.words.now)
-    (number_questions (footprint_of a.bits (gates_of a.words.now)) a.n a.bits a.store.now a.l a.res a.work) c.in_err-judge_words.ensures
+    ∙ refused tt (total splits (gates_of a.circuit.gates.now)) (word_questions a.circuit.qubits a.circuit.bits a.l a.circuit.gates.now)
+    (number_questions (footprint_of a.circuit.bits (gates_of a.circuit.gates.now)) a.circuit.qubits a.circuit.bits a.circuit.store.now a.l a.res a.work) c.in_err-judge_words.ensures
 
 pub returns : goal.returns
 returns c =
     let a = c.args in
     c.judge_counted.ensures
-    ∙ passed tt (total splits (gates_of a.words.now)) (word_questions a.n a.bits a.l a.words.now)
-    (number_questions (footprint_of a.bits (gates_of a.words.now)) a.n a.bits a.store.now a.l a.res a.work) c.in_ok-judge_words.ensures
+    ∙ passed tt (total splits (gates_of a.circuit.gates.now)) (word_questions a.circuit.qubits a.circuit.bits a.l a.circuit.gates.now)
+    (number_questions (footprint_of a.circuit.bits (gates_of a.circuit.gates.now)) a.circuit.qubits a.circuit.bits a.circuit.store.now a.l a.res a.work) c.in_ok-judge_words.ensures

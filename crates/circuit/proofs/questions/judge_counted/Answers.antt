@@ -16,13 +16,13 @@ use Rattle.circuit.proofs.questions.judge_counted.Goals as goal
 pub judge_numbers-requires : goal.judge_numbers-requires
 judge_numbers-requires c =
     let a = c.args in
-    let low = words-low a.n a.bits a.l a.words.now c.requires in
-    let e : c.of-f.result.gates ≡ length a.words.now / gate_size = ap (λ (f : Footprint). f.gates) c.of-f.ensures ∙ gates-length a.words.now 0 (length a.words.now / gate_size) in
+    let low = words-low a.circuit.qubits a.circuit.bits a.l a.circuit.gates.now c.requires in
+    let e : c.of-f.result.gates ≡ length a.circuit.gates.now / gate_size = ap (λ (f : Footprint). f.gates) c.of-f.ensures ∙ gates-length a.circuit.gates.now 0 (length a.circuit.gates.now / gate_size) in
     (low.0, omega (arith, low.1))
 
 pub returns-in_err-judge_numbers : goal.returns-in_err-judge_numbers
 returns-in_err-judge_numbers c =
     let a = c.args in
     returned _ c.from_residual.ensures.1
-    ∙ refused_alike tt (total splits (gates_of a.words.now)) (number_questions c.of-f.result a.n a.bits a.store.now a.l a.res a.work) c.in_err-judge_numbers.ensures
-    ∙ ap (λ (f : Footprint). granted (total splits (gates_of a.words.now)) (number_questions f a.n a.bits a.store.now a.l a.res a.work)) c.of-f.ensures
+    ∙ refused_alike tt (total splits (gates_of a.circuit.gates.now)) (number_questions c.of-f.result a.circuit.qubits a.circuit.bits a.circuit.store.now a.l a.res a.work) c.in_err-judge_numbers.ensures
+    ∙ ap (λ (f : Footprint). granted (total splits (gates_of a.circuit.gates.now)) (number_questions f a.circuit.qubits a.circuit.bits a.circuit.store.now a.l a.res a.work)) c.of-f.ensures

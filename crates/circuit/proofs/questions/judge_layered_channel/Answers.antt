@@ -9,9 +9,10 @@ use Rattle.circuit.proofs.questions.judge_layered_channel.Goals as goal
 pub returns-in_err-judge_layered : goal.returns-in_err-judge_layered
 returns-in_err-judge_layered c =
     let a = c.args in
-    returned _ c.from_residual.ensures.1 ∙ refused_alike (total splits (gates_of a.words.now)) tt (layered_questions a.n a.bits a.store.now a.l a.words.now a.ends.now a.res a.work) c.in_err-judge_layered.ensures
+    returned _ c.from_residual.ensures.1
+    ∙ refused_alike (total splits (gates_of a.circuit.gates.now)) tt (layered_questions a.circuit.qubits a.circuit.bits a.circuit.store.now a.l a.circuit.gates.now a.ends.now a.res a.work) c.in_err-judge_layered.ensures
 
 pub returns : goal.returns
 returns c =
     let a = c.args in
-    handed (total splits (gates_of a.words.now)) tt (layered_questions a.n a.bits a.store.now a.l a.words.now a.ends.now a.res a.work) c.in_ok-judge_layered.ensures
+    handed (total splits (gates_of a.circuit.gates.now)) tt (layered_questions a.circuit.qubits a.circuit.bits a.circuit.store.now a.l a.circuit.gates.now a.ends.now a.res a.work) c.in_ok-judge_layered.ensures

@@ -24,12 +24,12 @@ pub returns-then-not-has_unitary_room : goal.returns-then-not-has_unitary_room
 returns-then-not-has_unitary_room c =
     let a = c.args in
     last_answers a.n a.words.now a.res a.work c.of.ensures (le-leb _ _ c.if-of-gt-MAX_WEIGHT.false)
-    (room-found a.n a.words.now a.res a.work c.requires.0 c.has_unitary_room.ensures c.if-not-has_unitary_room.true)
+    (room-found a.n a.words.now a.res a.work c.requires c.has_unitary_room.ensures c.if-not-has_unitary_room.true)
     ∙ passed tt tt (gates_questions Unitary a.n 0 (gates_of a.words.now)) (last_questions a.n a.words.now a.res a.work) c.in_ok-judge_gates.ensures
 
 pub returns : goal.returns
 returns c =
     let a = c.args in
     last_answers a.n a.words.now a.res a.work c.of.ensures (le-leb _ _ c.if-of-gt-MAX_WEIGHT.false)
-    (room-found a.n a.words.now a.res a.work c.requires.0 c.has_unitary_room.ensures c.if-not-has_unitary_room.false)
+    (room-found a.n a.words.now a.res a.work c.requires c.has_unitary_room.ensures c.if-not-has_unitary_room.false)
     ∙ passed tt tt (gates_questions Unitary a.n 0 (gates_of a.words.now)) (last_questions a.n a.words.now a.res a.work) c.in_ok-judge_gates.ensures

@@ -1,8 +1,0 @@
--- The invariant: the gates passed so far share with none before them, so the rest decides.
-use mathlib.Core.Path.{◌≡◌}
-use Prim.Native.Nat.{◌-◌}
-use Rattle.circuit.specs.Inner.Firing.{first_from, shares_from}
-use Rattle.circuit.proofs.layers.clash_in.Given as goal
-
-abbrev pub invariant-loop-i : goal.invariant-loop-i
-invariant-loop-i l = first_from l.start (l.end - l.start) (shares_from l.words l.start) ≡ first_from l.i (l.end - l.i) (shares_from l.words l.start)
