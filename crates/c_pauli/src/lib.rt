@@ -10,7 +10,9 @@ ghost use Rattle.pauli.specs.Call as pauli;
 use c_circuits::read_limits;
 use c_words::report;
 use pauli_judge::questions::judge_pauli;
+use pauli_words::Program;
 
+// Kept: each call builds its program from what C hands over, calls and reports; a closure for the call between would be no plainer.
 // The questions of pauli_channel alone, for result and work buffers of these lengths: the verdict's number, and its index in `index`.
 pub fn pauli_verdict(
     qubits: u32,
@@ -26,17 +28,15 @@ pub fn pauli_verdict(
     ensures value { result ≡ verdict_number (pauli_verdict qubits bits store.now (limits_of limits.now) nodes.now operations.now result_words work_words) }
     ensures index_after { index.new ≡ verdict_index (pauli_verdict qubits bits store.now (limits_of limits.now) nodes.now operations.now result_words work_words) }
 {
-    let l = read_limits(limits);
-    let answer = judge_pauli(
+    let program = Program {
         qubits,
         bits,
         store,
         nodes,
         operations,
-        l,
-        result_words as u64,
-        work_words as u64,
-    );
+    };
+    let l = read_limits(limits);
+    let answer = judge_pauli(program, l, result_words as u64, work_words as u64);
     report(&answer, index)
 }
 
@@ -57,7 +57,14 @@ pub fn pauli_channel(
     ensures res_after { res.new ≡ pauli.result_after qubits bits store.now (limits_of limits.now) nodes.now operations.now res.old work.old }
     ensures work_after { work.new ≡ pauli.work_after qubits bits store.now (limits_of limits.now) nodes.now operations.now res.old work.old }
 {
+    let program = Program {
+        qubits,
+        bits,
+        store,
+        nodes,
+        operations,
+    };
     let l = read_limits(limits);
-    let answer = pauli::call::pauli_channel(qubits, bits, store, nodes, operations, l, res, work);
+    let answer = pauli::call::pauli_channel(program, l, res, work);
     report(&answer, index)
 }

@@ -1,5 +1,5 @@
 -- The branches of an accepted program: their numbers are small, their stores have m bits each, and their channel fits the result.
-use mathlib.Core.Path.{◌≡◌, subst}
+use mathlib.Core.Path.{subst}
 use mathlib.Core.List.{List}
 use Prim.Native.Nat.{ℕ, ◌^◌, ◌≤◌, min}
 use lib.ListN.{length}

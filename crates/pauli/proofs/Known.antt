@@ -1,32 +1,32 @@
 -- What acceptance says of a program holds.
 use Rattle.std.specs.Prelude.{is_ok}
-use mathlib.Core.Path.{◌≡◌, refl, sym, ◌∙◌, subst}
-use mathlib.Core.Bool.{Bool, true, ◌&&◌}
-use mathlib.Core.List.{List, [], ◌∷◌, ◌++◌}
-use Prim.Native.Nat.{ℕ, zero, suc, ◌+◌, ◌*◌, ◌/◌, ◌%◌, ◌^◌, ◌≤◌, ◌<◌, min}
+use mathlib.Core.Path.{◌≡◌, sym, ◌∙◌}
+use mathlib.Core.Bool.{true, ◌&&◌}
+use mathlib.Core.List.{List}
+use Prim.Native.Nat.{ℕ, ◌+◌, ◌*◌, ◌/◌, ◌%◌, ◌^◌, ◌≤◌, min}
 use native.Mathlib.Omega.{arith}
 use lib.Dec.{eqb, leb, ltb}
 use lib.Pow.{pow_pos}
 use lib.ListN.{length}
 use lib.IntN.{ℤ}
 use borrow.Author.Tests.{leb-true}
-use Rattle.algebra.specs.Lists.{All, every}
+use Rattle.algebra.specs.Lists.{every}
 use Rattle.algebra.proofs.Tests.{and_split}
-use Rattle.algebra.proofs.Lists.{all_imp, all_map, all_append}
+use Rattle.algebra.proofs.Lists.{all_imp}
 use Rattle.verdict.specs.Questions.{first_no}
 use Rattle.verdict.proofs.Questions.{yes, every_append, all_yes}
 use Rattle.store.specs.Store.{store_fits}
 use Rattle.store.proofs.Bytes.{fits_word}
-use Rattle.gate.specs.Gate.{Gate, gate_size, gates_of, max_weight}
+use Rattle.gate.specs.Gate.{gate_size, gates_of, max_weight}
 use Rattle.circuit.specs.declared.limits.Limits.{Limits}
 use Rattle.circuit.specs.declared.sizes.Sizes.{Sizes}
 use Rattle.circuit.specs.Limits.{ceilings, matrix_ceilings, branch_ceilings}
 use Rattle.circuit.specs.Sizes.{result_words}
 use Rattle.circuit.specs.Questions.{sizes_of}
 use Rattle.judge.proofs.Accepted.{four}
-use Rattle.pauli_nodes.specs.Nodes.{Reference, hermitian, axis_matrix}
-use Rattle.pauli_nodes.specs.Operations.{Operation, axis, splits}
-use Rattle.pauli_words.specs.Words.{nodes_of, operation_of, operation_formed, operations_of}
+use Rattle.pauli_nodes.specs.Nodes.{hermitian, axis_matrix}
+use Rattle.pauli_nodes.specs.Operations.{Operation, axis}
+use Rattle.pauli_words.specs.Words.{nodes_of, operations_of}
 use Rattle.pauli_words.specs.Inner.Masks.{max_nodes}
 use Rattle.pauli_words.specs.Questions.{number_of, axis_fits, nodes_questions, operations_questions}
 use Rattle.pauli_judge.specs.declared.footprint.ProgramFootprint.{ProgramFootprint}
@@ -34,32 +34,9 @@ use Rattle.pauli_judge.specs.Footprint.{named, program_footprint}
 use Rattle.pauli_judge.specs.Sizes.{program_cells}
 use Rattle.pauli_judge.specs.Questions.{max_listed, few_operations, program_within, program_room, program_word_questions, program_number_questions, pauli_questions}
 use Rattle.pauli_judge.proofs.Accepted.{nodes-placed, axes_fit, words_known}
-use Rattle.pauli_program.specs.Claims.{Eighths}
-use Rattle.pauli_run.proofs.Forms.{rotates, rotates_if}
 use Rattle.pauli.specs.Call.{accepts}
 use Rattle.pauli.specs.Known.{Known, AcceptedKnown}
-use Rattle.pauli.proofs.Operations.{halves}
-
--- eighths are below 8 where the words are well formed
-module _ (g : Gate) (h : operation_formed g ≡ true) where
-  eighths : Eighths (operation_of g)
-  eighths = go g.kind refl
-    where
-      at : (m : ℕ) → g.kind ≡ m → Eighths (operation_of (record { kind = m; a = g.a; b = g.b; c = g.c; k = g.k })) → Eighths (operation_of g)
-      at m e k = subst (λ (j : ℕ). Eighths (operation_of (record { kind = j; a = g.a; b = g.b; c = g.c; k = g.k }))) (sym e) k
-
-      go : (m : ℕ) → g.kind ≡ m → Eighths (operation_of g)
-      go zero e = at 0 e (rotates g h e)
-      go (suc zero) e = at 1 e (rotates_if g h e)
-      go (suc (suc zero)) e = at 2 e tt
-      go (suc (suc (suc zero))) e = at 3 e tt
-      go (suc (suc (suc (suc m)))) e = at (suc (suc (suc (suc m)))) e tt
-
-operations_formed : (fits : Reference → Bool) (m made i : ℕ) (gs : List Gate) → every yes (operations_questions fits m made i gs) ≡ true → All (λ (g : Gate). operation_formed g ≡ true) gs
-operations_formed fits m made i [] e = tt
-operations_formed fits m made i (g ∷ gs) e =
-    let (a, b) = halves fits m made i g gs e in
-    ((and_split (operation_formed g) _ a).0, operations_formed fits m (made + splits (operation_of g)) (suc i) gs b)
+use Rattle.pauli.proofs.Operations.{all_eighths}
 
 -- what the questions of the words answered
 pub record Listed (n m : ℕ) (ns os : List ℕ) : Type 0 where
@@ -112,7 +89,7 @@ module _ (n m : ℕ) (σ : List ℕ) (l : Limits) (ns os : List ℕ) (result wor
             placed = nodes-placed n 0 (gates_of ns) nodes_yes;
             axes = all_imp (λ (o : Operation). axis_fits n (nodes_of ns) (axis o) ≡ true) (λ (o : Operation). hermitian n (axis_matrix n (nodes_of ns) (axis o)) ≡ true) (operations_of os)
                 (λ o e. (and_split (ltb (axis o).node (number_of n (length (nodes_of ns)))) _ e).1) fit;
-            eighths = all_map (λ (g : Gate). operation_formed g ≡ true) Eighths operation_of eighths (gates_of os) (operations_formed (axis_fits n (nodes_of ns)) m 0 0 (gates_of os) lists.1);
+            eighths = all_eighths (axis_fits n (nodes_of ns)) m 0 0 (gates_of os) lists.1;
           };
           qubit_count =
               four n sizes.stores ((3 * sizes.branches + f.nodes + 8) * (2 ^ n) ^ 2) l.max_matrix_cells

@@ -2,13 +2,14 @@
 use Rattle.std.specs.Prelude.{is_ok}
 use mathlib.Core.Path.{◌≡◌, sym, ap, ◌∙◌, subst, subst₂}
 use mathlib.Core.Bool.{true, false}
-use mathlib.Core.List.{List, []}
+use mathlib.Core.List.{List}
 use Prim.Native.Nat.{ℕ, zero, suc, ◌+◌, ◌*◌, ◌/◌, ◌^◌, ◌≤◌, ◌<◌}
 use native.Mathlib.Nat.{mul_comm, mul_assoc, mul-add, add-mul, mul-le-mul, le_refl, le_trans}
 use native.Mathlib.Decide.{dec_lt}
 use native.Mathlib.Omega.{arith}
-use lib.Pow.{pow_mono, pow_pos}
-use lib.ListN.{length, replicate, length-map}
+use lib.Pow.{pow_pos}
+use lib.ListN.{length, replicate, take, length-map}
+use Rattle.std.proofs.lemmas.List.{length-take-le}
 use lib.IntN.{ℤ, pos}
 use Rattle.algebra.specs.Lists.{All, total}
 use Rattle.algebra.specs.Words.{fill_words}
@@ -18,10 +19,10 @@ use Rattle.verdict.specs.Questions.{first_no}
 use Rattle.gate.specs.Gate.{gate_size, gate_at, gates_of}
 use Rattle.gate.proofs.Listed.{gates-length}
 use Rattle.kraus.specs.Branch.{Branch}
-use Rattle.kraus.specs.Blocks.{survivors, stores}
+use Rattle.kraus.specs.Blocks.{survivors}
 use Rattle.branches.specs.Inner.Bank.{row_size, bank_words, Holds}
 use Rattle.circuit.specs.declared.limits.Limits.{Limits}
-use Rattle.circuit.specs.Inner.Small.{max_splits, max_branches, max_rows}
+use Rattle.circuit.specs.Inner.Small.{max_splits}
 use Rattle.circuit.proofs.Products.{square_is}
 use Rattle.collect.specs.Inner.Bank.{bank_in, Deliverable}
 use Rattle.collect.specs.Delivered.{branches_words, overwritten}
@@ -29,13 +30,14 @@ use Rattle.collect.proofs.Held.{Held, bank_is, deliverable}
 use Rattle.judge.proofs.Accepted.{words_long}
 use Rattle.judge.proofs.Running.{zeroed_is, at_most, chosen, unchosen}
 use Rattle.pauli_nodes.specs.Nodes.{Node}
-use Rattle.pauli_nodes.specs.Operations.{Operation, bits, splits}
-use Rattle.pauli_nodes.specs.Inner.Masks.{node_masks}
+use Rattle.pauli_nodes.specs.Operations.{axis, Operation, bits, splits}
+use Rattle.pauli_nodes.specs.Inner.Masks.{Mask, ref_mask, node_masks}
 use Rattle.pauli_words.specs.Words.{nodes_of, operation_of, operations_of}
 use Rattle.pauli_words.specs.Questions.{number_of, nodes_questions}
-use Rattle.pauli_words.specs.Inner.Masks.{masks_in, max_nodes}
+use Rattle.pauli_words.specs.Inner.Masks.{max_nodes}
 use Rattle.pauli_judge.specs.Footprint.{named}
 use Rattle.pauli_judge.specs.Sizes.{program_work}
+use Rattle.pauli_judge.specs.Questions.{max_listed}
 use Rattle.pauli_program.specs.Program.{program_branches}
 use Rattle.pauli_program.proofs.Counting.{program_count, program_square}
 use Rattle.pauli_run.specs.Inner.Run.{run_size, Runs, Ran}
@@ -43,7 +45,7 @@ use Rattle.pauli.specs.Delivered.{program_words}
 use Rattle.pauli.specs.Call.{worked, accepts, result_after, work_after}
 use Rattle.pauli.specs.Known.{Known}
 use Rattle.pauli.specs.Inner.Accepted.{Accepted}
-use Rattle.pauli.proofs.Operations.{operation_fits, operation_mask, operation_placed, some-named}
+use Rattle.pauli.proofs.Operations.{operation_fits, operation_placed, some-named}
 use Rattle.pauli.proofs.Known.{Listed, accepted_known, accepted_listed}
 use Rattle.pauli.proofs.Branches.{enough_all, branch-words, channel_room}
 
@@ -102,14 +104,11 @@ module _ {n m : ℕ} {σ ns os : List ℕ} {r w : List ℤ} (a : Accepted n m σ
   pub few-splits : total splits (operations_of os) ≤ max_splits
   few-splits = at_most (total splits us) known.branch_count
 
-  pub few-branches : 2 ^ total splits (operations_of os) ≤ max_branches
-  few-branches = known.branch_count
-
-  pub few-rows : 2 ^ n ≤ max_rows
-  few-rows = pow_mono {i = n} {j = 5} (omega (arith, few_qubits))
-
   pub few-named : named n (operations_of os) ≤ max_nodes
   few-named = listed.named_few
+
+  pub few-listed : length ns / gate_size ≤ max_listed
+  few-listed = listed.few
 
   pub few-nodes : number_of n (length ns / gate_size) ≤ max_nodes
   few-nodes = omega (arith, listed.few, known.qubit_count)
@@ -126,8 +125,9 @@ module _ {n m : ℕ} {σ ns os : List ℕ} {r w : List ℤ} (a : Accepted n m σ
     run_room : run_size (length os / gate_size) d k ≤ worked n m os
     run_room = subst₂ (λ (d k : ℕ). run_size (length os / gate_size) d k ≤ worked n m os) (sym e) (sym f) fits
 
-    pub runs : {ms : List ℕ} → masks_in ms (number_of n (length ns / gate_size)) ≡ node_masks n (nodes_of ns) → number_of n (length ns / gate_size) ≤ length ms → Runs w os ms σ n d k (nodes_of ns)
-    runs {ms} held long = record {
+    pub runs : (ms : List Mask) {c : ℕ} → c ≡ number_of n (length ns / gate_size) → number_of n (length ns / gate_size) ≤ length ms
+        → take (number_of n (length ns / gate_size)) ms ≡ node_masks n (nodes_of ns) → Runs w os (take c ms) σ n d k (nodes_of ns)
+    runs ms {c} g room held = record {
       sound = known.sound;
       dim = e;
       light = known.light;
@@ -136,9 +136,9 @@ module _ {n m : ℕ} {σ ns os : List ℕ} {r w : List ℤ} (a : Accepted n m σ
       few = omega (arith, few-splits);
       banked = f;
       room = le_trans run_room known.work_room;
-      fits = λ i h. operation_fits n m ns os ms listed.operations_yes held long i h (omega (arith, few-splits));
-      masks = λ i h. operation_mask n m ns os ms listed.operations_yes held long i h;
-      placed = λ i h. subst (λ (k : ℕ). All (λ (b : ℕ). b < k) (bits (operation_of (gate_at os (i * gate_size))))) (sym known.byte_count) (operation_placed n m ns os ms listed.operations_yes held long i h);
+      fits = λ i h. operation_fits n m ns os listed.operations_yes i h (omega (arith, g, length-take-le c ms (omega arith))) (omega (arith, few-splits));
+      masks = λ i h. ap (λ (ms : List Mask). ref_mask ms (axis (operation_of (gate_at os (i * gate_size))))) (ap (λ (j : ℕ). take j ms) g ∙ held);
+      placed = λ i h. subst (λ (k : ℕ). All (λ (b : ℕ). b < k) (bits (operation_of (gate_at os (i * gate_size))))) (sym known.byte_count) (operation_placed n m ns os listed.operations_yes i h);
     }
 
     -- ---- after the run: b is the work buffer, and the branches lie at `at`

@@ -1,4 +1,5 @@
 // pauli_channel: its questions, then the program run and its channel delivered.
+// Kept (together): limits and buffers, as in judge::call.
 ghost use Rattle.std.specs.Prelude.{◌≡◌, replicate, pos};
 ghost use Rattle.collect.specs.Delivered.{overwritten};
 ghost use Rattle.pauli_words.specs.Words.{nodes_of, operations_of};
@@ -8,88 +9,57 @@ ghost use Rattle.pauli.specs.Delivered.{program_words};
 ghost use Rattle.pauli.specs.Call.{worked, verdict_of, result_after, work_after};
 ghost use Rattle.pauli.specs.Inner.Accepted.{Accepted, Runnable};
 
+use branches::bank::Bank;
 use circuit::limits::Limits;
 use circuit::sizes::power;
 use collect::deliver;
 use matrix::words::clear;
 use pauli_judge::footprint::ProgramFootprint;
 use pauli_judge::questions::judge_runnable;
-use pauli_judge::sizes::work_words;
+use pauli_judge::sizes::ProgramSizes;
 use pauli_run::run::run_operations;
-use pauli_words::MAX_NODES;
+use pauli_words::masks::Mask;
 use pauli_words::nodes::judge_nodes;
+use pauli_words::{MAX_NODES, Program};
 use verdict::Verdict;
 
 // Run an accepted program on so many branches of d rows; answers where the last bank lies.
-fn run_program(
-    work: &mut [i64],
-    qubits: u32,
-    store: &[u8],
-    nodes: &[u32],
-    operations: &[u32],
-    d: usize,
-    banks: usize,
-) -> usize
-    requires { Runnable qubits store.now nodes.now operations.now work.old d banks }
-    ensures { Ran work.old work.new operations.now store.now qubits d banks result (nodes_of nodes.now) }
+fn run_program(work: &mut [i64], program: Program, d: usize, banks: usize) -> usize
+    requires { Runnable program.qubits program.store.now program.nodes.now program.operations.now work.old d banks }
+    ensures { let p = program.entry in Ran work.old work.new p.operations.now p.store.now p.qubits d banks result (nodes_of p.nodes.now) }
 {
-    let mut masks = [0u32; MAX_NODES];
+    let mut masks = [Mask::identity(); MAX_NODES];
     // The nodes are accepted: only their mask forms are wanted here.
-    let _ = judge_nodes(nodes, qubits, &mut masks);
-    run_operations(work, operations, &masks, store, qubits, d, banks)
+    let _ = judge_nodes(program.nodes, program.qubits, &mut masks);
+    run_operations(work, program, &masks[..program.node_count()], d, banks)
 }
 
 // Run an accepted program that asks for so much, and write its channel; the words of `work` that the questions ask for end as zero.
-fn run_and_deliver(
-    f: ProgramFootprint,
-    qubits: u32,
-    bits: u32,
-    store: &[u8],
-    nodes: &[u32],
-    operations: &[u32],
-    res: &mut [i64],
-    work: &mut [i64],
-)
-    requires { (f ≡ program_footprint qubits bits (operations_of operations.now)) × Accepted qubits bits store.now nodes.now operations.now res.old work.old }
-    ensures res_after { res.new ≡ overwritten (program_words qubits bits store.now (nodes_of nodes.now) (operations_of operations.now)) res.old }
-    ensures work_after { work.new ≡ overwritten (replicate (worked qubits bits operations.now) (pos 0)) work.old }
+fn run_and_deliver(f: ProgramFootprint, program: Program, res: &mut [i64], work: &mut [i64])
+    requires { (f ≡ program_footprint program.qubits program.bits (operations_of program.operations.now)) × Accepted program.qubits program.bits program.store.now program.nodes.now program.operations.now res.old work.old }
+    ensures res_after { let p = program.entry in res.new ≡ overwritten (program_words p.qubits p.bits p.store.now (nodes_of p.nodes.now) (operations_of p.operations.now)) res.old }
+    ensures work_after { let p = program.entry in work.new ≡ overwritten (replicate (worked p.qubits p.bits p.operations.now) (pos 0)) work.old }
 {
-    let counts = f.counts;
-    let rows = power(qubits as u64);
-    let branches = power(counts.splits);
-    let d = rows as usize;
-    let banks = branches as usize;
-    let at = run_program(work, qubits, store, nodes, operations, d, banks);
-    deliver(res, work, at, d, bits, banks);
-    let used = work_words(f.nodes, branches, rows) as usize;
+    let d = power(program.qubits as u64) as usize;
+    let banks = power(f.counts.splits) as usize;
+    let at = run_program(work, program, d, banks);
+    let bank = Bank {
+        at,
+        d,
+        count: banks,
+    };
+    deliver(res, work, bank, program.bits);
+    let used = ProgramSizes::of(f, program.qubits).work_words() as usize;
     clear(work, 0, used);
 }
 
 // The channel of a Pauli program. A refusal leaves both buffers as they were.
-pub fn pauli_channel(
-    qubits: u32,
-    bits: u32,
-    store: &[u8],
-    nodes: &[u32],
-    operations: &[u32],
-    limits: Limits,
-    res: &mut [i64],
-    work: &mut [i64],
-) -> Verdict
-    ensures value { result ≡ verdict_of qubits bits store.now limits nodes.now operations.now res.old work.old }
-    ensures res_after { res.new ≡ result_after qubits bits store.now limits nodes.now operations.now res.old work.old }
-    ensures work_after { work.new ≡ work_after qubits bits store.now limits nodes.now operations.now res.old work.old }
+pub fn pauli_channel(program: Program, limits: Limits, res: &mut [i64], work: &mut [i64]) -> Verdict
+    ensures value { let p = program.entry in result ≡ verdict_of p.qubits p.bits p.store.now limits p.nodes.now p.operations.now res.old work.old }
+    ensures res_after { let p = program.entry in res.new ≡ result_after p.qubits p.bits p.store.now limits p.nodes.now p.operations.now res.old work.old }
+    ensures work_after { let p = program.entry in work.new ≡ work_after p.qubits p.bits p.store.now limits p.nodes.now p.operations.now res.old work.old }
 {
-    let f = judge_runnable(
-        qubits,
-        bits,
-        store,
-        nodes,
-        operations,
-        limits,
-        res.len() as u64,
-        work.len() as u64,
-    )?;
-    run_and_deliver(f, qubits, bits, store, nodes, operations, res, work);
+    let f = judge_runnable(program, limits, res.len() as u64, work.len() as u64)?;
+    run_and_deliver(f, program, res, work);
     Ok(())
 }

@@ -1,6 +1,6 @@
 -- What nodes and operations that are accepted are known for: qubits below n, and axes that are there.
 use Rattle.std.specs.Prelude.{is_ok, Err}
-use mathlib.Core.Path.{◌≡◌, refl, sym, ap, ◌∙◌}
+use mathlib.Core.Path.{◌≡◌, refl, sym, ◌∙◌}
 use mathlib.Core.Bool.{Bool, true, false, cond, ◌&&◌, true≢false}
 use mathlib.Core.List.{List, [], ◌∷◌, ◌++◌, map}
 use Prim.Native.Nat.{ℕ, suc, ◌+◌, ◌*◌, ◌/◌, ◌%◌, ◌≤◌, ◌<◌, max}
@@ -9,7 +9,6 @@ use lib.Dec.{eqb, ltb}
 use lib.ListN.{length, length-map}
 use borrow.Author.Tests.{ltb-true}
 use Rattle.algebra.specs.Lists.{All, every}
-use Rattle.algebra.proofs.Lists.{all_append}
 use Rattle.algebra.proofs.Tests.{and_split}
 use Rattle.verdict.specs.declared.Refusal.TheVariants.{OverLimit, OverCeiling, OperandAt, MalformedAt, BadNodeAt, BadAxisAt, NoOutcomeAt}
 use Rattle.verdict.specs.Questions.{Question, first_no}
@@ -21,7 +20,7 @@ use Rattle.circuit.specs.Limits.{matrix_ceilings, branch_ceilings}
 use Rattle.pauli_nodes.specs.Nodes.{Reference, Node, single, product, Placed}
 use Rattle.pauli_nodes.specs.Operations.{Operation, rotate, rotate_if, measure, axis, splits}
 use Rattle.pauli_words.specs.Words.{node_of, node_formed, nodes_of, operation_of, operation_formed, operations_of}
-use Rattle.pauli_words.specs.Questions.{number_of, axis_fits, sound, node_questions, nodes_questions, operand_questions, operation_questions, operations_questions}
+use Rattle.pauli_words.specs.Questions.{number_of, axis_fits, sound, nodes_questions, operand_questions, operations_questions}
 use Rattle.pauli_words.specs.Inner.Masks.{max_nodes}
 use Rattle.pauli_judge.specs.Footprint.{named}
 use Rattle.pauli_judge.specs.Questions.{few_operations, program_word_questions}

@@ -1,5 +1,4 @@
 pub mod Accepted
 pub mod Axes
-pub mod ByKind
 pub mod Counted
 pub mod Numbers

@@ -1,31 +1,21 @@
 -- What is known where the sizes are worked out, and where they are not.
-use Rattle.std.specs.Prelude.{Ok, Err}
-use mathlib.Core.Path.{◌≡◌, refl, sym, ap, ◌∙◌}
-use mathlib.Core.Bool.{Bool, true, false, cond, ◌&&◌, ◌||◌, and-false, true≢false}
-use mathlib.Core.List.{List, [], ◌∷◌, ◌++◌}
-use Prim.Native.Nat.{ℕ, suc, ◌+◌, ◌*◌, ◌/◌, ◌%◌, ◌^◌, ◌≤◌, ◌<◌}
+use mathlib.Core.Path.{◌≡◌, refl, sym, ◌∙◌}
+use mathlib.Core.Bool.{Bool, true, false, ◌||◌, and-false, true≢false}
+use mathlib.Core.List.{List}
+use Prim.Native.Nat.{ℕ, suc, ◌+◌, ◌*◌, ◌/◌, ◌^◌, ◌≤◌, ◌<◌}
 use native.Mathlib.Omega.{arith}
-use lib.Dec.{leb, ltb, eqb}
+use lib.Dec.{leb, ltb}
 use lib.ListN.{length}
 use lib.Pow.{pow_mono}
 use borrow.Author.Tests.{leb-true, ltb-true, lt-leb}
 use Rattle.algebra.proofs.Tests.{and_split}
-use Rattle.verdict.specs.Questions.{Verdict}
-use Rattle.verdict.specs.declared.Refusal.TheVariants.{OverLimit, BadStore, MalformedAt, OverCeiling, TooHeavy, ShortBuffer}
-use Rattle.verdict.specs.Questions.{first_no}
-use Rattle.gate.specs.Gate.{gate_size, gates_of, max_weight}
-use Rattle.store.specs.Store.{store_fits}
+use Rattle.gate.specs.Gate.{gate_size}
 use Rattle.circuit.specs.declared.limits.Limits.{Limits}
-use Rattle.circuit.specs.declared.sizes.Sizes.{Sizes}
-use Rattle.circuit.specs.Limits.{ceilings, matrix_ceilings, branch_ceilings}
-use Rattle.circuit.specs.Questions.{sizes_of}
+use Rattle.circuit.specs.Limits.{ceilings}
 use Rattle.circuit.specs.Inner.Small.{max_splits}
-use Rattle.circuit.proofs.Numbers.{Low, few}
-use Rattle.pauli_words.specs.Words.{nodes_of}
-use Rattle.pauli_words.specs.Questions.{axis_fits, nodes_questions, operations_questions}
+use Rattle.circuit.proofs.Numbers.{Low}
 use Rattle.pauli_judge.specs.declared.footprint.ProgramFootprint.{ProgramFootprint}
-use Rattle.pauli_judge.specs.Sizes.{program_cells, program_terms}
-use Rattle.pauli_judge.specs.Questions.{max_listed, few_operations, program_within, program_room, program_word_questions, program_number_questions}
+use Rattle.pauli_judge.specs.Questions.{max_listed, few_operations, program_within}
 
 -- ---- question 8
 module _ (l : Limits) (f : ProgramFootprint) (n m : ℕ) (low : Low l) where

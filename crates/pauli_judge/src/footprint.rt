@@ -1,17 +1,19 @@
 // What a Pauli program asks for, in one pass over the words of its operations.
-ghost use Rattle.std.specs.Prelude.{◌≡◌, ℕ, suc, ◌+◌, ◌*◌, ◌-◌, ◌/◌, ◌≤◌, cond, eqb, length};
+// Kept (buffers): the rest of the words as a slice would need, at each call, that the operations of a list's end are the last of its operations, which `gates_from` says of the index by definition.
+ghost use Rattle.std.specs.Prelude.{◌≡◌, ◌+◌, ◌*◌, ◌-◌, ◌/◌, ◌≤◌, cond, eqb, length};
 ghost use Rattle.algebra.specs.Lists.{some};
 ghost use Rattle.gate.specs.Gate.{Gate, gate_size, gates_from, gates_of};
-ghost use Rattle.gate.specs.Inner.Words.{gate_of};
-ghost use Rattle.pauli_nodes.specs.Operations.{Operation, turn_weight, weight};
+ghost use Rattle.pauli_nodes.specs.Operations.{turn_weight, weight};
 ghost use Rattle.pauli_words.specs.Words.{operation_of, operations_of};
+ghost use Rattle.pauli_words.specs.Inner.Code.{operation_in};
 ghost use Rattle.pauli_judge.specs.Footprint.{writes, program_footprint};
 ghost use Rattle.pauli_judge.specs.Inner.Newly.{newly};
 
 use circuit::footprint::Footprint;
 use gate::GATE;
-use gate::judge::{GateWords, read_gate};
-use pauli_words::operations::{MEASURE, MEASURE_INTO, splits_of};
+use gate::judge::read_gate;
+use pauli_words::Program;
+use pauli_words::operations::Operation;
 
 #[derive(Clone, Copy)]
 pub struct ProgramFootprint {
@@ -21,34 +23,33 @@ pub struct ProgramFootprint {
     pub counts: Footprint,
 }
 
+// The weights of rotations by 0 to 7 eighths.
+const TURN_WEIGHTS: [u64; 8] = [0, 2, 1, 2, 0, 2, 1, 2];
+
 // The weight of a rotation by k eighths.
 fn turn_weight(k: u32) -> u64
     ensures { (result ≡ turn_weight k) × (result ≤ 2) }
 {
-    match k {
-        1 => 2,
-        2 => 1,
-        3 => 2,
-        5 => 2,
-        6 => 1,
-        7 => 2,
-        _ => 0,
+    TURN_WEIGHTS.get(k as usize).copied().unwrap_or(0)
+}
+
+fn weight_of(operation: Operation) -> u64
+    ensures { (result ≡ weight (operation_in operation)) × (result ≤ 2) }
+{
+    match operation {
+        Operation::Rotate { eighths, .. } => turn_weight(eighths),
+        Operation::RotateIf { eighths, .. } => turn_weight(eighths),
+        Operation::Measure { .. } => 2,
     }
 }
 
-fn weight_of(w: GateWords) -> u64
-    ensures { (result ≡ weight (operation_of (gate_of w))) × (result ≤ 2) }
+fn writes(operation: Operation, bit: u32) -> bool
+    ensures { result ≡ writes (operation_in operation) bit }
 {
-    if w.kind < MEASURE {
-        return turn_weight(w.c);
+    match operation {
+        Operation::Measure { bit: Some(b), .. } => bit == b,
+        _ => false,
     }
-    2
-}
-
-fn writes_bit(w: GateWords, bit: u32) -> bool
-    ensures { result ≡ writes (operation_of (gate_of w)) bit }
-{
-    (w.kind == MEASURE_INTO) & (bit == w.c)
 }
 
 // Whether some operation from operation `from` on measures into the bit.
@@ -56,8 +57,8 @@ fn is_written(words: &[u32], from: usize, bit: u32) -> bool
     ensures { result ≡ some (λ (g : Gate). writes (operation_of g) bit) (gates_from words.now from (length words.now / gate_size - from)) }
 {
     for i in from..words.len() / GATE {
-        let w = read_gate(words, i * GATE);
-        if writes_bit(w, bit) {
+        let operation = Operation::of(read_gate(words, i * GATE));
+        if writes(operation, bit) {
             return true;
         }
     }
@@ -65,14 +66,13 @@ fn is_written(words: &[u32], from: usize, bit: u32) -> bool
 }
 
 // 1 if the operation measures into one of the bits and no operation from operation `from` on does.
-fn newly_written(words: &[u32], from: usize, w: GateWords, bits: u32) -> u64
-    ensures { result ≡ newly bits (gate_of w) (gates_from words.now from (length words.now / gate_size - from)) }
+fn newly_written(words: &[u32], from: usize, operation: Operation, bits: u32) -> u64
+    ensures { result ≡ newly bits (operation_in operation) (gates_from words.now from (length words.now / gate_size - from)) }
 {
-    if w.kind == MEASURE_INTO && w.c < bits && !is_written(words, from, w.c) {
-        1
-    } else {
-        0
-    }
+    let is_new = operation
+        .bit()
+        .is_some_and(|bit| bit < bits && !is_written(words, from, bit));
+    is_new as u64
 }
 
 // What the output frame names: nodes 1 to 2n.
@@ -83,25 +83,26 @@ fn frame_nodes(n: u32) -> u64
 }
 
 impl ProgramFootprint {
-    pub fn of(words: &[u32], n: u32, bits: u32) -> ProgramFootprint
-        ensures { result ≡ program_footprint n bits (operations_of words.now) }
+    pub fn of(program: Program) -> ProgramFootprint
+        ensures { let p = program.entry in result ≡ program_footprint p.qubits p.bits (operations_of p.operations.now) }
     {
+        let words = program.operations;
         let count = words.len() / GATE;
         let mut nodes: u64 = 0;
         let mut splits: u64 = 0;
         let mut written: u64 = 0;
         let mut weight: u64 = 0;
         for i in 0..count {
-            let w = read_gate(words, i * GATE);
-            nodes = nodes.max(w.a as u64 + 1);
-            splits += splits_of(w) as u64;
-            written += newly_written(words, i + 1, w, bits);
-            weight += weight_of(w);
+            let operation = Operation::of(read_gate(words, i * GATE));
+            nodes = nodes.max(operation.axis().node as u64 + 1);
+            splits += operation.splits() as u64;
+            written += newly_written(words, i + 1, operation, program.bits);
+            weight += weight_of(operation);
         }
         ProgramFootprint {
-            nodes: nodes.max(frame_nodes(n)),
+            nodes: nodes.max(frame_nodes(program.qubits)),
             counts: Footprint {
-                gates: count as u64 + 2 * (n as u64),
+                gates: count as u64 + 2 * (program.qubits as u64),
                 splits,
                 written,
                 weight,

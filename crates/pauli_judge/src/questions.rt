@@ -1,4 +1,5 @@
 // The questions of pauli_channel, in order.
+// Kept (together): the limits and the lengths of the two buffers, as in circuit::questions.
 ghost use Rattle.std.specs.Prelude.{◌≡◌, true, ◌&&◌, ◌++◌, ◌/◌, ◌≤◌, length};
 ghost use Rattle.verdict.specs.Questions.{first_no, granted};
 ghost use Rattle.gate.specs.Gate.{gate_size, gates_of};
@@ -11,13 +12,14 @@ ghost use Rattle.pauli_judge.specs.Footprint.{program_footprint};
 ghost use Rattle.pauli_judge.specs.Questions.{max_listed, few_operations, program_word_questions, program_number_questions, pauli_questions, pauli_verdict};
 
 use crate::footprint::ProgramFootprint;
-use crate::sizes::{has_room, is_within};
+use crate::sizes::ProgramSizes;
 use circuit::limits::Limits;
-use circuit::sizes::{MAX_SPLITS, Sizes};
+use circuit::sizes::MAX_SPLITS;
 use gate::GATE;
-use pauli_words::MAX_NODES;
+use pauli_words::masks::Mask;
 use pauli_words::nodes::judge_nodes;
 use pauli_words::operations::judge_operations;
+use pauli_words::{MAX_NODES, Program};
 use store::is_store;
 use verdict::{Refusal, Verdict};
 
@@ -28,73 +30,70 @@ const MAX_QUBITS: u32 = 5;
 const MAX_WEIGHT: u64 = 56;
 
 // The questions of the nodes, then of the operations.
-fn judge_lists(n: u32, bits: u32, nodes: &[u32], operations: &[u32]) -> Verdict
-    requires { (n ≤ max_qubits) × (length nodes.now / gate_size ≤ max_listed) × (length operations.now / gate_size ≤ max_gates) }
-    ensures { result ≡ first_no (nodes_questions n 0 (gates_of nodes.now) ++ operations_questions (axis_fits n (nodes_of nodes.now)) bits 0 0 (gates_of operations.now)) }
+fn judge_lists(program: Program) -> Verdict
+    requires { (program.qubits ≤ max_qubits) × (length program.nodes.now / gate_size ≤ max_listed) × (length program.operations.now / gate_size ≤ max_gates) }
+    ensures { let p = program.entry in result ≡ first_no (nodes_questions p.qubits 0 (gates_of p.nodes.now) ++ operations_questions (axis_fits p.qubits (nodes_of p.nodes.now)) p.bits 0 0 (gates_of p.operations.now)) }
 {
-    let mut masks = [0u32; MAX_NODES];
-    judge_nodes(nodes, n, &mut masks)?;
-    let count = 1 + 2 * n + (nodes.len() / GATE) as u32;
-    judge_operations(operations, bits, &masks, count)
+    let mut masks = [Mask::identity(); MAX_NODES];
+    judge_nodes(program.nodes, program.qubits, &mut masks)?;
+    judge_operations(
+        program.operations,
+        program.bits,
+        &masks[..program.node_count()],
+    )
 }
 
 // Question 3.
-fn are_few(n: u32, l: Limits, nodes: &[u32], operations: &[u32]) -> bool
-    ensures { result ≡ few_operations n l nodes.now operations.now }
+fn are_few(program: Program, l: Limits) -> bool
+    ensures { let p = program.entry in result ≡ few_operations p.qubits l p.nodes.now p.operations.now }
 {
-    let p = (operations.len() / GATE) as u64 + 2 * (n as u64);
-    (p <= l.max_operations) & ((n <= MAX_QUBITS) & (nodes.len() / GATE <= MAX_LISTED))
+    let n = program.qubits;
+    let p = (program.operations.len() / GATE) as u64 + 2 * (n as u64);
+    (p <= l.max_operations) & ((n <= MAX_QUBITS) & (program.nodes.len() / GATE <= MAX_LISTED))
 }
 
 // The questions of the words.
-fn judge_words(n: u32, bits: u32, l: Limits, nodes: &[u32], operations: &[u32]) -> Verdict
-    ensures { result ≡ first_no (program_word_questions n bits l nodes.now operations.now) }
+fn judge_words(program: Program, l: Limits) -> Verdict
+    ensures { let p = program.entry in result ≡ first_no (program_word_questions p.qubits p.bits l p.nodes.now p.operations.now) }
 {
     if !(l.are_matrix_limits_low() && l.are_branch_limits_low()) {
         return Err(Refusal::OverCeiling);
     }
-    if nodes.len() % GATE != 0 {
+    if program.nodes.len() % GATE != 0 {
         return Err(Refusal::MalformedAt(0));
     }
-    if operations.len() % GATE != 0 {
+    if program.operations.len() % GATE != 0 {
         return Err(Refusal::MalformedAt(0));
     }
-    if !are_few(n, l, nodes, operations) {
+    if !are_few(program, l) {
         return Err(Refusal::OverLimit);
     }
-    judge_lists(n, bits, nodes, operations)
+    judge_lists(program)
 }
 
 // Questions 7 to 10, of limits that are low and of words that are within them.
-fn judge_numbers(
-    f: ProgramFootprint,
-    n: u32,
-    bits: u32,
-    store: &[u8],
-    l: Limits,
-    res: u64,
-    work: u64,
-) -> Verdict
+fn judge_numbers(f: ProgramFootprint, program: Program, l: Limits, res: u64, work: u64) -> Verdict
     requires { (matrix_ceilings l && branch_ceilings l ≡ true) × (f.counts.gates ≤ l.max_operations) × (f.nodes ≤ max_nodes) }
-    ensures { result ≡ first_no (program_number_questions f n bits store.now l res work) }
+    ensures { let p = program.entry in result ≡ first_no (program_number_questions f p.qubits p.bits p.store.now l res work) }
 {
     let counts = f.counts;
-    if !is_store(store, bits) {
+    let n = program.qubits;
+    if !is_store(program.store, program.bits) {
         return Err(Refusal::BadStore);
     }
-    if (bits as u64 > l.max_classical_bits)
+    if (program.bits as u64 > l.max_classical_bits)
         | ((n as u64 > l.max_qubits) | (counts.splits > MAX_SPLITS))
     {
         return Err(Refusal::OverLimit);
     }
-    let s = Sizes::of(counts, n);
-    if !is_within(s, f.nodes, counts.gates, l) {
+    let s = ProgramSizes::of(f, n);
+    if !s.is_within(counts.gates, l) {
         return Err(Refusal::OverLimit);
     }
     if counts.weight > MAX_WEIGHT {
         return Err(Refusal::TooHeavy);
     }
-    if !has_room(s, f.nodes, res, work) {
+    if !s.has_room(res, work) {
         return Err(Refusal::ShortBuffer);
     }
     Ok(())
@@ -102,36 +101,23 @@ fn judge_numbers(
 
 // All questions, and what a program that passes asks for; `res` and `work` are the lengths of the buffers.
 pub fn judge_runnable(
-    n: u32,
-    bits: u32,
-    store: &[u8],
-    nodes: &[u32],
-    operations: &[u32],
+    program: Program,
     l: Limits,
     res: u64,
     work: u64,
 ) -> Result<ProgramFootprint, Refusal>
-    ensures { result ≡ granted (program_footprint n bits (operations_of operations.now)) (pauli_questions n bits store.now l nodes.now operations.now res work) }
+    ensures { let p = program.entry in result ≡ granted (program_footprint p.qubits p.bits (operations_of p.operations.now)) (pauli_questions p.qubits p.bits p.store.now l p.nodes.now p.operations.now res work) }
 {
-    judge_words(n, bits, l, nodes, operations)?;
-    let f = ProgramFootprint::of(operations, n, bits);
-    judge_numbers(f, n, bits, store, l, res, work)?;
+    judge_words(program, l)?;
+    let f = ProgramFootprint::of(program);
+    judge_numbers(f, program, l, res, work)?;
     Ok(f)
 }
 
 // The verdict alone.
-pub fn judge_pauli(
-    n: u32,
-    bits: u32,
-    store: &[u8],
-    nodes: &[u32],
-    operations: &[u32],
-    l: Limits,
-    res: u64,
-    work: u64,
-) -> Verdict
-    ensures { result ≡ pauli_verdict n bits store.now l nodes.now operations.now res work }
+pub fn judge_pauli(program: Program, l: Limits, res: u64, work: u64) -> Verdict
+    ensures { let p = program.entry in result ≡ pauli_verdict p.qubits p.bits p.store.now l p.nodes.now p.operations.now res work }
 {
-    judge_runnable(n, bits, store, nodes, operations, l, res, work)?;
+    judge_runnable(program, l, res, work)?;
     Ok(())
 }

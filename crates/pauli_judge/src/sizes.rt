@@ -1,52 +1,79 @@
-// The formulas of the questions, where their operands are small.
+// The formulas of the questions, of a program that asks for little enough.
+// Kept (facts): n ≤ 5 and at most 1,024 operations are asked where they are multiplied; `ProgramSizes` holds what comes of n, and the operations are counted apart from it.
 ghost use Rattle.std.specs.Prelude.{◌≡◌, ◌&&◌, ◌≤◌, leb};
-ghost use Rattle.circuit.specs.Inner.Small.{max_branches, max_rows, max_gates, Small};
+ghost use Rattle.circuit.specs.Questions.{sizes_of};
+ghost use Rattle.circuit.specs.Inner.Small.{max_splits, max_qubits, max_gates};
 ghost use Rattle.pauli_words.specs.Inner.Masks.{max_nodes};
 ghost use Rattle.pauli_judge.specs.Questions.{program_room};
 ghost use Rattle.pauli_judge.specs.Sizes.{program_cells, program_terms, program_work};
 
+use crate::footprint::ProgramFootprint;
 use cells::CELL;
 use circuit::limits::Limits;
-use circuit::sizes::{Sizes, cube, fourth, result_words, square};
+use circuit::sizes::{Sizes, result_words};
 
-fn cells_needed(nodes: u64, b: u64, v: u64, d: u64) -> u64
-    requires { (nodes ≤ max_nodes) × (b ≤ max_branches) × (v ≤ max_branches) × (d ≤ max_rows) }
-    ensures { result ≡ program_cells nodes b v d }
-{
-    v * fourth(d) + (3 * b + nodes + 8) * square(d)
+// The nodes that a program names, and its branches, stores and rows.
+#[derive(Clone, Copy)]
+pub struct ProgramSizes {
+    pub nodes: u64,
+    pub sizes: Sizes,
+    pub ghost few: { nodes ≤ max_nodes },
 }
 
-fn terms_needed(nodes: u64, p: u64, b: u64, d: u64) -> u64
-    requires { (nodes ≤ max_nodes) × (p ≤ max_gates) × (b ≤ max_branches) × (d ≤ max_rows) }
-    ensures { result ≡ program_terms nodes p b d }
-{
-    (2 * p * b + nodes) * cube(d) + b * fourth(d)
-}
+impl ProgramSizes {
+    // Of a program on n qubits.
+    pub fn of(f: ProgramFootprint, n: u32) -> ProgramSizes
+        requires { (f.nodes ≤ max_nodes) × (f.counts.splits ≤ max_splits) × (n ≤ max_qubits) }
+        ensures { (result.nodes ≡ f.nodes) × (result.sizes ≡ sizes_of f.counts n) }
+    {
+        ProgramSizes {
+            nodes: f.nodes,
+            sizes: Sizes::of(f.counts, n),
+        }
+    }
 
-pub fn work_words(nodes: u64, b: u64, d: u64) -> u64
-    requires { (nodes ≤ max_nodes) × (b ≤ max_branches) × (d ≤ max_rows) }
-    ensures { result ≡ program_work nodes b d }
-{
-    (2 * b + nodes + 2) * (CELL as u64 * square(d) + 3)
-}
+    fn cells_needed(&self) -> u64
+        ensures { let s = self.now.sizes in result ≡ program_cells self.now.nodes s.branches s.stores s.rows }
+    {
+        let s = &self.sizes;
+        s.stores.count() * s.rows.fourth()
+            + (3 * s.branches.count() + self.nodes + 8) * s.rows.square()
+    }
 
-// Question 8, but for the qubits and the classical bits.
-pub fn is_within(s: Sizes, nodes: u64, p: u64, l: Limits) -> bool
-    requires { Small s × (nodes ≤ max_nodes) × (p ≤ max_gates) }
-    ensures { result ≡ leb s.branches l.max_branches && (leb (program_cells nodes s.branches s.stores s.rows) l.max_matrix_cells && leb (program_terms nodes p s.branches s.rows) l.max_multiply_terms) }
-{
-    let cells = cells_needed(nodes, s.branches, s.stores, s.rows);
-    let terms = terms_needed(nodes, p, s.branches, s.rows);
-    (s.branches <= l.max_branches)
-        & ((cells <= l.max_matrix_cells) & (terms <= l.max_multiply_terms))
-}
+    fn terms_needed(&self, gates: u64) -> u64
+        requires { gates ≤ max_gates }
+        ensures { let s = self.now.sizes in result ≡ program_terms self.now.nodes gates s.branches s.rows }
+    {
+        let s = &self.sizes;
+        (2 * gates * s.branches.count() + self.nodes) * s.rows.cube()
+            + s.branches.count() * s.rows.fourth()
+    }
 
-// Question 10.
-pub fn has_room(s: Sizes, nodes: u64, res: u64, work: u64) -> bool
-    requires { Small s × (nodes ≤ max_nodes) }
-    ensures { result ≡ program_room nodes s res work }
-{
-    let needed = result_words(s.stores, s.rows);
-    let scratch = work_words(nodes, s.branches, s.rows);
-    (needed <= res) & (scratch <= work)
+    pub fn work_words(&self) -> u64
+        ensures { let s = self.now.sizes in result ≡ program_work self.now.nodes s.branches s.rows }
+    {
+        let s = &self.sizes;
+        (2 * s.branches.count() + self.nodes + 2) * (CELL as u64 * s.rows.square() + 3)
+    }
+
+    // Question 8, but for the qubits and the classical bits.
+    pub fn is_within(&self, gates: u64, l: Limits) -> bool
+        requires { gates ≤ max_gates }
+        ensures { let s = self.now.sizes in
+            result ≡ leb s.branches l.max_branches && (leb (program_cells self.now.nodes s.branches s.stores s.rows) l.max_matrix_cells && leb (program_terms self.now.nodes gates s.branches s.rows) l.max_multiply_terms) }
+    {
+        let cells = self.cells_needed();
+        let terms = self.terms_needed(gates);
+        (self.sizes.branches.count() <= l.max_branches)
+            & ((cells <= l.max_matrix_cells) & (terms <= l.max_multiply_terms))
+    }
+
+    // Question 10.
+    pub fn has_room(&self, res: u64, work: u64) -> bool
+        ensures { result ≡ program_room self.now.nodes self.now.sizes res work }
+    {
+        let needed = result_words(self.sizes.stores, self.sizes.rows);
+        let scratch = self.work_words();
+        (needed <= res) & (scratch <= work)
+    }
 }

@@ -9,7 +9,6 @@ use lib.Pow.{pow_pos}
 use borrow.Author.Tests.{eqb-true, eq-eqb}
 use Rattle.algebra.specs.Lists.{all_below}
 use Rattle.algebra.proofs.Tests.{all-at, all-by}
-use Rattle.gate.specs.Embedding.{Matrix}
 use Rattle.exact.specs.Exact.{conj, equal}
 use Rattle.exact.proofs.Equal.{equal-true, equal_of}
 use Rattle.exact.proofs.Exact.{conj-𝟘}

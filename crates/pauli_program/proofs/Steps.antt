@@ -2,7 +2,7 @@
 use mathlib.Core.Path.{◌≡◌, refl, sym, subst}
 use mathlib.Core.Bool.{Bool, true, false, cond}
 use mathlib.Core.List.{List, [], ◌∷◌, map}
-use Prim.Native.Nat.{ℕ, zero, suc, ◌+◌, ◌^◌, ◌≤◌, ◌<◌}
+use Prim.Native.Nat.{ℕ, zero, suc, ◌^◌, ◌≤◌, ◌<◌}
 use native.Mathlib.Omega.{arith}
 use lib.Dec.{eqb}
 use lib.ListN.{get_or}
@@ -13,7 +13,7 @@ use Rattle.algebra.specs.Sum.{list_sum, δ}
 use Rattle.algebra.specs.Lists.{All}
 use Rattle.algebra.proofs.Tests.{exhaust, holds-true}
 use Rattle.algebra.proofs.Adjoint.{dot}
-use Rattle.exact.specs.Exact.{Exact, exact, number, conj, half, omega as root, equal}
+use Rattle.exact.specs.Exact.{Exact, exact, number, conj, equal}
 use Rattle.exact.proofs.Exact.{exacts, mul-lowest, one-by}
 use Rattle.exact.proofs.Equal.{equal-true}
 use Rattle.gate.specs.Operators.{one, none}
@@ -28,7 +28,7 @@ use Rattle.pauli_nodes.specs.Operations.{Operation, rotate, rotate_if, measure, 
 use Rattle.pauli_nodes.proofs.Nodes.{axis-squares}
 use Rattle.pauli_nodes.proofs.Hermitian.{hermitian_test}
 use Rattle.pauli_program.specs.Operators.{Coefficients, mixed, turn_by, onto}
-use Rattle.pauli_program.specs.Program.{Way, turning, outcome, ways}
+use Rattle.pauli_program.specs.Program.{Way, turning, ways}
 use Rattle.pauli_program.specs.Claims.{Eighths}
 use Rattle.pauli_program.proofs.Mixed.{Axis, mixed-complete}
 use Rattle.pauli_program.proofs.Weights.{Weighs, axis-part, mixed-part}

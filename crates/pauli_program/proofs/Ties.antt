@@ -2,12 +2,11 @@
 use mathlib.Core.Path.{◌≡◌, refl, sym, ap, ap₂, ◌∙◌}
 use mathlib.Core.Bool.{Bool, true, false, cond}
 use mathlib.Core.List.{List, [], ◌∷◌, ◌++◌, map, foldl, map-append}
-use Prim.Native.Nat.{ℕ, zero, suc, ◌+◌, ◌-◌, ◌*◌, ◌/◌, ◌^◌, ◌<◌}
+use Prim.Native.Nat.{ℕ, ◌+◌, ◌-◌, ◌*◌, ◌/◌, ◌^◌, ◌<◌}
 use native.Mathlib.Nat.{mod-lt}
 use native.Mathlib.Omega.{arith}
 use lib.ListN.{get_or, set}
-use Rattle.algebra.specs.Lists.{all_below, concat_map}
-use Rattle.algebra.specs.Sum.{times, δ}
+use Rattle.algebra.specs.Lists.{all_below}
 use Rattle.algebra.proofs.Semi.{zero-zero}
 use Rattle.algebra.proofs.Sum.{times-same}
 use Rattle.algebra.proofs.Tests.{exhaust, holds-true, all-at}
@@ -19,14 +18,14 @@ use Rattle.gate.specs.Operators.{Small, none, identity, pauli_x, phase, projecto
 use Rattle.gate.specs.Embed.{bit, agree, embed}
 use Rattle.gate.specs.Embedding.{Matrix, Equal}
 use Rattle.gate.proofs.Embedding.{respects_identity}
-use Rattle.kraus.specs.Dense.{cell, left}
-use Rattle.kraus.specs.Branch.{Store, Branch, KrausOperator, apply, start, operators_of, gate_step, branches}
+use Rattle.kraus.specs.Dense.{cell}
+use Rattle.kraus.specs.Branch.{Store, Branch, apply, operators_of, gate_step}
 use Rattle.kraus.proofs.Dense.{table_same}
-use Rattle.pauli_nodes.specs.Nodes.{Node, turned, node_matrix, axis_matrix}
+use Rattle.pauli_nodes.specs.Nodes.{Node, turned, node_matrix}
 use Rattle.pauli_nodes.specs.Operations.{Operation, rotate, measure}
 use Rattle.pauli_nodes.proofs.Numbers.{basis_numbered}
 use Rattle.pauli_program.specs.Operators.{Coefficients, mixed, turn_by, onto}
-use Rattle.pauli_program.specs.Program.{Path, follow, ways, operation_step, paths, program_branches}
+use Rattle.pauli_program.specs.Program.{Path, follow, ways, operation_step}
 use Rattle.pauli_program.specs.Claims.{axis_x, axis_z, Ties, AxesTied, Tied, done, rz, x, measured, ProgramsAreCircuits}
 
 -- ---- two-by-two matrices: p·1 + s·u is v

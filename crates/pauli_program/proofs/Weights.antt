@@ -8,13 +8,12 @@ use lib.Dec.{eqb}
 use lib.ListN.{get_or}
 use lib.IntN.{pos}
 use Rattle.algebra.specs.Quadratic.{pair}
-use Rattle.algebra.specs.Sum.{sum, times, δ}
+use Rattle.algebra.specs.Sum.{sum, δ}
 use Rattle.algebra.specs.Lists.{All}
 use Rattle.algebra.proofs.Lists.{all_append}
 use Rattle.exact.specs.Exact.{Exact, exact, imaginary, power_of}
 use Rattle.gate.specs.Gate.{gate}
-use Rattle.gate.specs.Operators.{Small, one, none}
-use Rattle.gate.specs.Embed.{embed}
+use Rattle.gate.specs.Operators.{one, none}
 use Rattle.gate.specs.Embedding.{Matrix}
 use Rattle.kraus.proofs.Weigh.{Light, embed-part}
 use Rattle.kraus.proofs.Weights.{graded, weighs}

@@ -2,23 +2,23 @@
 use mathlib.Core.Path.{◌≡◌, refl, sym, ap, ◌∙◌, subst}
 use mathlib.Core.Bool.{true}
 use mathlib.Core.List.{List, [], ◌∷◌, map, foldl}
-use Prim.Native.Nat.{ℕ, zero, suc, ◌+◌, ◌*◌, ◌^◌, ◌≤◌, ◌<◌}
+use Prim.Native.Nat.{ℕ, ◌+◌, ◌^◌, ◌≤◌, ◌<◌}
 use native.Mathlib.Omega.{arith}
 use lib.ListN.{take}
-use Rattle.algebra.specs.Sum.{list_sum, δ}
+use Rattle.algebra.specs.Sum.{δ}
 use Rattle.algebra.specs.Lists.{All, total}
 use Rattle.algebra.proofs.Lists.{all_both, all_map, all_unmap, all_concat}
 use Rattle.algebra.proofs.Sum.{list_sum-same, list_sum_map, list_sum_concat}
 use Rattle.algebra.proofs.Totals.{sub_whole, sub_take, sub_all, sub_total}
 use Rattle.exact.specs.Exact.{exact}
 use Rattle.exact.proofs.Exact.{exacts}
-use Rattle.kraus.specs.Branch.{Store, Branch, KrausOperator, apply, start}
+use Rattle.kraus.specs.Branch.{Store, Branch, KrausOperator, apply}
 use Rattle.kraus.proofs.Complete.{norm, gram, gram-start, one-branch}
 use Rattle.kraus.proofs.Filtration.{exp_is}
 use Rattle.kraus.proofs.Weigh.{Entries, apply-entries}
 use Rattle.kraus.proofs.Weights.{graded, start_parts}
 use Rattle.kraus.proofs.Enough.{Whole}
-use Rattle.kraus.proofs.Limits.{Enough, Suits, exponent_of, part-fits, enough, kraus_exponent, suits}
+use Rattle.kraus.proofs.Limits.{Enough, exponent_of, part-fits, enough, kraus_exponent, suits}
 use Rattle.gate.specs.Gate.{max_weight}
 use Rattle.pauli_nodes.specs.Nodes.{Node, Placed, hermitian, axis_matrix}
 use Rattle.pauli_nodes.specs.Operations.{Operation, axis, weight}

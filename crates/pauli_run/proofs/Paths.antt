@@ -15,7 +15,7 @@ use Rattle.pauli_nodes.specs.Nodes.{Node}
 use Rattle.pauli_nodes.specs.Operations.{Operation, rotate, rotate_if, measure, splits}
 use Rattle.pauli_program.specs.Program.{Path, follow, ways, operation_step}
 use Rattle.pauli_program.proofs.Counting.{follow-length, step-length}
-use Rattle.pauli_run.specs.Inner.Operators.{chosen, operator_of, shift_of}
+use Rattle.pauli_run.specs.Inner.Operators.{Seen, chosen, operator_of, shift_of}
 
 -- the last s bits of j, the highest first
 abbrev pub outcomes_of : ℕ → ℕ → List ℕ
@@ -47,12 +47,6 @@ outcome-at (suc s) j o l = go (dec_lt o s) (λ h. outcome-at s (j / 2) o h)
 nil : (xs : List ℕ) → xs ++ [] ≡ xs
 nil [] = refl
 nil (x ∷ xs) = ap (λ (ys : List ℕ). x ∷ ys) (nil xs)
-
--- the outcome that it reads was made
-abbrev pub Seen : ℕ → Operation → Type 0
-Seen made (rotate a k) = Unit {0}
-Seen made (rotate_if a k i) = i < made
-Seen made (measure a bs) = Unit {0}
 
 -- ---- a step, path by path
 module _ (n : ℕ) (nodes : List Node) (z : Path) where

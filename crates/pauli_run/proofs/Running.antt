@@ -1,6 +1,5 @@
 -- A program run operation by operation: what holds of the buffer after i operations, what the next one may ask, and what it leaves.
 use mathlib.Core.Path.{◌≡◌, refl, sym, ap, ap₂, ◌∙◌, subst}
-use mathlib.Core.Bool.{true, cond}
 use mathlib.Core.Logic.{◌⊎◌, inl, inr, ⊎_elim}
 use mathlib.Core.List.{List, [], ◌∷◌, ◌++◌, map, foldl-append}
 use Prim.Native.Nat.{ℕ, zero, suc, ◌+◌, ◌*◌, ◌-◌, ◌/◌, ◌%◌, ◌^◌, ◌≤◌, ◌<◌}
@@ -8,26 +7,22 @@ use native.Mathlib.Nat.{mul-le-mul, le_refl, le_of_eq, zero-add, div-lt_iff_lt-m
 use native.Mathlib.Numerals.{add-one}
 use native.Mathlib.Omega.{arith}
 use lib.Arith.{digits_lt}
-use lib.Bits.{bit_and, bit_xor}
-use lib.Dec.{eqb}
+use lib.Bits.{bit_xor}
 use lib.Pow.{pow_mono, pow_pos}
-use lib.ListN.{length, get_or, take, drop, length-map, get_or-append}
-use lib.Seq.{sets, take-suc, take_all, length-sets}
+use lib.ListN.{length, get_or, take, drop, length-map, get_or-map, get_or-append}
+use lib.Seq.{sets, take-suc, length-sets}
 use lib.IntN.{ℤ, pos}
-use borrow.Author.Tests.{le-leb}
 use Rattle.algebra.specs.Lists.{All, total}
 use Rattle.algebra.specs.Sum.{times}
 use Rattle.algebra.specs.Words.{blocks, from_bits}
 use Rattle.algebra.specs.Inner.Apart.{Apart}
 use Rattle.algebra.proofs.Lists.{all_get_d}
 use Rattle.algebra.proofs.Totals.{sub_whole, sub_take, sub_total}
-use Rattle.algebra.proofs.Blocks.{Writing, wrote, kept, long, block_in_lem, sets_at, sets_above}
-use Rattle.exact.specs.Exact.{Exact, exact, is_lowest, max_exponent, narrow_exponent}
-use Rattle.exact.specs.Inner.Sizes.{Coords}
+use Rattle.algebra.proofs.Blocks.{Writing, wrote, kept, long, sets_at}
+use Rattle.exact.specs.Exact.{exact, is_lowest}
 use Rattle.exact.proofs.Sizes.{well_lowest}
-use Rattle.cells.specs.Cells.{cell_at, exponent_at, cell_size}
-use Rattle.cells.proofs.Cell.{length-cells, cells_same, block-cell, block-word, exponent_is}
-use Rattle.matrix.specs.Inner.Factors.{Factor}
+use Rattle.cells.specs.Cells.{cell_at, cell_size}
+use Rattle.cells.proofs.Cell.{cells_same}
 use Rattle.matrix.proofs.Terms.{row_lt, column_lt}
 use Rattle.gate.specs.Gate.{Gate, gate_at, gates_of, gate_size}
 use Rattle.gate.specs.Embedding.{Matrix}
@@ -46,21 +41,22 @@ use Rattle.branches.proofs.Stores.{store-written}
 use Rattle.branches.proofs.Steps.{length-product}
 use Rattle.pauli_nodes.specs.Nodes.{Node, axis_matrix}
 use Rattle.pauli_nodes.specs.Operations.{Operation, rotate, rotate_if, measure, axis, bits, splits}
-use Rattle.pauli_nodes.specs.Inner.Masks.{Mask, parity, mask_matrix, node_mask}
+use Rattle.pauli_nodes.specs.Inner.Masks.{Mask, mask_matrix, ref_mask, node_mask}
 use Rattle.pauli_nodes.specs.Inner.Laws.{InRange}
 use Rattle.pauli_nodes.proofs.Nodes.{axes_are_masks, masks_in-range}
 use Rattle.pauli_words.specs.Words.{operation_of, operations_of}
+use Rattle.pauli_words.proofs.Forms.{one_bit}
 use Rattle.pauli_program.specs.Operators.{mixed}
 use Rattle.pauli_program.specs.Program.{Path, operation_step, paths, program_branches}
 use Rattle.pauli_program.proofs.Counting.{step-length, program_count, program_marked}
 use Rattle.pauli_program.proofs.Whole.{program_enough}
-use Rattle.pauli_steps.specs.Inner.Rows.{axis_entry, axis_row}
 use Rattle.pauli_steps.proofs.Tables.{Small}
-use Rattle.pauli_run.specs.Inner.Operators.{chosen, coefficients_of, operator_of, shift_of, bit_of, mask_of, rows_words, with_rows, stepped}
-use Rattle.pauli_run.specs.Inner.Run.{rows_size, run_size, Fits, Operating, Runs, Ran}
-use Rattle.pauli_run.proofs.Forms.{one_bit, splits_le, coefficients_small, own-lowest, seen_is}
+use Rattle.pauli_run.specs.Inner.Operators.{Seen, chosen, coefficients_of, operator_of, shift_of, bit_of, rows_words, with_rows, stepped}
+use Rattle.pauli_run.specs.Inner.Run.{rows_size, run_size, Fits, Operating, Runs}
+use Rattle.pauli_run.proofs.Forms.{splits_le, coefficients_small, own-lowest}
+use Rattle.pauli_run.proofs.Rows.{writing, own_is, other_is, own_factor, other_factor}
 use Rattle.pauli_run.proofs.Axes.{partner_lt, row_is}
-use Rattle.pauli_run.proofs.Paths.{Told, Seen, run_told, step-branch}
+use Rattle.pauli_run.proofs.Paths.{Told, run_told, step-branch}
 
 -- ---- the store that an operation leaves
 stored : (σ : Store) → Bits σ → (bs : List ℕ) → length bs ≤ 1 → (v : ℕ) → All (λ (b : ℕ). b < length σ) bs → length σ ≤ 64
@@ -69,86 +65,8 @@ stored σ ok [] one v h few = refl
 stored σ ok (b ∷ []) one v h few = store-written σ ok b v few h.0
 stored σ ok (b ∷ c ∷ bs) one v h few = absurd (omega arith)
 
-map_at : {A B : Type 0} (f : A → B) (xs : List A) (j : ℕ) (z : A) → get_or (map f xs) j (f z) ≡ f (get_or xs j z)
-map_at f [] j z = refl
-map_at f (x ∷ xs) zero z = refl
-map_at f (x ∷ xs) (suc j) z = map_at f xs j z
-
 place_of : (x d c q : ℕ) → x + c * d * cell_size + q * cell_size ≡ x + (c * d + q) * cell_size
 place_of x d c q = omega arith
-
--- ---- the rows of both operators, read back
-module _ (l : List ℤ) (slots d : ℕ) (m : Mask) (o : Operation) (small : (v : ℕ) → Small (coefficients_of o v)) (room : slots + 2 * (d * row_size) ≤ length l) where
-  abbrev k : List ℤ
-  k = with_rows l slots d m o
-
-  abbrev entries : ℕ → ℕ → Exact
-  entries v = axis_row m (coefficients_of o v).own (coefficients_of o v).other
-
-  sized : (v : ℕ) → length (rows_words d m o v) ≤ d * row_size
-  sized v = omega (arith, length-cells (entries v) (d * 2))
-
-  pub writing : Writing (d * row_size) l slots 2 (rows_words d m o) (with_rows l slots d m o) 2
-  writing = wrote sized refl
-
-  at : (v i : ℕ) → v < 2 → i < d * 2 → cell_at k (slots + v * (d * row_size) + i * cell_size) ≡ entries v i
-  at v i hv hi = block-cell (d * row_size) l slots (rows_words d m o) sized 2 v (d * 2) i (entries v) refl hv hi room
-
-  exponent-at : (v i : ℕ) → v < 2 → i < d * 2 → (entries v i).exp ≤ max_exponent → exponent_at k (slots + v * (d * row_size) + i * cell_size) ≡ true
-  exponent-at v i hv hi h =
-      exponent_is k (slots + v * (d * row_size) + i * cell_size) (entries v i) (block-word (d * row_size) l slots (rows_words d m o) sized 2 v (d * 2) i (entries v) refl hv hi room)
-      ∙ le-leb (entries v i).exp max_exponent h
-
-  own-entry : (v r : ℕ) → entries v (r * 2) ≡ (coefficients_of o v).own
-  own-entry v r = let e : r * 2 % 2 ≡ 0 = omega arith in ap (λ (q : ℕ). cond (eqb q 0) (coefficients_of o v).own (exact.◌⊗◌ (coefficients_of o v).other (axis_entry m (r * 2 / 2)))) e
-
-  other-entry : (v r : ℕ) → entries v (r * 2 + 1) ≡ exact.◌⊗◌ (coefficients_of o v).other (axis_entry m r)
-  other-entry v r =
-      let e : (r * 2 + 1) % 2 ≡ 1 = omega arith in
-      let f : (r * 2 + 1) / 2 ≡ r = omega arith in
-      λ i. cond (eqb (e i) 0) (coefficients_of o v).own (exact.◌⊗◌ (coefficients_of o v).other (axis_entry m (f i)))
-
-  module _ (v r : ℕ) (hv : v < 2) (hr : r < d) where
-    own-place : slots + v * (d * row_size) + r * row_size ≡ slots + v * (d * row_size) + r * 2 * cell_size
-    own-place = omega arith
-
-    other_place : slots + v * (d * row_size) + r * row_size + cell_size ≡ slots + v * (d * row_size) + (r * 2 + 1) * cell_size
-    other_place = omega arith
-
-    in_own : r * 2 < d * 2
-    in_own = omega arith
-
-    in_other : r * 2 + 1 < d * 2
-    in_other = omega arith
-
-    pub own_is : cell_at (with_rows l slots d m o) (slots + v * (d * row_size) + r * row_size) ≡ (coefficients_of o v).own
-    own_is = ap (cell_at k) own-place ∙ at v (r * 2) hv in_own ∙ own-entry v r
-
-    pub other_is : cell_at (with_rows l slots d m o) (slots + v * (d * row_size) + r * row_size + cell_size) ≡ exact.◌⊗◌ (coefficients_of o v).other (axis_entry m r)
-    other_is = ap (cell_at k) other_place ∙ at v (r * 2 + 1) hv in_other ∙ other-entry v r
-
-    own_coords : Coords 1 narrow_exponent (entries v (r * 2))
-    own_coords = subst (Coords 1 narrow_exponent) (sym (own-entry v r)) (small v).own
-
-    other_coords : Coords 1 narrow_exponent (entries v (r * 2 + 1))
-    other_coords = subst (Coords 1 narrow_exponent) (sym (other-entry v r)) ((small v).turning (m.turns + 2 * parity (bit_and m.z (bit_xor r m.x))))
-
-    inside : v * (d * row_size) + d * row_size ≤ 2 * (d * row_size)
-    inside = block_in_lem hv (d * row_size)
-
-    pub own_factor : Factor (with_rows l slots d m o) (slots + v * (d * row_size) + r * row_size)
-    own_factor = record {
-      room = omega (arith, long writing, room, inside);
-      exponent = ap (exponent_at k) own-place ∙ exponent-at v (r * 2) hv in_own (omega (arith, own_coords.exponent));
-      coords = subst (Coords 1 narrow_exponent) (sym own_is) (small v).own;
-    }
-
-    pub other_factor : Factor (with_rows l slots d m o) (slots + v * (d * row_size) + r * row_size + cell_size)
-    other_factor = record {
-      room = omega (arith, long writing, room, inside);
-      exponent = ap (exponent_at k) other_place ∙ exponent-at v (r * 2 + 1) hv in_other (omega (arith, other_coords.exponent));
-      coords = subst (Coords 1 narrow_exponent) (sym other_is) ((small v).turning (m.turns + 2 * parity (bit_and m.z (bit_xor r m.x))));
-    }
 
 -- ---- the buffer after i operations: their branches at `from`
 pub record Running (l₀ : List ℤ) (ws : List ℕ) (σ : Store) (n d banks : ℕ) (nodes : List Node) (l : List ℤ) (from count made i : ℕ) : Type 0 where
@@ -165,13 +83,13 @@ some-rows zero i d h = absurd (omega arith)
 some-rows (suc count) i d h = refl
 
 -- there is room for a branch
-pub first_fits : {l : List ℤ} {ws ms : List ℕ} {σ : Store} {n d banks : ℕ} {nodes : List Node} → Runs l ws ms σ n d banks nodes → branch_size d ≤ length l
+pub first_fits : {l : List ℤ} {ws : List ℕ} {ms : List Mask} {σ : Store} {n d banks : ℕ} {nodes : List Node} → Runs l ws ms σ n d banks nodes → branch_size d ≤ length l
 first_fits {ws = ws} {d = d} {banks = banks} r = omega (arith, r.room, mul-le-mul one-bank (le_refl (branch_size d)))
   where
     one-bank : 1 ≤ banks
     one-bank = omega (arith, r.banked, pow_pos (total splits (operations_of ws)))
 
-module _ {l₀ : List ℤ} {ws ms : List ℕ} {σ : Store} {n banks : ℕ} {nodes : List Node} (r : Runs l₀ ws ms σ n (2 ^ n) banks nodes) where
+module _ {l₀ : List ℤ} {ws : List ℕ} {ms : List Mask} {σ : Store} {n banks : ℕ} {nodes : List Node} (r : Runs l₀ ws ms σ n (2 ^ n) banks nodes) where
   abbrev d : ℕ
   d = 2 ^ n
 
@@ -210,7 +128,7 @@ module _ {l₀ : List ℤ} {ws ms : List ℕ} {σ : Store} {n banks : ℕ} {node
     first-room : size ≤ length l
     first-room = omega (arith, first_fits r, same-room)
 
-    running_begin : Running l₀ ws σ n (2 ^ n) banks nodes l₀ 0 1 0 0
+    pub running_begin : Running l₀ ws σ n (2 ^ n) banks nodes l₀ 0 1 0 0
     running_begin = record {
       below = omega arith;
       making = refl;
@@ -253,17 +171,17 @@ module _ {l₀ : List ℤ} {ws ms : List ℕ} {σ : Store} {n banks : ℕ} {node
     none = operation_of (gate_at ws 0)
 
     operation_is : get_or os i none ≡ o
-    operation_is = map_at operation_of (gates_of ws) i (gate_at ws 0) ∙ ap operation_of (gates-at ws 0 (length ws / gate_size) i (gate_at ws 0) h ∙ ap (λ (j : ℕ). gate_at ws (j * gate_size)) (zero-add i))
+    operation_is = get_or-map operation_of (gates_of ws) i (gate_at ws 0) ∙ ap operation_of (gates-at ws 0 (length ws / gate_size) i (gate_at ws 0) h ∙ ap (λ (j : ℕ). gate_at ws (j * gate_size)) (zero-add i))
 
-    fits : Fits ms made g
-    fits = subst (λ (k : ℕ). Fits ms k g) (sym w.making) (r.fits i h)
+    fits : Fits ms made o
+    fits = subst (λ (k : ℕ). Fits ms k o) (sym w.making) (r.fits i h)
 
     -- the axis
     abbrev A : Matrix
     A = axis_matrix n nodes (axis (operation_of (gate_at ws (i * gate_size))))
 
     abbrev m : Mask
-    m = mask_of ms (gate_at ws (i * gate_size))
+    m = ref_mask ms (axis (operation_of (gate_at ws (i * gate_size))))
 
     range : InRange n m
     range = subst (InRange n) (sym (r.masks i h))
@@ -312,7 +230,7 @@ module _ {l₀ : List ℤ} {ws ms : List ℕ} {σ : Store} {n banks : ℕ} {node
     room = omega (arith, r.room, w.same_length, rows_are)
 
     small : (v : ℕ) → Small (coefficients_of o v)
-    small = coefficients_small g fits.formed
+    small = coefficients_small o fits.eighths
 
     abbrev wide : List ℤ
     wide = with_rows l slots d m o
@@ -345,7 +263,7 @@ module _ {l₀ : List ℤ} {ws ms : List ℕ} {σ : Store} {n banks : ℕ} {node
     kraus : (j q : ℕ) → j < length bs → q < d * d → Kraus kraus_exponent (get_or (get_or bs j zb).matrix q exact.𝟘)
     kraus j q hj hq = all_get_d (λ (b : Branch). (q : ℕ) → q < d * d → Kraus kraus_exponent (get_or b.matrix q exact.𝟘)) bs enough.entries j hj zb q hq
 
-    running_ready : Operating l ms (gate_at ws (i * gate_size)) made (2 * (banks * branch_size (2 ^ n))) from (banks * branch_size (2 ^ n) - from) (2 ^ n) count
+    pub running_ready : Operating l ms (operation_of (gate_at ws (i * gate_size))) made (2 * (banks * branch_size (2 ^ n))) from (banks * branch_size (2 ^ n) - from) (2 ^ n) count
     running_ready = record {
       fits = fits;
       dim = pow_mono {i = n} {j = 5} r.sound.few;
@@ -380,7 +298,7 @@ module _ {l₀ : List ℤ} {ws ms : List ℕ} {σ : Store} {n banks : ℕ} {node
         less (measure a q) s = omega arith
 
         shift_lt : shift_of made o < 64
-        shift_lt = less o (seen_is g made fits.outcome)
+        shift_lt = less o fits.outcome
 
     -- ---- the words of product j
     told : Told n nodes z made (paths_at i)
@@ -415,13 +333,13 @@ module _ {l₀ : List ℤ} {ws ms : List ℕ} {σ : Store} {n banks : ℕ} {node
       where
         made_by : (j : ℕ) → j < length bs * ops → get_or (after (i + 1)) j zb ≡ apply n (get_or bs (j / ops) zb) (operator_of n nodes o (chosen (shift_of made o) j))
         made_by j hj =
-            map_at (λ (p : Path). p.branch) (paths_at (i + 1)) j z
+            get_or-map (λ (p : Path). p.branch) (paths_at (i + 1)) j z
             ∙ ap (λ (ps : List Path). (get_or ps j z).branch) next
-            ∙ step-branch n nodes z o (paths_at i) made told (seen_is g made fits.outcome) j (omega (arith, hj, ap (λ (q : ℕ). q * ops) (length-map (paths_at i) (λ (p : Path). p.branch))))
-            ∙ ap (λ (b : Branch). apply n b (operator_of n nodes o (chosen (shift_of made o) j))) (sym (map_at (λ (p : Path). p.branch) (paths_at i) (j / ops) z))
+            ∙ step-branch n nodes z o (paths_at i) made told fits.outcome j (omega (arith, hj, ap (λ (q : ℕ). q * ops) (length-map (paths_at i) (λ (p : Path). p.branch))))
+            ∙ ap (λ (b : Branch). apply n b (operator_of n nodes o (chosen (shift_of made o) j))) (sym (get_or-map (λ (p : Path). p.branch) (paths_at i) (j / ops) z))
 
-    running_more : {q : List ℤ} {c s : ℕ} → c ≡ count * 2 ^ splits (operation_of (gate_at ws (i * gate_size))) → s ≡ made + splits (operation_of (gate_at ws (i * gate_size)))
-        → q ≡ stepped l (2 * (banks * branch_size (2 ^ n))) (2 ^ n) (mask_of ms (gate_at ws (i * gate_size))) made from (banks * branch_size (2 ^ n) - from) count (operation_of (gate_at ws (i * gate_size)))
+    pub running_more : {q : List ℤ} {c s : ℕ} → c ≡ count * 2 ^ splits (operation_of (gate_at ws (i * gate_size))) → s ≡ made + splits (operation_of (gate_at ws (i * gate_size)))
+        → q ≡ stepped l (2 * (banks * branch_size (2 ^ n))) (2 ^ n) (ref_mask ms (axis (operation_of (gate_at ws (i * gate_size))))) made from (banks * branch_size (2 ^ n) - from) count (operation_of (gate_at ws (i * gate_size)))
         → Running l₀ ws σ n (2 ^ n) banks nodes q (banks * branch_size (2 ^ n) - from) c s (i + 1)
     running_more {q} p f e = record {
       below = omega arith;
@@ -442,69 +360,3 @@ module _ {l₀ : List ℤ} {ws ms : List ℕ} {σ : Store} {n banks : ℕ} {node
 
         after-step : Writing size wide to (count * ops) words_of q (count * ops)
         after-step = wrote (λ j. le_of_eq (length-product wide m.x _ _ d (bit_of o) (chosen (shift_of made o) j))) e
-
--- ---- the same with the number of rows, and the size of a bank, as they are handed over
--- b is the buffer with the first branch written to l
-module _ {b : List ℤ} {ws ms : List ℕ} {σ : Store} {n d banks : ℕ} {nodes : List Node} (r₀ : Runs b ws ms σ n d banks nodes) where
-  pub begins : (l : List ℤ) → b ≡ sets l 0 (branch_words d (identity_branch d σ)) → Running b ws σ n d banks nodes b 0 1 0 0
-  begins l e = subst (λ (d : ℕ). Runs b ws ms σ n d banks nodes → b ≡ sets l 0 (branch_words d (identity_branch d σ)) → Running b ws σ n d banks nodes b 0 1 0 0) (sym r₀.dim) (λ r e. running_begin r l e) r₀ e
-
-  module _ {l : List ℤ} {from count made i size : ℕ} (w : Running b ws σ n d banks nodes l from count made i) (h : i < length ws / gate_size) (e : size ≡ branch_size d) where
-    pub place_le : from ≤ banks * size
-    place_le = ⊎_elim (λ p. omega arith) (λ p. omega (arith, ap (λ (k : ℕ). banks * k) e)) w.place
-
-    pub made_le : made ≤ 64
-    made_le = omega (arith, w.making, r₀.few, sub_total splits (sub_take i (sub_whole (operations_of ws))))
-
-    module _ {x : Gate} (read : x ≡ gate_at ws (i * gate_size)) where
-      pub ready : Operating l ms x made (2 * (banks * size)) from (banks * size - from) d count
-      ready =
-          subst (λ (x : Gate). Operating l ms x made (2 * (banks * size)) from (banks * size - from) d count) (sym read)
-          (subst (λ (s : ℕ). Operating l ms (gate_at ws (i * gate_size)) made (2 * (banks * s)) from (banks * s - from) d count) (sym e)
-          (subst (λ (d : ℕ). Runs b ws ms σ n d banks nodes → Running b ws σ n d banks nodes l from count made i → Operating l ms (gate_at ws (i * gate_size)) made (2 * (banks * branch_size d)) from (banks * branch_size d - from) d count) (sym r₀.dim)
-          (λ r w. running_ready r w h) r₀ w))
-
-      pub more : {q : List ℤ} {c s : ℕ} → c ≡ count * 2 ^ splits (operation_of x) → s ≡ made + splits (operation_of x)
-          → q ≡ stepped l (2 * (banks * size)) d (mask_of ms x) made from (banks * size - from) count (operation_of x) → Running b ws σ n d banks nodes q (banks * size - from) c s (i + 1)
-      more {q} {c} {s} p f g =
-          subst (λ (z : ℕ). Running b ws σ n d banks nodes q (banks * z - from) c s (i + 1)) (sym e)
-          (subst (λ (d : ℕ). Runs b ws ms σ n d banks nodes → Running b ws σ n d banks nodes l from count made i
-          → q ≡ stepped l (2 * (banks * branch_size d)) d (mask_of ms (gate_at ws (i * gate_size))) made from (banks * branch_size d - from) count (operation_of (gate_at ws (i * gate_size)))
-          → Running b ws σ n d banks nodes q (banks * branch_size d - from) c s (i + 1)) (sym r₀.dim)
-          (λ r w g. running_more r w h (p ∙ ap (λ (x : Gate). count * 2 ^ splits (operation_of x)) read) (f ∙ ap (λ (x : Gate). made + splits (operation_of x)) read) g) r₀ w
-          (g ∙ (λ t. stepped l (2 * (banks * e t)) d (mask_of ms (read t)) made from (banks * e t - from) count (operation_of (read t)))))
-
-module _ {l₀ b : List ℤ} {ws ms : List ℕ} {σ : Store} {n d banks : ℕ} {nodes : List Node} (r₀ : Runs l₀ ws ms σ n d banks nodes) (start_is : b ≡ sets l₀ 0 (branch_words d (identity_branch d σ))) where
-  same : length b ≡ length l₀
-  same = ap length start_is ∙ length-sets l₀ 0 (branch_words d (identity_branch d σ))
-
-  pub runs : Runs b ws ms σ n d banks nodes
-  runs = record {
-    sound = r₀.sound;
-    dim = r₀.dim;
-    light = r₀.light;
-    short = r₀.short;
-    bytes = r₀.bytes;
-    few = r₀.few;
-    banked = r₀.banked;
-    room = omega (arith, r₀.room, same);
-    fits = r₀.fits;
-    masks = r₀.masks;
-    placed = r₀.placed;
-  }
-
-  pub ends : {l : List ℤ} {from count made i : ℕ} → Running b ws σ n d banks nodes l from count made i → length ws / gate_size ≤ i → Ran l₀ l ws σ n d banks from nodes
-  ends {l} {from} {i = i} w h =
-      let all : take i (operations_of ws) ≡ operations_of ws = take_all i (operations_of ws) (omega (arith, length-map (gates_of ws) operation_of, gates-length ws 0 (length ws / gate_size))) in
-      record {
-        held = subst (λ (os : List Operation). Holds l from (bank_words d (program_branches n nodes σ os))) all w.held;
-        inside = ⊎_elim (λ p. omega arith) (λ p. omega arith) w.place;
-        long = w.same_length ∙ same;
-        kept = λ k q. w.past k q ∙ ap (λ (m : List ℤ). get_or m k (pos 0)) start_is ∙ sets_above (branch_words d (identity_branch d σ)) l₀ 0 k (pos 0) (omega (arith, length-branch d (identity_branch d σ), first_le));
-      }
-    where
-      one-bank : 1 ≤ banks
-      one-bank = omega (arith, r₀.banked, pow_pos (total splits (operations_of ws)))
-
-      first_le : branch_size d ≤ run_size (length ws / gate_size) d banks
-      first_le = omega (arith, mul-le-mul one-bank (le_refl (branch_size d)))

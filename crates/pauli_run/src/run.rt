@@ -1,99 +1,81 @@
 // A program's operations, run one after the other on the branches.
-ghost use Rattle.std.specs.Prelude.{◌≡◌, true, List, ◌*◌, ◌^◌, ◌<◌, unwrap_or};
-ghost use Rattle.gate.specs.Inner.Words.{gate_of};
-ghost use Rattle.branches.specs.Inner.Store.{no_bit};
+// Kept (buffers): d is the dimension of the branches, not a length of the masks beside it.
+ghost use Rattle.std.specs.Prelude.{◌≡◌, List, ◌-◌, ◌*◌, ◌^◌};
 ghost use Rattle.pauli_nodes.specs.Nodes.{Node};
-ghost use Rattle.pauli_nodes.specs.Operations.{splits};
-ghost use Rattle.pauli_words.specs.Words.{operation_of, operation_formed};
-ghost use Rattle.pauli_run.specs.Inner.Operators.{bit_of, shift_of, mask_of, stepped};
+ghost use Rattle.pauli_nodes.specs.Operations.{axis, splits};
+ghost use Rattle.pauli_nodes.specs.Inner.Masks.{ref_mask};
+ghost use Rattle.pauli_words.specs.Inner.Code.{operation_in};
+ghost use Rattle.pauli_run.specs.Inner.Operators.{Seen, shift_of, stepped};
 ghost use Rattle.pauli_run.specs.Inner.Run.{Operating, Runs, RanAll};
 
 use super::operators::write_operators;
-use branches::bank::{Operators, ROW, branch_size, start_branch, step};
+use branches::bank::{Bank, Operators, ROW, branch_size, start_branch, step};
 use gate::GATE;
-use gate::judge::{GateWords, read_gate};
-use pauli_words::masks::turn;
-use pauli_words::operations::{MEASURE_INTO, ROTATE_IF, splits_of};
+use gate::judge::read_gate;
+use pauli_words::Program;
+use pauli_words::masks::{Mask, referred};
+use pauli_words::operations::Operation;
 
 // The bit of a product's number that chooses its operator, where `made` outcomes were made.
-fn shift_of(w: GateWords, made: u32) -> u32
-    requires { (gate_of w).kind ≡ 1 → (gate_of w).k < made }
-    ensures { result ≡ shift_of made (operation_of (gate_of w)) }
+fn shift_of(operation: Operation, made: u32) -> u32
+    requires { Seen made (operation_in operation) }
+    ensures { result ≡ shift_of made (operation_in operation) }
 {
-    if w.kind == ROTATE_IF {
-        return made - 1 - w.k;
-    }
-    0
-}
-
-// The classical bit that an operation writes, if it writes one.
-fn bit_of(w: GateWords) -> Option<u32>
-    requires { operation_formed (gate_of w) ≡ true }
-    ensures { unwrap_or result no_bit ≡ bit_of (operation_of (gate_of w)) }
-{
-    if w.kind == MEASURE_INTO {
-        Some(w.c)
-    } else {
-        None
+    match operation {
+        Operation::RotateIf { outcome, .. } => made - 1 - outcome,
+        _ => 0,
     }
 }
 
-// Send the `count` branches at `from` to their products with the operators of an operation; answers how many they are.
+// Send the branches of a bank to their products with the operators of an operation, a bank at `to`; answers how many they are.
 fn step_operation(
     work: &mut [i64],
-    w: GateWords,
-    masks: &[u32],
+    operation: Operation,
+    masks: &[Mask],
     made: u32,
     slots: usize,
-    from: usize,
+    from: Bank,
     to: usize,
-    d: usize,
-    count: usize,
 ) -> usize
-    requires { Operating work.old masks.now (gate_of w) made slots from to d count }
-    ensures { (result ≡ count * 2 ^ splits (operation_of (gate_of w))) × (work.new ≡ stepped work.old slots d (mask_of masks.now (gate_of w)) made from to count (operation_of (gate_of w))) }
+    requires { Operating work.old masks.now (operation_in operation) made slots from.at to from.d from.count }
+    ensures { let o = operation_in operation in (result ≡ from.count * 2 ^ splits o) × (work.new ≡ stepped work.old slots from.d (ref_mask masks.now (axis o)) made from.at to from.count o) }
 {
-    let m = turn(w.b, masks[w.a as usize]);
-    write_operators(work, slots, d, w, m);
+    let m = referred(masks, operation.axis());
+    write_operators(work, slots, from.d, operation, m);
     let operators = Operators {
         slots,
-        stride: d * ROW,
-        shift: shift_of(w, made),
+        stride: from.d * ROW,
+        shift: shift_of(operation, made),
         mask: 1,
     };
-    let bit = bit_of(w);
-    let ops = (splits_of(w) + 1) as usize;
-    let x = (m / 128 % 32) as usize;
-    step(work, x, operators, ops, from, to, d, count, bit);
-    count * ops
+    let ops = (operation.splits() + 1) as usize;
+    step(work, m.flips(), operators, ops, from, to, operation.bit());
+    from.count * ops
 }
 
-// Run a program from the identity with a store of bytes; answers where the last bank lies.
+// Run a program from the identity with its store; answers where the last bank lies.
 pub fn run_operations(
     work: &mut [i64],
-    operations: &[u32],
-    masks: &[u32],
-    store: &[u8],
-    n: u32,
+    program: Program,
+    masks: &[Mask],
     d: usize,
     banks: usize,
 ) -> usize
-    requires { (nodes : List Node) × Runs work.old operations.now masks.now store.now n d banks nodes }
-    ensures { RanAll work.old work.new operations.now masks.now store.now n d banks result }
+    requires { (nodes : List Node) × Runs work.old program.operations.now masks.now program.store.now program.qubits d banks nodes }
+    ensures { let p = program.entry in RanAll work.old work.new p.operations.now masks.now p.store.now p.qubits d banks result }
 {
     let bank = banks * branch_size(d);
     let slots = 2 * bank;
-    let total = operations.len() / GATE;
-    start_branch(work, 0, d, store);
-    let mut from = 0;
+    start_branch(work, 0, d, program.store);
+    let mut at = 0;
     let mut count = 1;
     let mut made = 0;
-    for i in 0..total {
-        let w = read_gate(operations, i * GATE);
-        let to = bank - from;
-        count = step_operation(work, w, masks, made, slots, from, to, d, count);
-        made += splits_of(w);
-        from = to;
+    for i in 0..program.operations.len() / GATE {
+        let operation = Operation::of(read_gate(program.operations, i * GATE));
+        let from = Bank { at, d, count };
+        at = bank - at;
+        count = step_operation(work, operation, masks, made, slots, from, at);
+        made += operation.splits();
     }
-    from
+    at
 }

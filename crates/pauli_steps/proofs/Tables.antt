@@ -6,6 +6,9 @@ use native.Mathlib.Nat.{mod-lt}
 use native.Mathlib.Omega.{arith}
 use lib.Bits.{bit_and, bit_xor}
 use lib.Dec.{eqb, leb}
+use lib.ListN.{get_or, get_or-map}
+use Rattle.std.proofs.lemmas.List.{get_or_default}
+use mathlib.Core.List.{map}
 use borrow.Author.Tests.{leb-true}
 use Rattle.algebra.specs.Lists.{all_below}
 use Rattle.algebra.proofs.Tests.{exhaust, holds-true, and_split, all-at}
@@ -16,14 +19,14 @@ use Rattle.exact.proofs.Sizes.{within_of}
 use Rattle.gate.specs.declared.rows.Pair.{Pair}
 use Rattle.gate.specs.Operators.{one}
 use Rattle.pauli_nodes.specs.Nodes.{turned}
-use Rattle.pauli_nodes.specs.Inner.Masks.{mask, parity}
+use Rattle.pauli_nodes.specs.Inner.Masks.{Mask, mask, parity}
 use Rattle.pauli_program.specs.Operators.{Coefficients, turn_by, onto}
-use Rattle.pauli_program.proofs.Steps.{entry, table_is}
+use Rattle.pauli_program.proofs.Steps.{table, entry, table_is}
 use Rattle.pauli_steps.specs.Inner.Rows.{pair_of, axis_row}
 
 -- the pair of a number of eighths
-pub pair-at : {k : ℕ} (j : ℕ) → j < 8 → k ≡ j → pair_of (entry j) ≡ pair_of (turn_by k)
-pair-at j l e = sym (ap (λ (k : ℕ). pair_of (turn_by k)) e ∙ ap pair_of (table_is j l))
+pub pair-at : (k : ℕ) (z : Pair) → k < 8 → get_or (map pair_of table) k z ≡ pair_of (turn_by k)
+pair-at k z l = get_or_default (map pair_of table) k z (pair_of (entry 0)) l ∙ get_or-map pair_of table k (entry 0) ∙ ap pair_of (get_or_default table k (entry 0) _ l ∙ sym (table_is k l))
 
 -- ---- small numbers
 abbrev is_small : Exact → Bool
@@ -70,18 +73,6 @@ onto-small v = go (eqb v 0)
     go true = smalls (onto 0) refl
     go false = smalls (onto 1) refl
 
--- what is left of the numbers below 8
-pub seven : (k : ℕ) → k < 8 → (k ≡ 0 → ⊥) → (k ≡ 1 → ⊥) → (k ≡ 2 → ⊥) → (k ≡ 3 → ⊥) → (k ≡ 4 → ⊥) → (k ≡ 5 → ⊥) → (k ≡ 6 → ⊥) → k ≡ 7
-seven zero l a b c d e f g = absurd (a refl)
-seven (suc zero) l a b c d e f g = absurd (b refl)
-seven (suc (suc zero)) l a b c d e f g = absurd (c refl)
-seven (suc (suc (suc zero))) l a b c d e f g = absurd (d refl)
-seven (suc (suc (suc (suc zero)))) l a b c d e f g = absurd (e refl)
-seven (suc (suc (suc (suc (suc zero))))) l a b c d e f g = absurd (f refl)
-seven (suc (suc (suc (suc (suc (suc zero)))))) l a b c d e f g = absurd (g refl)
-seven (suc (suc (suc (suc (suc (suc (suc zero))))))) l a b c d e f g = refl
-seven (suc (suc (suc (suc (suc (suc (suc (suc k)))))))) l a b c d e f g = absurd (omega arith)
-
 -- ---- rows
 -- the entries as the code chooses them
 abbrev pub written : Exact → Exact → Exact → ℕ → ℕ → ℕ → Exact
@@ -101,9 +92,10 @@ written-other p plus minus x z r =
 two_parities : (m : ℕ) → parity m < 2
 two_parities m = mod-lt (m + m / 2 + m / 4 + m / 8 + m / 16) (omega arith)
 
-pub written_is : (p q : Exact) (x z t : ℕ) {plus minus : Exact} → plus ≡ exact.◌⊗◌ q (turned t) → minus ≡ exact.◌⊗◌ q (turned (t + 2)) → (i : ℕ)
-    → written p plus minus x z i ≡ axis_row (mask x z t) p q i
-written_is p q x z t {plus} {minus} e f i = ap (cond (eqb (i % 2) 0) p) (go (parity (bit_and z (bit_xor (i / 2) x))) (two_parities (bit_and z (bit_xor (i / 2) x))))
+pub written_is : (p q : Exact) (m : Mask) {x z t : ℕ} {plus minus : Exact} → x ≡ m.x → z ≡ m.z → t ≡ m.turns → plus ≡ exact.◌⊗◌ q (turned t) → minus ≡ exact.◌⊗◌ q (turned (t + 2)) → (i : ℕ)
+    → written p plus minus x z i ≡ axis_row m p q i
+written_is p q m {x} {z} {t} {plus} {minus} a b c e f i =
+    ap (cond (eqb (i % 2) 0) p) (go (parity (bit_and z (bit_xor (i / 2) x))) (two_parities (bit_and z (bit_xor (i / 2) x)))) ∙ (λ j. axis_row (mask (a j) (b j) (c j)) p q i)
   where
     go : (s : ℕ) → s < 2 → cond (eqb s 0) plus minus ≡ exact.◌⊗◌ q (turned (t + 2 * s))
     go zero l = let g : t ≡ t + 2 * 0 = omega arith in e ∙ ap (λ (k : ℕ). exact.◌⊗◌ q (turned k)) g

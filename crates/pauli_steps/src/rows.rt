@@ -6,10 +6,12 @@ ghost use Rattle.exact.specs.Inner.Sizes.{Coords};
 ghost use Rattle.scalar.specs.Calls.{value, scalar_of};
 ghost use Rattle.cells.specs.Cells.{cell_size, fill};
 ghost use Rattle.pauli_nodes.specs.Nodes.{turned};
-ghost use Rattle.pauli_nodes.specs.Inner.Masks.{mask, parity};
+ghost use Rattle.pauli_nodes.specs.Inner.Masks.{parity};
 ghost use Rattle.pauli_steps.specs.Inner.Rows.{axis_row};
 
 use cells::{CELL, write_cell};
+use gate::rows::Pair;
+use pauli_words::masks::Mask;
 use products::times;
 use scalar::Scalar;
 use scalar::powers::power;
@@ -35,23 +37,18 @@ fn signed(plus: Scalar, minus: Scalar, z: usize, c: usize) -> Scalar
     minus
 }
 
-// Write the two entries of each of d rows to `at` on.
+// Write the two entries of each of d rows to `at` on; m is the mask form of the axis, and p and q are a pair.
 // Kept: gate::rows::write_rows writes two entries a row as well; one function for both takes a closure for the pair of a row, with a contract over all pairs that it may give, which is no plainer than the two loops.
-pub fn axis_rows(
-    buf: &mut [i64],
-    at: usize,
-    d: usize,
-    x: usize,
-    z: usize,
-    t: u32,
-    p: Scalar,
-    q: Scalar,
-)
-    requires { ((z < 32) × (t < 4)) × ((at + d * 2 * cell_size ≤ length buf.old) × Coords 1 narrow_exponent (value q)) }
-    ensures { buf.new ≡ fill buf.old at (d * 2) (axis_row (mask x z t) (value p) (value q)) }
+pub fn axis_rows(buf: &mut [i64], at: usize, d: usize, m: Mask, pair: Pair)
+    requires { (at + d * 2 * cell_size ≤ length buf.old) × Coords 1 narrow_exponent (value pair.other) }
+    ensures { buf.new ≡ fill buf.old at (d * 2) (axis_row m (value pair.own) (value pair.other)) }
 {
-    let plus = turn(q, t);
-    let minus = turn(q, t + 2);
+    let x = m.flips();
+    let z = m.signs();
+    let t = m.turns();
+    let p = pair.own;
+    let plus = turn(pair.other, t);
+    let minus = turn(pair.other, t + 2);
     for r in 0..d {
         let y = signed(plus, minus, z, r ^ x);
         let to = at + r * 2 * CELL;

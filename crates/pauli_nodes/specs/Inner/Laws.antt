@@ -1,12 +1,12 @@
 -- What holds of mask forms, a type each.
-use Rattle.std.specs.Prelude.{◌≡◌, ◌↔◌, true, List, [], ◌∷◌, ◌++◌, ℕ, ◌+◌, ◌*◌, ◌^◌, ◌≤◌, ◌<◌, length}
+use Rattle.std.specs.Prelude.{◌≡◌, ◌↔◌, true, List, ℕ, ◌^◌, ◌≤◌, ◌<◌}
 use Rattle.algebra.specs.Lists.{All}
 use Rattle.algebra.specs.Sum.{times}
 use Rattle.exact.specs.Exact.{exact}
 use Rattle.gate.specs.Embedding.{Equal}
 use Rattle.pauli_nodes.specs.Nodes.{Reference, Node, Placed, hermitian, node_matrix, axis_matrix}
 use Rattle.pauli_nodes.specs.Claims.{SelfAdjoint}
-use Rattle.pauli_nodes.specs.Inner.Masks.{Mask, mask_matrix, times_mask, is_hermitian, mask_after, node_masks, node_mask, axis_mask}
+use Rattle.pauli_nodes.specs.Inner.Masks.{Mask, mask_matrix, times_mask, is_hermitian, node_mask, axis_mask}
 
 -- a mask form on n qubits
 pub record InRange (n : ℕ) (m : Mask) : Type 0 where

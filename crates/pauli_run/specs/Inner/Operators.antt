@@ -1,16 +1,14 @@
 -- The two operators of an operation, 0 and 1: of the two outcomes of a measure, or of a rotation after each; and the words of a step.
-use Rattle.std.specs.Prelude.{cond, List, ℕ, ◌*◌, ◌-◌, ◌/◌, ◌%◌, ◌^◌, eqb, get_or, ℤ}
+use Rattle.std.specs.Prelude.{cond, List, ℕ, ◌*◌, ◌-◌, ◌/◌, ◌%◌, ◌^◌, ◌<◌, eqb, get_or, ℤ}
 use Rattle.algebra.specs.Words.{blocks}
 use Rattle.cells.specs.Cells.{cells}
-use Rattle.gate.specs.Gate.{Gate}
 use Rattle.kraus.specs.Branch.{KrausOperator, write}
 use Rattle.branches.specs.Inner.Store.{no_bit}
 use Rattle.branches.specs.Inner.Bank.{branch_size, row_size}
 use Rattle.branches.specs.Inner.Step.{step_words}
 use Rattle.pauli_nodes.specs.Nodes.{Node, axis_matrix}
 use Rattle.pauli_nodes.specs.Operations.{Operation, rotate, rotate_if, measure, axis, bits, splits}
-use Rattle.pauli_nodes.specs.Inner.Masks.{Mask, turn_mask}
-use Rattle.pauli_words.specs.Inner.Masks.{unpacked}
+use Rattle.pauli_nodes.specs.Inner.Masks.{Mask}
 use Rattle.pauli_program.specs.Operators.{Coefficients, mixed, turn_by, onto}
 use Rattle.pauli_steps.specs.Inner.Rows.{axis_row}
 
@@ -28,6 +26,12 @@ shift_of made (rotate a k) = 0
 shift_of made (rotate_if a k j) = made - 1 - j
 shift_of made (measure a bs) = 0
 
+-- the outcome that it reads was made
+abbrev pub Seen : ℕ → Operation → Type 0
+Seen made (rotate a k) = Unit {0}
+Seen made (rotate_if a k j) = j < made
+Seen made (measure a bs) = Unit {0}
+
 -- the number of the operator of product j: that bit of j
 abbrev pub chosen : ℕ → ℕ → ℕ
 chosen shift j = j / 2 ^ shift % 2
@@ -35,10 +39,6 @@ chosen shift j = j / 2 ^ shift % 2
 -- the classical bit that it writes
 abbrev pub bit_of : Operation → ℕ
 bit_of o = get_or (bits o) 0 no_bit
-
--- the mask form of its axis, from the words of the nodes' mask forms
-abbrev pub mask_of : List ℕ → Gate → Mask
-mask_of ms g = turn_mask g.b (unpacked (get_or ms g.a 0))
 
 -- ---- words
 abbrev pub rows_words : ℕ → Mask → Operation → ℕ → List ℤ

@@ -1,18 +1,18 @@
 -- Programs run in a work buffer: two banks of `banks` branches each, then the rows of two operators; each operation reads one bank and writes the other.
-use Rattle.std.specs.Prelude.{◌≡◌, true, List, ℕ, zero, suc, ◌+◌, ◌*◌, ◌/◌, ◌^◌, ◌≤◌, ◌<◌, length, get_or, take, ℤ, pos}
+use Rattle.std.specs.Prelude.{◌≡◌, List, ℕ, zero, suc, ◌+◌, ◌*◌, ◌/◌, ◌^◌, ◌≤◌, ◌<◌, length, get_or, take, ℤ, pos}
 use Rattle.algebra.specs.Lists.{All, total}
-use Rattle.gate.specs.Gate.{Gate, gate_at, gate_size, max_weight}
+use Rattle.gate.specs.Gate.{gate_at, gate_size, max_weight}
 use Rattle.kraus.specs.Branch.{Store}
 use Rattle.store.specs.Inner.Held.{Bits}
 use Rattle.branches.specs.Inner.Bank.{branch_size, bank_words, Holds, row_size}
 use Rattle.branches.specs.Inner.Step.{Step}
 use Rattle.pauli_nodes.specs.Nodes.{Node}
-use Rattle.pauli_nodes.specs.Operations.{axis, bits, splits, weight}
-use Rattle.pauli_nodes.specs.Inner.Masks.{axis_mask}
-use Rattle.pauli_words.specs.Words.{operation_of, operation_formed, operations_of}
+use Rattle.pauli_nodes.specs.Operations.{Operation, axis, bits, splits, weight}
+use Rattle.pauli_nodes.specs.Inner.Masks.{Mask, ref_mask, axis_mask}
+use Rattle.pauli_words.specs.Words.{operation_of, operations_of}
 use Rattle.pauli_program.specs.Program.{program_branches}
-use Rattle.pauli_program.specs.Claims.{Sound}
-use Rattle.pauli_run.specs.Inner.Operators.{shift_of, chosen, mask_of, with_rows}
+use Rattle.pauli_program.specs.Claims.{Eighths, Sound}
+use Rattle.pauli_run.specs.Inner.Operators.{Seen, shift_of, chosen, with_rows}
 
 -- the rows of two operators, where there is an operation
 abbrev pub rows_size : ℕ → ℕ → ℕ
@@ -24,23 +24,23 @@ abbrev pub run_size : ℕ → ℕ → ℕ → ℕ
 run_size count d banks = 2 * (banks * branch_size d) + rows_size count d
 
 -- an operation after `made` outcomes, and the mask forms of the nodes
-pub record Fits (ms : List ℕ) (made : ℕ) (g : Gate) : Type 0 where
-  pub formed : operation_formed g ≡ true
-  pub there : g.a < length ms
-  pub outcome : g.kind ≡ 1 → g.k < made
+pub record Fits (ms : List Mask) (made : ℕ) (o : Operation) : Type 0 where
+  pub eighths : Eighths o
+  pub there : (axis o).node < length ms
+  pub outcome : Seen made o
   pub few : made ≤ 64
 
 -- what an operation asks of its words
-pub record Operating (l : List ℤ) (ms : List ℕ) (g : Gate) (made slots from to d count : ℕ) : Type 0 where
-  pub fits : Fits ms made g
+pub record Operating (l : List ℤ) (ms : List Mask) (o : Operation) (made slots from to d count : ℕ) : Type 0 where
+  pub fits : Fits ms made o
   pub dim : d ≤ 32
   pub room : slots + 2 * (d * row_size) ≤ length l
-  pub shifted : shift_of made (operation_of g) < 64
-  pub ready : Step (with_rows l slots d (mask_of ms g) (operation_of g)) (mask_of ms g).x slots (d * row_size) 2 (chosen (shift_of made (operation_of g))) (2 ^ splits (operation_of g)) from to d count
+  pub shifted : shift_of made o < 64
+  pub ready : let m = ref_mask ms (axis o) in Step (with_rows l slots d m o) m.x slots (d * row_size) 2 (chosen (shift_of made o)) (2 ^ splits o) from to d count
 
 -- ---- all operations
 -- a program with these nodes that passed the questions
-pub record Runs (l : List ℤ) (ws ms : List ℕ) (σ : Store) (n d banks : ℕ) (nodes : List Node) : Type 0 where
+pub record Runs (l : List ℤ) (ws : List ℕ) (ms : List Mask) (σ : Store) (n d banks : ℕ) (nodes : List Node) : Type 0 where
   pub sound : Sound n nodes (operations_of ws)
   pub dim : d ≡ 2 ^ n
   pub light : total weight (operations_of ws) ≤ max_weight
@@ -49,8 +49,8 @@ pub record Runs (l : List ℤ) (ws ms : List ℕ) (σ : Store) (n d banks : ℕ)
   pub few : total splits (operations_of ws) ≤ 64
   pub banked : banks ≡ 2 ^ total splits (operations_of ws)
   pub room : run_size (length ws / gate_size) d banks ≤ length l
-  pub fits : (i : ℕ) → i < length ws / gate_size → Fits ms (total splits (take i (operations_of ws))) (gate_at ws (i * gate_size))
-  pub masks : (i : ℕ) → i < length ws / gate_size → mask_of ms (gate_at ws (i * gate_size)) ≡ axis_mask n nodes (axis (operation_of (gate_at ws (i * gate_size))))
+  pub fits : (i : ℕ) → i < length ws / gate_size → Fits ms (total splits (take i (operations_of ws))) (operation_of (gate_at ws (i * gate_size)))
+  pub masks : (i : ℕ) → i < length ws / gate_size → let a = axis (operation_of (gate_at ws (i * gate_size))) in ref_mask ms a ≡ axis_mask n nodes a
   pub placed : (i : ℕ) → i < length ws / gate_size → All (λ (b : ℕ). b < length σ) (bits (operation_of (gate_at ws (i * gate_size))))
 
 -- what is left: the branches of the program from `at` on, `banks` of them, and all words past the rows as they were
@@ -61,5 +61,5 @@ pub record Ran (l m : List ℤ) (ws : List ℕ) (σ : Store) (n d banks at : ℕ
   pub kept : (k : ℕ) → run_size (length ws / gate_size) d banks ≤ k → get_or m k (pos 0) ≡ get_or l k (pos 0)
 
 -- whatever nodes the mask forms are those of
-abbrev pub RanAll : List ℤ → List ℤ → List ℕ → List ℕ → Store → ℕ → ℕ → ℕ → ℕ → Type 0
+abbrev pub RanAll : List ℤ → List ℤ → List ℕ → List Mask → Store → ℕ → ℕ → ℕ → ℕ → Type 0
 RanAll l m ws ms σ n d banks at = (nodes : List Node) → Runs l ws ms σ n d banks nodes → Ran l m ws σ n d banks at nodes

@@ -1,10 +1,7 @@
 -- What is handed over is what the program asks for; a refusal leaves the buffers.
-use Rattle.std.specs.Prelude.{Ok, is_ok}
-use Rattle.std.proofs.Common.{◌≡◌, ℕ, List, length, sym, ap, ◌∙◌}
-use lib.IntN.{ℤ}
-use Rattle.verdict.specs.Questions.{Question}
+use Rattle.std.specs.Prelude.{is_ok}
+use Rattle.std.proofs.Common.{ℕ, List, sym, ap, ◌∙◌}
 use Rattle.verdict.proofs.Questions.{returned, refused_alike, handed, handed_value}
-use Rattle.circuit.specs.declared.limits.Limits.{Limits}
 use Rattle.pauli_words.specs.Words.{operations_of}
 use Rattle.pauli_judge.specs.declared.footprint.ProgramFootprint.{ProgramFootprint}
 use Rattle.pauli_judge.specs.Footprint.{program_footprint}
@@ -18,25 +15,25 @@ print n m os = program_footprint n m (operations_of os)
 
 pub run_and_deliver-requires : goal.run_and_deliver-requires
 run_and_deliver-requires c =
-    let a = c.args in
+    let a = c.args.program in
     let f = print a.qubits a.bits a.operations.now in
-    let qs = asked a.qubits a.bits a.store.now a.limits a.nodes.now a.operations.now a.res.now a.work.now in
-    (handed_value f qs c.in_ok-f.ensures, record { limits = a.limits; yes = sym (ap is_ok (handed f tt qs c.in_ok-f.ensures)) })
+    let qs = asked a.qubits a.bits a.store.now c.args.limits a.nodes.now a.operations.now c.args.res.now c.args.work.now in
+    (handed_value f qs c.in_ok-f.ensures, record { limits = c.args.limits; yes = sym (ap is_ok (handed f tt qs c.in_ok-f.ensures)) })
 
 pub returns-in_err-f : goal.returns-in_err-f
 returns-in_err-f c =
-    let a = c.args in
+    let a = c.args.program in
     let f = print a.qubits a.bits a.operations.now in
-    let qs = asked a.qubits a.bits a.store.now a.limits a.nodes.now a.operations.now a.res.now a.work.now in
+    let qs = asked a.qubits a.bits a.store.now c.args.limits a.nodes.now a.operations.now c.args.res.now c.args.work.now in
     let no = refused_alike f tt qs c.in_err-f.ensures in
-    let left = refused_leaves a.qubits a.bits a.store.now a.limits a.nodes.now a.operations.now a.res.now a.work.now (sym (ap is_ok no)) in
+    let left = refused_leaves a.qubits a.bits a.store.now c.args.limits a.nodes.now a.operations.now c.args.res.now c.args.work.now (sym (ap is_ok no)) in
     record { value = returned _ c.from_residual.ensures.1 ∙ no; res_after = left.0; work_after = left.1 }
 
 pub returns : goal.returns
 returns c =
-    let a = c.args in
+    let a = c.args.program in
     let f = print a.qubits a.bits a.operations.now in
-    let qs = asked a.qubits a.bits a.store.now a.limits a.nodes.now a.operations.now a.res.now a.work.now in
+    let qs = asked a.qubits a.bits a.store.now c.args.limits a.nodes.now a.operations.now c.args.res.now c.args.work.now in
     let yes = handed f tt qs c.in_ok-f.ensures in
-    let left = accepted_leaves a.qubits a.bits a.store.now a.limits a.nodes.now a.operations.now a.res.now a.work.now (sym (ap is_ok yes)) c.run_and_deliver.ensures.res_after c.run_and_deliver.ensures.work_after in
+    let left = accepted_leaves a.qubits a.bits a.store.now c.args.limits a.nodes.now a.operations.now c.args.res.now c.args.work.now (sym (ap is_ok yes)) c.run_and_deliver.ensures.res_after c.run_and_deliver.ensures.work_after in
     record { value = yes; res_after = left.0; work_after = left.1 }

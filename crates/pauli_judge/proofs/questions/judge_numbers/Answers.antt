@@ -4,7 +4,7 @@ use Rattle.circuit.proofs.Numbers.{all-low}
 use Rattle.pauli_judge.proofs.Numbers.{too_many}
 use Rattle.pauli_judge.proofs.questions.judge_numbers.Goals as goal
 
-pub returns-then-bits-l : goal.returns-then-bits-l
-returns-then-bits-l c =
+pub returns-then-program-l : goal.returns-then-program-l
+returns-then-program-l c =
     let a = c.args in
-    simp (sym c.is_store.ensures ∙ c.if-not-is_store.false, too_many a.l a.f a.n a.bits (all-low a.l c.requires.0) c.if-bits-l.true)
+    simp (sym c.is_store.ensures ∙ c.if-not-is_store.false, too_many a.l a.f a.program.qubits a.program.bits (all-low a.l c.requires.0) c.if-program-l.true)

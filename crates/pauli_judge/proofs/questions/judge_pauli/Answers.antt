@@ -8,12 +8,12 @@ use Rattle.pauli_judge.proofs.questions.judge_pauli.Goals as goal
 
 pub returns-in_err-judge_runnable : goal.returns-in_err-judge_runnable
 returns-in_err-judge_runnable c =
-    let a = c.args in
+    let a = c.args.program in
     let p = err_from_is_err_and c.from_residual.result c.from_residual.ensures.1 in
     rw (p.1, p.2)
-    (refused_alike (program_footprint a.n a.bits (operations_of a.operations.now)) tt (pauli_questions a.n a.bits a.store.now a.l a.nodes.now a.operations.now a.res a.work) c.in_err-judge_runnable.ensures)
+    (refused_alike (program_footprint a.qubits a.bits (operations_of a.operations.now)) tt (pauli_questions a.qubits a.bits a.store.now c.args.l a.nodes.now a.operations.now c.args.res c.args.work) c.in_err-judge_runnable.ensures)
 
 pub returns : goal.returns
 returns c =
-    let a = c.args in
-    handed (program_footprint a.n a.bits (operations_of a.operations.now)) tt (pauli_questions a.n a.bits a.store.now a.l a.nodes.now a.operations.now a.res a.work) c.in_ok-judge_runnable.ensures
+    let a = c.args.program in
+    handed (program_footprint a.qubits a.bits (operations_of a.operations.now)) tt (pauli_questions a.qubits a.bits a.store.now c.args.l a.nodes.now a.operations.now c.args.res c.args.work) c.in_ok-judge_runnable.ensures

@@ -7,4 +7,6 @@ use Rattle.pauli_run.proofs.run.run_operations.Given as goal
 
 abbrev pub invariant-loop-i : goal.invariant-loop-i
 invariant-loop-i l =
-    (nodes : List Node) → Runs l.initial.work l.operations l.masks l.store l.n l.d l.banks nodes → Running l.initial.work l.operations l.store l.n l.d l.banks nodes l.work l.from l.count l.made l.i
+    let p = l.program in
+    (nodes : List Node) → Runs l.initial.work p.operations.now l.masks p.store.now p.qubits l.d l.banks nodes
+    → Running l.initial.work p.operations.now p.store.now p.qubits l.d l.banks nodes l.work l.at l.count l.made l.i

@@ -1,13 +1,12 @@
 -- The invariant: the entries of the first r rows are written.
-use mathlib.Core.Path.{◌≡◌, refl, sym, ap, subst, ◌∙◌}
+use mathlib.Core.Path.{◌≡◌, refl, ap, subst, ◌∙◌}
 use mathlib.Core.Bool.{Bool, true, false, cond}
-use Prim.Native.Nat.{ℕ, ◌+◌, ◌*◌, ◌-◌, ◌<◌, ◌≤◌}
+use Prim.Native.Nat.{ℕ, ◌+◌, ◌*◌, ◌<◌, ◌≤◌}
 use native.Mathlib.Nat.{le_refl}
 use native.Mathlib.Omega.{arith}
 use lib.Bits.{bit_and, bit_xor}
 use lib.Dec.{eqb}
-use lib.ListN.{length}
-use Rattle.algebra.proofs.Blocks.{Writing, begin, again, done, long, blocks-same}
+use Rattle.algebra.proofs.Blocks.{Writing, begin, again, done, blocks-same}
 use Rattle.scalar.specs.declared.Scalar.{Scalar}
 use Rattle.scalar.specs.Calls.{value}
 use Rattle.cells.specs.Cells.{cell_size, cell_words}
@@ -34,18 +33,22 @@ module _ (p plus minus : Scalar) (x z r : ℕ) where
 pub loop-r-preserved : goal.loop-r-preserved
 loop-r-preserved c =
     let a = c.args in
+    let p = a.pair.own in
+    let x = c.flips-x.result in
+    let z = c.signs-z.result in
     let r = c.loop-r.r in
     let plus = c.turn-plus.result in
     let minus = c.turn-minus.result in
     let inside : r * 2 + 1 < a.d * 2 = omega (arith, c.loop-r-test.true) in
-    let own = again c.loop-r.invariant (omega (arith, inside)) c.write_cell.ensures (own-words a.p plus minus a.x a.z r) in
+    let own = again c.loop-r.invariant (omega (arith, inside)) c.write_cell.ensures (own-words p plus minus x z r) in
     let next : r * 2 + 1 + 1 ≡ (r + 1) * 2 = omega arith in
-    subst (Writing cell_size a.buf.now a.at (a.d * 2) (λ (i : ℕ). cell_words (written (value a.p) (value plus) (value minus) a.x a.z i)) _) next
-    (again own inside c.write_cell-in-loop-r.ensures (other-words a.p plus minus a.x a.z r c.signed-y.ensures))
+    subst (Writing cell_size a.buf.now a.at (a.d * 2) (λ (i : ℕ). cell_words (written (value p) (value plus) (value minus) x z i)) _) next
+    (again own inside c.write_cell-in-loop-r.ensures (other-words p plus minus x z r c.signed-y.ensures))
 
 pub returns : goal.returns
 returns c =
     let a = c.args in
     let all : a.d * 2 ≤ c.loop-r.r * 2 = omega (arith, c.loop-r-test.false) in
     done c.loop-r.invariant all
-    ∙ blocks-same cell_size a.buf.now a.at (a.d * 2) _ _ (λ i k. ap cell_words (written_is (value a.p) (value a.q) a.x a.z a.t (ap value c.turn-plus.ensures) (ap value c.turn-minus.ensures) i))
+    ∙ blocks-same cell_size a.buf.now a.at (a.d * 2) _ _ (λ i k. ap cell_words
+    (written_is (value a.pair.own) (value a.pair.other) a.m c.flips-x.ensures.0 c.signs-z.ensures.0 c.turns-t.ensures.0 (ap value c.turn-plus.ensures) (ap value c.turn-minus.ensures) i))

@@ -1,7 +1,6 @@
 -- A power of i is a power of ω.
 use mathlib.Core.Path.{sym, ap, ◌∙◌, subst}
 use Prim.Native.Nat.{◌*◌}
-use native.Mathlib.Omega.{arith}
 use Rattle.exact.specs.Exact.{Exact, exact, narrow_exponent}
 use Rattle.exact.specs.Inner.Sizes.{Coords}
 use Rattle.scalar.specs.declared.Scalar.{Scalar}

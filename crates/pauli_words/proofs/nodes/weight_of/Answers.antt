@@ -1,14 +1,13 @@
 -- Computed at each power.
-use Prim.Native.Nat.{ℕ, ◌-◌, ◌*◌, ◌%◌, ◌^◌}
+use mathlib.Core.Path.{◌≡◌}
+use Prim.Native.Nat.{ℕ, ◌-◌, ◌*◌, ◌%◌, ◌^◌, ◌<◌}
 use native.Mathlib.Omega.{arith}
 use lib.Pow.{pow-lt}
 use Rattle.algebra.proofs.Tests.{equal1}
-use mathlib.Core.Path.{◌≡◌}
-use Prim.Native.Nat.{◌<◌}
 use Rattle.pauli_words.proofs.nodes.weight_of.Goals as goal
 
-shifted : (k : ℕ) → k < 5 → 1 * 2 ^ k % 2 ^ 32 ≡ 2 ^ k
-shifted k l = equal1 (λ (k : ℕ). 1 * 2 ^ k % 2 ^ 32) (λ (k : ℕ). 2 ^ k) 5 tt k l
+shifted : (k : ℕ) → k < 5 → 1 * 2 ^ k % 256 ≡ 2 ^ k
+shifted k l = equal1 (λ (k : ℕ). 1 * 2 ^ k % 256) (λ (k : ℕ). 2 ^ k) 5 tt k l
 
 pub returns : goal.returns
 returns c =

@@ -10,4 +10,4 @@ use Rattle.pauli_words.proofs.operations.judge_operations.Given as goal
 
 abbrev pub invariant-loop-i : goal.invariant-loop-i
 invariant-loop-i l =
-    (l.made ≤ l.i) × (first_no (operations_questions (mask_fits l.masks l.count) l.bits 0 0 (gates_of l.words)) ≡ first_no (from l.words (mask_fits l.masks l.count) l.bits l.made l.i))
+    (l.made ≤ l.i) × (first_no (operations_questions (mask_fits l.masks) l.bits 0 0 (gates_of l.words)) ≡ first_no (from l.words (mask_fits l.masks) l.bits l.made l.i))
