@@ -1,4 +1,5 @@
 // The calls of the C interface on channels in forms that keep less: packed, and without √2 parts.
+// Kept (together): the parameters are those of the C interface.
 #![tactic(auto)]
 
 ghost use Rattle.std.specs.Prelude.{◌≡◌};

@@ -1,11 +1,16 @@
--- Blocks of one exponent: an entry is the same exactly where its four words are.
+-- Sides of a turn, and blocks of one exponent: an entry is the same exactly where its four words are.
+use Rattle.std.specs.Prelude.{Some}
+use Rattle.std.specs.Borrow.{Bor}
 use mathlib.Core.Path.{◌≡◌, refl, sym, ap, ◌∙◌}
 use mathlib.Core.Bool.{true, ◌&&◌}
 use mathlib.Core.List.{List}
 use Prim.Native.Nat.{ℕ, ◌+◌, ◌*◌, ◌<◌, ◌≤◌}
 use native.Mathlib.Nat.{add_assoc}
 use native.Mathlib.Omega.{arith}
+use lib.Dec.{leb}
+use lib.ListN.{length}
 use lib.IntN.{ℤ, nat_abs}
+use borrow.Author.Tests.{leb-true}
 use Rattle.algebra.specs.Words.{eqℤ}
 use Rattle.algebra.proofs.Tests.{and_split, test_same, all-at, all-by}
 use Rattle.algebra.proofs.Signed.{eqℤ-true, eqℤ-refl}
@@ -16,23 +21,16 @@ use Rattle.exact.proofs.Exact.{exact_halving}
 use Rattle.exact.proofs.Equal.{equal-true, equal_of}
 use Rattle.gather.specs.Words.{same_at, same_words}
 use Rattle.channel.specs.Layout.{record_head, exponent_place, word, channels, dim_at, exp_at, numbers_at, entry_at}
-use Rattle.channel.specs.declared.compare.Turn.{Turn}
 use Rattle.channel.specs.Inner.Shapes.{Entries}
-use Rattle.channel.specs.Inner.Walk.{side_at, alike, Held}
+use Rattle.channel.specs.Inner.Sides.{Side, holds, side_of, both_alike}
 
--- what "alike" says
-pub alike_is : (t : Turn) (l : List ℤ) (i : ℕ) (r : List ℤ) (j : ℕ) → alike t l i r j ≡ true → (t.left ≡ true) × ((t.right ≡ true) × (word l (i + exponent_place) ≡ word r (j + exponent_place)))
-alike_is t l i r j e =
-    let p = and_split (t.left && t.right) _ e in
-    let q = and_split t.left t.right p.0 in
-    (q.0, (q.1, eqℤ-true (word l (i + exponent_place)) (word r (j + exponent_place)) p.1))
+-- the entries that can be read of a side
+module _ (n : ℕ) (l : Bor (List ℤ)) where
+  pub holds-entries : holds n (Some l) ≡ true → Entries l.now 0 n
+  holds-entries e = let p = and_split (leb (record_head + n * 4) (length l.now)) _ e in record { inside = leb-true _ (length l.now) p.0; exponent = p.1 }
 
--- fewer entries
-pub fewer : {l : List ℤ} {at n : ℕ} (k : ℕ) → k ≤ n → Entries l at n → Entries l at k
-fewer k h e = record { inside = let q = e.inside in omega arith; exponent = e.exponent }
-
-pub held_fewer : {t : Turn} {l r : List ℤ} {i j n : ℕ} (k : ℕ) → k ≤ n → Held t l i r j n → Held t l i r j k
-held_fewer k h e = record { left = λ t. fewer k h (e.left t); right = λ t. fewer k h (e.right t) }
+pub held-inside : {s : Side} {l : Bor (List ℤ)} (n : ℕ) → s ≡ Some l → holds n s ≡ true → record_head + n * 4 ≤ length l.now
+held-inside {l = l} n p e = (holds-entries n l (sym (ap (holds n) p) ∙ e)).inside
 
 module _ (l : List ℤ) (a : ℕ) (r : List ℤ) (b k : ℕ) where
   abbrev z : Number
@@ -72,7 +70,16 @@ rows_decide l a r b n e s k h =
     ∙ all-by 4 (same_at l (a + record_head + k * 4) r (b + record_head + k * 4))
     (λ i p. (λ j. eqℤ (word l (add_assoc (a + record_head) (k * 4) i j)) (word r (add_assoc (b + record_head) (k * 4) i j))) ∙ all-at (n * 4) (same_at l (a + record_head) r (b + record_head)) s (k * 4 + i) (omega arith))
 
--- both sides of a turn on blocks that are alike
-pub sides_alike : (t : Turn) (l : List ℤ) (i : ℕ) (r : List ℤ) (j k : ℕ) → t.left ≡ true → t.right ≡ true
-    → equal (side_at t.left l i k) (side_at t.right r j k) ≡ equal (entry_at (channels (dim_at l)) l i k) (entry_at (channels (dim_at r)) r j k)
-sides_alike t l i r j k p q = λ n. equal (side_at (p n) l i k) (side_at (q n) r j k)
+-- blocks that are alike
+module _ {x y : Side} {l r : Bor (List ℤ)} (p : x ≡ Some l) (q : y ≡ Some r) (e : both_alike x y ≡ true) where
+  one_exponent : word l.now exponent_place ≡ word r.now exponent_place
+  one_exponent = eqℤ-true _ _ (sym (λ i. both_alike (p i) (q i)) ∙ e)
+
+  sides : (k : ℕ) → equal (side_of (Some l) k) (side_of (Some r) k) ≡ equal (side_of x k) (side_of y k)
+  sides k = λ i. equal (side_of (sym p i) k) (side_of (sym q i) k)
+
+  pub alike-entry : (k : ℕ) → same_words l.now (record_head + k * 4) r.now (record_head + k * 4) 4 ≡ equal (side_of x k) (side_of y k)
+  alike-entry k = four_decide l.now 0 r.now 0 k one_exponent ∙ sides k
+
+  pub alike-rows : (n : ℕ) → same_words l.now record_head r.now record_head (n * 4) ≡ true → (k : ℕ) → k < n → equal (side_of x k) (side_of y k) ≡ true
+  alike-rows n s k h = sym (sides k) ∙ rows_decide l.now 0 r.now 0 n one_exponent s k h

@@ -1,23 +1,22 @@
 -- Looking a store up: the walk along the chain, and the part that is handed back.
-use Rattle.std.specs.Prelude.{is_ok, Option, Some, None, Ok, Err}
+use Rattle.std.specs.Prelude.{is_ok, Option, Some, None, Ok}
 use mathlib.Core.Path.{◌≡◌, refl, sym, ap, ◌∙◌, subst}
 use mathlib.Core.Bool.{Bool, true, false, cond}
-use mathlib.Core.List.{List, []}
-use Prim.Native.Nat.{ℕ, zero, suc, ◌+◌, ◌*◌, ◌-◌, ◌<◌, ◌≤◌}
+use mathlib.Core.List.{List}
+use Prim.Native.Nat.{ℕ, zero, suc, ◌+◌, ◌-◌, ◌<◌, ◌≤◌}
 use native.Mathlib.Omega.{arith}
 use lib.Dec.{eqb}
 use lib.ListN.{length, take, drop}
 use lib.IntN.{ℤ, nat_abs}
 use Rattle.algebra.specs.Words.{from_bits}
-use Rattle.verdict.specs.declared.Refusal.{Refusal}
 use Rattle.channel.specs.declared.Shape.{Shape}
 use Rattle.channel.specs.declared.lookup.Span.{Span}
-use Rattle.channel.specs.Layout.{exponent_place, full, block_size, channels, record_size, word, store_at, dim_at, bits_at, count_at}
+use Rattle.channel.specs.Layout.{exponent_place, channels, record_size, word, store_at, dim_at, bits_at, count_at}
 use Rattle.channel.specs.WellFormed.{well_formed, form_verdict}
 use Rattle.channel.specs.Inner.Shapes.{Onward, shape_at, shape_of}
 use Rattle.store.specs.Store.{store_fits}
 use Rattle.channel.specs.Lookup.{Lookup, refused, wrong_store, missing, found, find, placed, lookup_of, block_words, part_of, span_of}
-use Rattle.channel.proofs.Judging.{form-right, shape_no, passed_is}
+use Rattle.channel.proofs.Judging.{form-right, passed_is}
 use Rattle.channel.proofs.Chain.{onward_begin, on-inside, on-next}
 
 -- ---- one step of the walk
@@ -95,49 +94,17 @@ module _ (l : List ℤ) (bs : List ℕ) where
           let p : record { start = a + exponent_place; size = block_words l } ≡ s = cc in
           subst Part p (record { inside = let r = found-inside a e in omega arith; words = ap (part_of l) (sym e) })
 
-  pub part-none : span_of l (lookup_of l bs) ≡ None → part_of l (lookup_of l bs) ≡ []
-  part-none = by (lookup_of l bs)
-    where
-      by : (x : Lookup) → span_of l x ≡ None → part_of l x ≡ []
-      by refused q = refl
-      by wrong_store q = refl
-      by missing q = refl
-      by (found a) q = absurd (cc)
-
 -- ---- what a look-up answers, step by step
 module _ (l : List ℤ) (bs : List ℕ) where
-  pub refused_there : {r : Refusal} → Err r ≡ shape_of l → None ≡ span_of l (lookup_of l bs)
-  refused_there e = sym (ap (span_of l) (look-refused l bs (ap is_ok (shape_no (form_verdict l) l e))))
-
   module _ {h : Shape} (e : Ok h ≡ shape_of l) where
     is_header : h ≡ shape_at l
     is_header = (passed_is l e).is
 
-    passes : is_ok (form_verdict l) ≡ true
-    passes = ap is_ok (passed_is l e).verdict
-
-    pub wrong_there : store_fits h.bits bs ≡ false → None ≡ span_of l (lookup_of l bs)
-    wrong_there f = sym (ap (span_of l) (look-wrong l bs passes (ap (λ (s : Shape). store_fits s.bits bs) (sym is_header) ∙ f)))
-
     module _ (f : store_fits h.bits bs ≡ true) where
-      pub stored_there : store_fits (bits_at l) bs ≡ true
-      stored_there = ap (λ (s : Shape). store_fits s.bits bs) (sym is_header) ∙ f
-
       module _ {p : ℕ} (g : p ≡ from_bits bs) where
         index_is : find l p h.count (nat_abs (word l 3)) ≡ index l bs
         index_is = λ i. find l (g i) (is_header i).count (nat_abs (word l 3))
 
-        look_is : (i : Option ℕ) → i ≡ find l p h.count (nat_abs (word l 3)) → lookup_of l bs ≡ placed i
-        look_is i q = look-placed l bs passes stored_there ∙ ap placed (sym (q ∙ index_is))
-
-        pub missing_there : None ≡ find l p h.count (nat_abs (word l 3)) → None ≡ span_of l (lookup_of l bs)
-        missing_there q = sym (ap (span_of l) (look_is None q))
-
         module _ {a : ℕ} (q : Some a ≡ find l p h.count (nat_abs (word l 3))) where
           pub inside_there : a + record_size (channels (dim_at l)) ≤ length l
           inside_there = index-inside l bs (passed_is l e).right a (sym (q ∙ index_is))
-
-          pub span_there : (n : ℕ) → n ≡ block_size (full (h.dim * h.dim)) → Some (record { start = a + exponent_place; size = 1 + n }) ≡ span_of l (lookup_of l bs)
-          span_there n s =
-              ap (λ (n : ℕ). Some (record { start = a + exponent_place; size = 1 + n })) (s ∙ ap (λ (h : Shape). block_size (full (h.dim * h.dim))) is_header)
-              ∙ sym (ap (span_of l) (look_is (Some a) q))

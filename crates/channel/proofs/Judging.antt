@@ -15,11 +15,11 @@ use Rattle.algebra.proofs.Tests.{and_split}
 use Rattle.verdict.specs.Questions.{Verdict}
 use Rattle.verdict.specs.declared.Refusal.TheVariants.{Malformed}
 use Rattle.channel.specs.declared.forms.Parts.{Parts}
-use Rattle.channel.specs.Layout.{Form, full, channels, form_in, header_size, record_size, side, word, entry_at, store_at, dim_at, bits_at, count_at, chain}
+use Rattle.channel.specs.Layout.{Form, channels, form_in, form_of, header_size, record_size, record_at, side, word, store_at, dim_at, bits_at, count_at}
 use Rattle.channel.specs.declared.Shape.{Shape}
 use Rattle.verdict.specs.declared.Refusal.{Refusal}
-use Rattle.channel.specs.WellFormed.{is_dim, is_start, record_ok, chain_ok, header_ok, chained, well_formed_in, well_formed, all_zero, some_zero, has_zero_block, verdict_by, form_verdict}
-use Rattle.channel.specs.Inner.Shapes.{when, Room, shape_at, shape_by, shape_of, header_of}
+use Rattle.channel.specs.WellFormed.{is_dim, is_start, record_ok, chain_ok, header_ok, chained, well_formed_in, well_formed, has_zero_block, verdict_by, form_verdict}
+use Rattle.channel.specs.Inner.Shapes.{when, blank, some_blank, Room, shape_at, shape_by, shape_of, header_of}
 use Rattle.store.proofs.Words.{up-abs}
 use Rattle.channel.proofs.Words.{dim_range, square_small}
 
@@ -60,43 +60,40 @@ module _ (F : Form) (l : List ℤ) (m count n : ℕ) (z : ℤ) (first : Bool) (p
   pub chain-rest : chain_ok F l m count n z first prev ≡ true → rest ≡ true
   chain-rest e = (and_split (record_ok F l m (nat_abs z) first prev) _ (and_split (is_start F count z) _ (sym step ∙ e)).1).1
 
-pub or_assoc : (a b c : Bool) → (a || (b || c)) ≡ ((a || b) || c)
+or_assoc : (a b c : Bool) → (a || (b || c)) ≡ ((a || b) || c)
 or_assoc true b c = refl
 or_assoc false b c = refl
 
-pub or_end : (a : Bool) → (a || false) ≡ a
+or_end : (a : Bool) → (a || false) ≡ a
 or_end true = refl
 or_end false = refl
 
--- whether a block is zero, one block further along the chain, and at its end
-module _ (l : List ℤ) (w n at : ℕ) where
-  pub zero-step : 0 < n → some_zero w (chain (full w) l n at) ≡ (all_zero (w * w) (entry_at (full w) l at) || some_zero w (chain (full w) l (n - 1) (nat_abs (word l at))))
-  zero-step h = let e : n ≡ suc (n - 1) = omega arith in ap (λ (k : ℕ). some_zero w (chain (full w) l k at)) e
-
-  pub zero-end : n ≤ 0 → some_zero w (chain (full w) l n at) ≡ false
-  zero-end h = let e : n ≡ 0 = omega arith in ap (λ (k : ℕ). some_zero w (chain (full w) l k at)) e
+-- whether a block is blank, one block further along the chain
+blank-step : (F : Form) (l : List ℤ) (n at : ℕ) → 0 < n → some_blank F l n at ≡ (blank F l at || some_blank F l (n - 1) (nat_abs (word l at)))
+blank-step F l n at h = let e : n ≡ suc (n - 1) = omega arith in ap (λ (k : ℕ). some_blank F l k at) e
 
 pub chain-end : (F : Form) (l : List ℤ) (m count n : ℕ) (z : ℤ) (first : Bool) (prev : ℕ) → n ≤ 0 → chain_ok F l m count n z first prev ≡ eqℤ z (pos 0)
 unfolding chain_ok
 chain-end F l m count n z first prev h = let e : n ≡ 0 = omega arith in ap (λ (k : ℕ). chain_ok F l m count k z first prev) e
 
--- the verdict, `left` records from index z on, where `blank` tells of the blocks before them
-module _ (l : List ℤ) (w m count left : ℕ) where
-  abbrev pub chain_verdict : ℤ → Bool → ℕ → Bool → Verdict
-  chain_verdict z first prev blank = verdict_by (chain_ok (full w) l m count left z first prev) (blank || some_zero w (chain (full w) l left (nat_abs z)))
+-- what is found, `left` records from index z on, where `b` tells whether one before them is blank
+module _ (F : Form) (l : List ℤ) (m count left : ℕ) where
+  abbrev pub chain_found : ℤ → Bool → ℕ → Bool → Option Bool
+  chain_found z first prev b = when (chain_ok F l m count left z first prev) (b || some_blank F l left (nat_abs z))
 
-  pub refused : (z : ℤ) (first : Bool) (prev : ℕ) (blank : Bool) → chain_ok (full w) l m count left z first prev ≡ false → chain_verdict z first prev blank ≡ verdict_by false blank
-  refused z first prev blank e = ap (λ (b : Bool). verdict_by b (blank || some_zero w (chain (full w) l left (nat_abs z)))) e
+  pub refused : (z : ℤ) (first : Bool) (prev : ℕ) (b : Bool) → chain_ok F l m count left z first prev ≡ false → chain_found z first prev b ≡ None
+  refused z first prev b e = ap (λ (t : Bool). when t (b || some_blank F l left (nat_abs z))) e
 
-  pub further : (z : ℤ) (first : Bool) (prev : ℕ) (blank : Bool) → 0 < left → is_start (full w) count z ≡ true → record_ok (full w) l m (nat_abs z) first prev ≡ true → chain_verdict z first prev blank ≡ verdict_by
-      (chain_ok (full w) l m count (left - 1) (word l (nat_abs z)) false (store_at l (nat_abs z))) ((blank || all_zero (w * w) (entry_at (full w) l (nat_abs z))) || some_zero w (chain (full w) l (left - 1) (nat_abs (word l (nat_abs z)))))
-  further z first prev blank h e f =
-      λ i. verdict_by (goes_on (full w) l m count left z first prev h e f i)
-      ((ap (λ (b : Bool). blank || b) (zero-step l w left (nat_abs z) h) ∙ or_assoc blank (all_zero (w * w) (entry_at (full w) l (nat_abs z))) (some_zero w (chain (full w) l (left - 1) (nat_abs (word l (nat_abs z)))))) i)
+  pub further : (z : ℤ) (first : Bool) (prev : ℕ) (b : Bool) → 0 < left → is_start F count z ≡ true → record_ok F l m (nat_abs z) first prev ≡ true
+      → chain_found z first prev b ≡ when (chain_ok F l m count (left - 1) (word l (nat_abs z)) false (store_at l (nat_abs z))) ((b || blank F l (nat_abs z)) || some_blank F l (left - 1) (nat_abs (word l (nat_abs z))))
+  further z first prev b h e f =
+      λ i. when (goes_on F l m count left z first prev h e f i)
+      ((ap (λ (t : Bool). b || t) (blank-step F l left (nat_abs z) h) ∙ or_assoc b (blank F l (nat_abs z)) (some_blank F l (left - 1) (nat_abs (word l (nat_abs z))))) i)
 
-  pub ended : (z : ℤ) (first : Bool) (prev : ℕ) (blank ends : Bool) → left ≤ 0 → eqℤ z (pos 0) ≡ ends → chain_verdict z first prev blank ≡ verdict_by ends blank
-  ended z first prev blank ends h e =
-      λ i. verdict_by ((chain-end (full w) l m count left z first prev h ∙ e) i) ((ap (λ (b : Bool). blank || b) (zero-end l w left (nat_abs z) h) ∙ or_end blank) i)
+  pub ended : (z : ℤ) (first : Bool) (prev : ℕ) (b ends : Bool) → left ≤ 0 → eqℤ z (pos 0) ≡ ends → chain_found z first prev b ≡ when ends b
+  ended z first prev b ends h e =
+      let n : left ≡ 0 = omega arith in
+      λ i. when ((chain-end F l m count left z first prev h ∙ e) i) ((ap (λ (k : ℕ). b || some_blank F l k (nat_abs z)) n ∙ or_end b) i)
 
 -- ---- the header
 -- what a right header says
@@ -125,10 +122,15 @@ headed_in F l e =
     fit s n k p h q = let r = (le-div_iff_mul-le p).0 q in omega arith
 
 -- room for the records that the right header of a channel announces
+pub record HeadRoom (l : List ℤ) : Type 0 where
+  pub width : side (dim_at l) ≤ 256
+  pub few : bits_at l ≤ 64
+  pub inside : record_at (channels (dim_at l)) (count_at l) ≤ length l
+
 pub record Headed (l : List ℤ) : Type 0 where
   pub some : 1 ≤ dim_at l
   pub small : dim_at l ≤ 16
-  pub room : Room l (side (dim_at l)) (bits_at l) (count_at l)
+  pub room : HeadRoom l
 
 pub headed : (l : List ℤ) → header_ok (channels (dim_at l)) l ≡ true → Headed l
 headed l e =
@@ -144,9 +146,6 @@ pub verdict_right : (b z : Bool) → is_ok (verdict_by b z) ≡ true → (b ≡ 
 verdict_right true true e = absurd (true≢false (sym e))
 verdict_right true false e = (refl, refl)
 verdict_right false z e = absurd (true≢false (sym e))
-
-pub verdict_accepts : (b z : Bool) → b ≡ true → z ≡ false → is_ok (verdict_by b z) ≡ true
-verdict_accepts b z e f = λ i. is_ok (verdict_by (e i) (f i))
 
 -- a channel that is accepted
 module _ (l : List ℤ) (e : is_ok (form_verdict l) ≡ true) where
@@ -190,15 +189,6 @@ module _ (l : List ℤ) where
   unfolding well_formed well_formed_in
   form-along e = ap (λ (b : Bool). verdict_by (b && chained (channels (dim_at l)) l) (has_zero_block l)) e
 
-  -- only 10 is not well formed
-  pub form-malformed : form_verdict l ≡ Err Malformed → well_formed l ≡ false
-  form-malformed = by (well_formed l) (has_zero_block l)
-    where
-      by : (b z : Bool) → verdict_by b z ≡ Err Malformed → b ≡ false
-      by true true e = absurd (cc)
-      by true false e = absurd (cc)
-      by false z e = refl
-
 -- the header of words of a form, or its refusal
 module _ (f : Parts) (l : List ℤ) where
   pub header_is : {h : Shape} → Ok h ≡ header_of f l → (header_ok (form_in f l) l ≡ true) × (h ≡ shape_at l)
@@ -211,26 +201,12 @@ module _ (f : Parts) (l : List ℤ) where
       by true p q = absurd (cc)
       by false p q = (refl, cc)
 
-abbrev pub all_kept : Parts
-all_kept = record { half = false; plain = false }
+  module _ {h : Shape} (e : Ok h ≡ header_of f l) where
+    headed_there : HeadedIn (form_in f l) l
+    headed_there = headed_in (form_in f l) l (header_is e).0
 
--- what is found after the header of a channel
-module _ (l : List ℤ) where
-  pub unheaded : {r : Refusal} → Err r ≡ header_of all_kept l → Err r ≡ shape_of l
-  unheaded e =
-      let q = header-no all_kept l e in
-      ap (λ (r : Refusal). Err r) q.1 ∙ ap (λ (v : Verdict). shape_by v l) (sym (bad_header l q.0))
-
-  module _ {h : Shape} (e : Ok h ≡ header_of all_kept l) where
-    pub room_there : Room l (h.dim * h.dim) h.bits h.count
-    room_there = let q = header_is all_kept l e in subst (λ (s : Shape). Room l (s.dim * s.dim) s.bits s.count) (sym q.1) (headed l q.0).room
-
-    -- the verdict along the chain is the verdict
-    pub chain_is : verdict_by (chain_ok (full (h.dim * h.dim)) l h.bits h.count h.count (word l 3) true 0) (some_zero (h.dim * h.dim) (chain (full (h.dim * h.dim)) l h.count (nat_abs (word l 3)))) ≡ form_verdict l
-    chain_is =
-        let q = header_is all_kept l e in
-        ap (λ (s : Shape). verdict_by (chain_ok (full (s.dim * s.dim)) l s.bits s.count s.count (word l 3) true 0) (some_zero (s.dim * s.dim) (chain (full (s.dim * s.dim)) l s.count (nat_abs (word l 3))))) q.1
-        ∙ sym (form-along l q.0)
+    pub room_there : Room (form_of (h.dim * h.dim) f) l h.bits h.count
+    room_there = subst (λ (s : Shape). Room (form_of (s.dim * s.dim) f) l s.bits s.count) (sym (header_is e).1) (record { few = headed_there.few; inside = headed_there.inside })
 
 -- a well-formed channel: its header, and its chain
 pub record Formed (l : List ℤ) : Type 0 where
@@ -246,7 +222,7 @@ pub record Passed (l : List ℤ) (h : Shape) : Type 0 where
   pub verdict : form_verdict l ≡ Ok tt
   pub right : well_formed l ≡ true
   pub is : h ≡ shape_at l
-  pub width : h.dim * h.dim ≤ 256
+  pub narrow : h.dim ≤ 16
   pub few : h.bits ≤ 64
 
 pub passed_is : (l : List ℤ) {h : Shape} → Ok h ≡ shape_of l → Passed l h
@@ -258,6 +234,6 @@ passed_is l e =
       verdict = q.0;
       right = w;
       is = q.1;
-      width = subst (λ (h : Shape). h.dim * h.dim ≤ 256) (sym q.1) r.width;
+      narrow = subst (λ (h : Shape). h.dim ≤ 16) (sym q.1) (formed l w).head.small;
       few = subst (λ (h : Shape). h.bits ≤ 64) (sym q.1) r.few;
     }

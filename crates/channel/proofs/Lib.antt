@@ -23,6 +23,10 @@ pub mod Canonical
 pub mod Deciding
 pub mod Sizes
 pub mod Places
+pub mod Kept
 pub mod ByWords
 pub mod Pass
+pub mod Judged
+pub mod Suffix
+pub mod Walk
 pub mod Examples

@@ -19,7 +19,8 @@ use Rattle.channel.specs.Layout.{Block, record_head, channels, side, word, store
 use Rattle.channel.specs.WellFormed.{well_formed}
 use Rattle.channel.specs.Inner.Shapes.{Onward, Entries}
 use Rattle.channel.specs.Compare.{Both, scan, first, merge}
-use Rattle.channel.specs.Inner.Walk.{both_at, on_left, on_right, on_both, turn_by, turn_of, cursor_at, advance, On}
+use Rattle.channel.specs.Inner.Walk.{side_at, both_at, on_left, on_right, on_both, turn_by, turn_of, cursor_at, advance, On}
+use Rattle.channel.specs.Inner.Sides.{Side, side_of, blocks_of}
 use Rattle.channel.proofs.Chain.{onward_begin, on-inside, on-block, on-next}
 
 -- the blocks along the chain of a channel
@@ -132,11 +133,11 @@ on-advance true l c o h = record { walk = on-next o.walk (h refl); is = refl }
 on-advance false l c o h = o
 
 -- ---- the entries of a record on the walk
-pub entries_held : (l : List ℤ) (n at w : ℕ) → Onward l n at → 0 < n → w ≡ side (dim_at l) → Entries l at (w * w)
-entries_held l n at w o h e = subst (λ (v : ℕ). Entries l at (v * v)) (sym e) (record { inside = by (side (dim_at l) * side (dim_at l)) (on-inside o h); exponent = (and_split _ _ (on-block o h)).0 })
+entries_held : (l : List ℤ) (m at w n : ℕ) → Onward l m at → 0 < m → w ≡ side (dim_at l) → n ≤ w * w → Entries l at n
+entries_held l m at w n o h e q = record { inside = by (side (dim_at l)) e (on-inside o h); exponent = (and_split _ _ (on-block o h)).0 }
   where
-    by : (v : ℕ) → at + (record_head + v * 4) ≤ length l → at + record_head + v * 4 ≤ length l
-    by v p = omega arith
+    by : (v : ℕ) → w ≡ v → at + (record_head + v * v * 4) ≤ length l → at + record_head + n * 4 ≤ length l
+    by v e p = let t : w * w ≡ v * v = ap (λ (x : ℕ). x * x) e in omega arith
 
 -- ---- the whole walk
 pub on_cursor : {l : List ℤ} {c : Cursor} {n at : ℕ} → c ≡ cursor_at l n at → Onward l n at → On l c
@@ -155,25 +156,32 @@ walking_begin {l} {r} {w} e f p q = record {
   is = sym (λ i. first w (merge (along l (p i).left (p i).at) (along r (q i).left (q i).at)));
 }
 
-module _ {l r : List ℤ} {w : ℕ} {a b : Cursor} (k : Walking l r w a b) (h : (ltb 0 a.left || ltb 0 b.left) ≡ true) where
-  turning : Turns l r a.at b.at a.left b.left (turn_of a b)
-  turning = turns l r a.at b.at a.left b.left a b k.left.is k.right.is (either_some a.left b.left h)
+-- the sides of a turn that two cursors make
+module _ {l r : List ℤ} {w : ℕ} {a b : Cursor} (k : Walking l r w a b) (h : (ltb 0 a.left || ltb 0 b.left) ≡ true) {turn : Turn} (e : turn ≡ turn_of a b) where
+  turning : Turns l r a.at b.at a.left b.left turn
+  turning = subst (Turns l r a.at b.at a.left b.left) (sym e) (turns l r a.at b.at a.left b.left a b k.left.is k.right.is (either_some a.left b.left h))
     where
       either_some : (m n : ℕ) → (ltb 0 m || ltb 0 n) ≡ true → 0 < m + n
       either_some zero n e = let q = ltb-true 0 n e in omega arith
       either_some (suc m) n e = omega arith
 
-  abbrev turn : Turn
-  turn = turn_of a b
-
   abbrev answered : Option Difference
   answered = scan (both_at turn l a.at r b.at) w (w * w) 0
+
+  pub seen : (x y : Side) → side_of x ≡ side_at turn.left l a.at → side_of y ≡ side_at turn.right r b.at → scan (blocks_of turn.store x y) w (w * w) 0 ≡ answered
+  seen x y p q = λ i. scan (record { store = turn.store; left = p i; right = q i }) w (w * w) 0
 
   pub left-some : turn.left ≡ true → 0 < a.left
   left-some = turning.on_left_side
 
   pub right-some : turn.right ≡ true → 0 < b.left
   right-some = turning.on_right_side
+
+  pub left-entries : (n : ℕ) → n ≤ w * w → w ≡ side (dim_at l) → turn.left ≡ true → Entries l a.at n
+  left-entries n m s t = entries_held l a.left a.at w n k.left.walk (left-some t) s m
+
+  pub right-entries : (n : ℕ) → n ≤ w * w → w ≡ side (dim_at r) → turn.right ≡ true → Entries r b.at n
+  right-entries n m s t = entries_held r b.left b.at w n k.right.walk (right-some t) s m
 
   abbrev rest : Option Difference
   rest = first w (merge (along l (advance turn.left l a).left (advance turn.left l a).at) (along r (advance turn.right r b).left (advance turn.right r b).at))

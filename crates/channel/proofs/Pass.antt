@@ -1,8 +1,9 @@
--- What one pass over the words of a full block says: whether it is a shared form in range, and whether it is zero.
+-- What one pass over the words of a block says: whether it is a shared form in range, and whether it is blank.
+use Rattle.std.specs.Prelude.{Option, Some, None}
 use mathlib.Core.Path.{◌≡◌, refl, sym, ap, ◌∙◌}
 use mathlib.Core.Bool.{Bool, true, false, not, ◌&&◌, ◌||◌}
 use mathlib.Core.List.{List}
-use Prim.Native.Nat.{ℕ, ◌+◌, ◌*◌}
+use Prim.Native.Nat.{ℕ, zero, suc, ◌+◌, ◌*◌}
 use lib.Dec.{eqb}
 use lib.IntN.{ℤ, pos, nat_abs}
 use Rattle.algebra.specs.Words.{eqℤ, up_to}
@@ -17,10 +18,10 @@ use Rattle.exact.proofs.Exact.{exact_halving}
 use Rattle.exact.proofs.IsZero.{zero_is}
 use Rattle.gather.specs.declared.Seen.{Seen}
 use Rattle.gather.specs.Words.{all_in_range, all_even, seen_of}
-use Rattle.gather.specs.Words.{all_zero as zeroWords}
 use Rattle.algebra.specs.Dyadic.{power}
-use Rattle.channel.specs.Layout.{full, record_head, exponent_place, word, exp_at, numbers_at, entry_at}
-use Rattle.channel.specs.WellFormed.{block_ok, all_zero}
+use Rattle.channel.specs.Layout.{Form, full, record_head, exponent_place, block_size, word, exp_at, numbers_at, entry_at, chain}
+use Rattle.channel.specs.WellFormed.{diagonal_ok, block_ok, all_zero, some_zero}
+use Rattle.channel.specs.Inner.Shapes.{when, blank, some_blank}
 use Rattle.channel.proofs.RoundTrip.{all_same}
 use Rattle.channel.proofs.ByWords.{by-words, words_test, zero_test}
 
@@ -33,42 +34,56 @@ zero-lowest z e = test_same _ _ (λ t. ap is_zero (up t)) (λ t. ap (λ (x : Exa
         let (k, h, g) = lowest_is ℤ√2i exact_halving z e in
         h ∙ ap (λ (y : Number). numbers.◌⊗◌ y (power numbers k)) (zero_is (lowest z e).num t) ∙ zero-mul (semi ℤ√2i) (power numbers k)
 
-module _ (l : List ℤ) (at w : ℕ) where
+-- the numerators of a full block are 0 exactly where its entries are
+blank_is : (l : List ℤ) (at w : ℕ) → all_zero (w * w) (entry_at (full w) l at) ≡ blank (full w) l at
+blank_is l at w =
+    all_same (w * w) _ _ (λ k h. zero-lowest (numbers_at (full w) l at k) (exp_at l at))
+    ∙ words_test (λ (x : ℤ). eqb (nat_abs x) 0) (λ x. ap (λ (k : ℕ). eqb k 0) (abs_neg x)) refl (full w) (λ (i : ℕ). word l (at + record_head + i))
+    ∙ all_same (w * w * 4) _ _ (λ i h. zero_test (word l (at + record_head + i)))
+
+-- along the chain too
+pub blank-along : (w : ℕ) (l : List ℤ) (n at : ℕ) → some_blank (full w) l n at ≡ some_zero w (chain (full w) l n at)
+blank-along w l zero at = refl
+blank-along w l (suc n) at = λ i. sym (blank_is l at w) i || blank-along w l n (nat_abs (word l at)) i
+
+-- ---- one pass
+module _ (F : Form) (l : List ℤ) (at : ℕ) where
   abbrev exponent : ℤ
   exponent = word l (at + exponent_place)
 
   abbrev ranged : Bool
-  ranged = all_in_range l (at + record_head) (w * w * 4)
+  ranged = all_in_range l (at + record_head) (block_size F)
 
   abbrev evens : Bool
-  evens = all_even l (at + record_head) (w * w * 4)
+  evens = all_even l (at + record_head) (block_size F)
 
-  abbrev part : Bool → Bool → Bool → Bool → Bool
-  part a b c d = (a && (b && (c || not d))) && true
+  abbrev diagonal : Bool
+  diagonal = diagonal_ok F (numbers_at F l at)
 
-  is : block_ok (full w) l at ≡ part (up_to max_exponent exponent) ranged (eqℤ exponent (pos 0)) evens
-  is = by-words (full w) l at
+  abbrev part : Bool → Bool → Bool
+  part a b = (a && b) && diagonal
 
-  and-true : (b : Bool) → (b && true) ≡ b
-  and-true true = refl
-  and-true false = refl
+  is : block_ok F l at ≡ part (up_to max_exponent exponent) (ranged && (eqℤ exponent (pos 0) || not evens))
+  is = by-words F l at
 
-  pub pass_outside : up_to max_exponent exponent ≡ false → block_ok (full w) l at ≡ false
-  pass_outside e = is ∙ ap (λ (a : Bool). part a ranged (eqℤ exponent (pos 0)) evens) e
+  abbrev answer : Option Bool
+  answer = when (block_ok F l at) (blank F l at)
 
-  blank_is : all_zero (w * w) (entry_at (full w) l at) ≡ zeroWords l (at + record_head) (w * w * 4)
-  blank_is =
-      all_same (w * w) _ _ (λ k h. zero-lowest (numbers_at (full w) l at k) (exp_at l at))
-      ∙ words_test (λ (x : ℤ). eqb (nat_abs x) 0) (λ x. ap (λ (k : ℕ). eqb k 0) (abs_neg x)) refl (full w) (λ (i : ℕ). word l (at + record_head + i))
-      ∙ all_same (w * w * 4) _ _ (λ i h. zero_test (word l (at + record_head + i)))
+  none : block_ok F l at ≡ false → None ≡ answer
+  none e = sym (ap (λ (b : Bool). when b (blank F l at)) e)
 
-  module _ (g : Seen) (n : ℕ) (size : n ≡ w * w * 4) (e : g ≡ seen_of l (at + record_head) n) where
-    seen : g ≡ seen_of l (at + record_head) (w * w * 4)
+  module _ (g : Seen) (n : ℕ) (size : n ≡ block_size F) (e : g ≡ seen_of l (at + record_head) n) (z : Bool) (f : z ≡ eqℤ exponent (pos 0)) (h : up_to max_exponent exponent ≡ true) where
+    seen : g ≡ seen_of l (at + record_head) (block_size F)
     seen = e ∙ ap (seen_of l (at + record_head)) size
 
-    pub pass_is : (z : Bool) → z ≡ eqℤ exponent (pos 0) → up_to max_exponent exponent ≡ true → (g.range && (z || not g.even)) ≡ block_ok (full w) l at
-    pass_is z f h =
-        (λ i. (seen i).range && (f i || not (seen i).even)) ∙ sym (is ∙ ap (λ (a : Bool). part a ranged (eqℤ exponent (pos 0)) evens) h ∙ and-true _)
+    tested : (g.range && (z || not g.even)) ≡ (ranged && (eqℤ exponent (pos 0) || not evens))
+    tested = λ i. (seen i).range && (f i || not (seen i).even)
 
-    pub pass_zero : g.zero ≡ all_zero (w * w) (entry_at (full w) l at)
-    pass_zero = ap (λ (s : Seen). s.zero) seen ∙ sym blank_is
+    pub pass_bad : (g.range && (z || not g.even)) ≡ false → None ≡ answer
+    pass_bad t = none (is ∙ (λ i. part (h i) ((sym tested ∙ t) i)))
+
+    passed : (g.range && (z || not g.even)) ≡ true → block_ok F l at ≡ diagonal
+    passed t = is ∙ (λ i. part (h i) ((sym tested ∙ t) i))
+
+    pub pass_good : (g.range && (z || not g.even)) ≡ true → diagonal ≡ true → Some g.zero ≡ answer
+    pass_good t d = λ i. when (sym (passed t ∙ d) i) (seen i).zero

@@ -2,7 +2,7 @@
 use mathlib.Core.Path.{◌≡◌, refl, sym, ap, ◌∙◌}
 use mathlib.Core.Bool.{Bool, true, false, cond}
 use Prim.Native.Nat.{ℕ, zero, suc, ◌+◌, ◌*◌, ◌-◌, ◌/◌, ◌%◌, ◌<◌}
-use native.Mathlib.Nat.{add-zero, suc-mul}
+use native.Mathlib.Nat.{add-zero}
 use native.Mathlib.Numerals.{add-one}
 use native.Mathlib.Omega.{arith}
 use lib.Arith.{digits_div, digits_mod}
@@ -37,6 +37,3 @@ all-agree b w (suc n) k h =
     ap (λ (t : Bool). cond t (scan b w n (suc k)) (Some (entry b.store (k / w) (k % w) (b.left k) (b.right k))))
     (ap (λ (j : ℕ). equal (b.left j) (b.right j)) (sym (add-zero k)) ∙ h 0 (omega arith))
     ∙ all-agree b w n (suc k) (λ i l. let e : suc k + i ≡ k + suc i = omega arith in ap (λ (j : ℕ). equal (b.left j) (b.right j)) e ∙ h (suc i) (omega arith))
-
-pub next_row : (row w : ℕ) → (row + 1) * w ≡ row * w + w
-next_row row w = rw (add-one, suc-mul)

@@ -1,2 +1,4 @@
+pub mod Kept
 pub mod Shapes
+pub mod Sides
 pub mod Walk

@@ -1,13 +1,13 @@
 // The comparison of two channels: their chains are walked in step, and the blocks of each store compared. Blocks of one exponent are compared word by word, in rows;
 // only a block that differs is searched for its first unequal entry.
-ghost use Rattle.std.specs.Prelude.{◌≡◌, true, ◌&&◌, ◌+◌, ◌*◌, ◌<◌, ◌≤◌};
+ghost use Rattle.std.specs.Prelude.{◌≡◌, true, ℕ, ◌+◌, ◌*◌, ◌<◌, ◌≤◌, length};
 ghost use Rattle.exact.specs.Exact.{equal};
 ghost use Rattle.scalar.specs.Calls.{scalar_of};
-ghost use Rattle.gather.specs.Words.{same_words};
-ghost use Rattle.channel.specs.Layout.{record_head, full, block_size, read_back};
+ghost use Rattle.channel.specs.Layout.{read_back};
 ghost use Rattle.channel.specs.Inner.Shapes.{Onward, Entries};
+ghost use Rattle.channel.specs.Inner.Sides.{holds, side_of, both_alike, blocks_of};
 ghost use Rattle.channel.specs.Compare.{scan, first, merge, compare_of};
-ghost use Rattle.channel.specs.Inner.Walk.{side_at, both_at, alike, turn_of, cursor_at, advance, On, Held, Matched};
+ghost use Rattle.channel.specs.Inner.Walk.{side_at, turn_of, cursor_at, advance, On, Matched};
 
 use super::layout::{ENTRY, EXPONENT, RECORD_HEAD, block_size, follow, read_entry, read_store};
 use super::well_formed::judge;
@@ -55,129 +55,116 @@ struct Cursor {
     pub store: u64,
 }
 
-// Entry k of the record at `at`, or zero where the side has no block.
-fn entry_or_zero(has: bool, s: &[i64], at: usize, k: usize) -> Scalar
-    requires { has ≡ true → Entries s.now at (k + 1) }
-    ensures { result ≡ scalar_of (side_at has s.now at k) }
+// The words of a record from its first on, if its side takes part.
+fn taken<'a>(has: bool, s: &'a [i64], at: usize) -> Option<&'a [i64]>
+    requires { has ≡ true → at ≤ length s.now }
+    ensures entries { side_of result ≡ side_at has s.now at }
+    ensures held { (n : ℕ) → (has ≡ true → Entries s.now at n) → holds n result ≡ true }
 {
-    if has { read_entry(s, at, k) } else { ZERO }
+    if has { Some(&s[at..]) } else { None }
+}
+
+// Entry k of a side, or zero where it has no block.
+fn entry_or_zero(side: Option<&[i64]>, k: usize) -> Scalar
+    requires { holds (k + 1) side ≡ true }
+    ensures { result ≡ scalar_of (side_of side.entry k) }
+{
+    match side {
+        Some(s) => read_entry(s, 0, k),
+        None => ZERO,
+    }
 }
 
 // Whether both sides have a block, and both blocks one exponent.
-fn are_alike(t: Turn, left: &[i64], i: usize, right: &[i64], j: usize) -> bool
-    requires { Held t left.now i right.now j 0 }
-    ensures { result ≡ alike t left.now i right.now j }
+fn are_alike(left: Option<&[i64]>, right: Option<&[i64]>) -> bool
+    requires { (holds 0 left ≡ true) × (holds 0 right ≡ true) }
+    ensures { result ≡ both_alike left.entry right.entry }
 {
-    if !(t.left & t.right) {
-        return false;
+    match (left, right) {
+        (Some(l), Some(r)) => l[EXPONENT] == r[EXPONENT],
+        _ => false,
     }
-    left[i + EXPONENT] == right[j + EXPONENT]
 }
 
-// Whether entry k is the same on both sides; `same` if they are alike.
-fn same_entry(
-    same: bool,
-    t: Turn,
-    left: &[i64],
-    i: usize,
-    right: &[i64],
-    j: usize,
-    k: usize,
-) -> bool
-    requires { Held t left.now i right.now j (k + 1) × (same ≡ alike t left.now i right.now j) }
-    ensures { result ≡ equal (side_at t.left left.now i k) (side_at t.right right.now j k) }
-{
-    if same {
-        return same_words(
-            left,
-            i + RECORD_HEAD + k * ENTRY,
-            right,
-            j + RECORD_HEAD + k * ENTRY,
-            ENTRY,
-        );
-    }
-    let x = entry_or_zero(t.left, left, i, k);
-    let y = entry_or_zero(t.right, right, j, k);
-    x.equals(y)
+// The blocks of one store, of `side` rows and columns: the words of each side's record from its first on, where it has one; and whether they are alike.
+#[derive(Clone, Copy)]
+struct Sides<'a> {
+    store: u64,
+    side: usize,
+    left: Option<&'a [i64]>,
+    right: Option<&'a [i64]>,
+    alike: bool,
+    ghost small: { side ≤ 256 },
+    ghost left_held: { holds (side * side) left ≡ true },
+    ghost right_held: { holds (side * side) right ≡ true },
+    ghost alike_is: { alike ≡ both_alike left right },
 }
 
-// The first unequal entry of the blocks of one store, rows then columns; `same` if they are alike.
-fn search_block(
-    same: bool,
-    t: Turn,
-    left: &[i64],
-    i: usize,
-    right: &[i64],
-    j: usize,
-    w: usize,
-) -> Option<Difference>
-    requires { (w ≤ 256) × (Held t left.now i right.now j (w * w) × (same ≡ alike t left.now i right.now j)) }
-    ensures { result ≡ scan (both_at t left.now i right.now j) w (w * w) 0 }
-{
-    for row in 0..w {
-        for col in 0..w {
-            let k = row * w + col;
-            if !same_entry(same, t, left, i, right, j, k) {
-                let place = Place {
-                    store: t.store,
-                    row,
-                    col,
-                };
-                return Some(Difference {
-                    place,
-                    left: entry_or_zero(t.left, left, i, k),
-                    right: entry_or_zero(t.right, right, j, k),
-                });
+impl<'a> Sides<'a> {
+    // Whether entry k is the same on both sides: by the words of blocks that are alike, else by lowest forms.
+    // Kept: an entry is no value of a type of its own but a place in two blocks, each over its own exponent, so no derive compares it.
+    fn same_entry(&self, k: usize) -> bool
+        requires { k < self.now.side * self.now.side }
+        ensures { result ≡ equal (side_of self.now.left k) (side_of self.now.right k) }
+    {
+        match (self.left, self.right) {
+            (Some(l), Some(r)) if self.alike => {
+                let p = RECORD_HEAD + k * ENTRY;
+                same_words(&l[p..p + ENTRY], &r[p..p + ENTRY])
             }
+            _ => entry_or_zero(self.left, k).equals(entry_or_zero(self.right, k)),
         }
     }
-    None
-}
 
-// Whether two blocks are alike, if `same`, and have the same words.
-fn same_block(same: bool, left: &[i64], i: usize, right: &[i64], j: usize, w: usize) -> bool
-    requires { (w ≤ 256) × (same ≡ true → Entries left.now i (w * w) × Entries right.now j (w * w)) }
-    ensures { result ≡ (same && same_words left.now (i + record_head) right.now (j + record_head) (block_size (full w))) }
-{
-    if !same {
-        return false;
+    // The first unequal entry, rows then columns.
+    fn search(&self) -> Option<Difference>
+        ensures { let s = self.now in result ≡ scan (blocks_of s.store s.left s.right) s.side (s.side * s.side) 0 }
+    {
+        let w = self.side;
+        for row in 0..w {
+            for col in 0..w {
+                let k = row * w + col;
+                if !self.same_entry(k) {
+                    let place = Place {
+                        store: self.store,
+                        row,
+                        col,
+                    };
+                    return Some(Difference {
+                        place,
+                        left: entry_or_zero(self.left, k),
+                        right: entry_or_zero(self.right, k),
+                    });
+                }
+            }
+        }
+        None
     }
-    same_rows(left, i + RECORD_HEAD, right, j + RECORD_HEAD, block_size(w))
-}
 
-// The first unequal entry of the blocks of one store: none where they are alike and have the same words.
-fn compare_block(
-    t: Turn,
-    left: &[i64],
-    i: usize,
-    right: &[i64],
-    j: usize,
-    w: usize,
-) -> Option<Difference>
-    requires { (w ≤ 256) × Held t left.now i right.now j (w * w) }
-    ensures { result ≡ scan (both_at t left.now i right.now j) w (w * w) 0 }
-{
-    let same = are_alike(t, left, i, right, j);
-    if same_block(same, left, i, right, j, w) {
-        return None;
+    // The same: none where the blocks are alike and have the same words.
+    fn compare(&self) -> Option<Difference>
+        ensures { let s = self.now in result ≡ scan (blocks_of s.store s.left s.right) s.side (s.side * s.side) 0 }
+    {
+        if let (Some(l), Some(r)) = (self.left, self.right) {
+            let end = RECORD_HEAD + block_size(self.side);
+            if self.alike && same_rows(&l[RECORD_HEAD..end], &r[RECORD_HEAD..end]) {
+                return None;
+            }
+        }
+        self.search()
     }
-    search_block(same, t, left, i, right, j, w)
 }
 
-// The next of n records, at index `at`.
-fn enter(s: &[i64], n: usize, at: usize) -> Cursor
-    requires { Onward s.now n at }
-    ensures { result ≡ cursor_at s.now n at }
+// The next of the records that are left, at index `at`.
+fn enter(s: &[i64], left: usize, at: usize) -> Cursor
+    requires { Onward s.now left at }
+    ensures { result ≡ cursor_at s.now left at }
 {
-    if 0 < n {
+    if 0 < left {
         let store = read_store(s, at);
-        return Cursor { at, left: n, store };
+        return Cursor { at, left, store };
     }
-    Cursor {
-        at,
-        left: n,
-        store: 0,
-    }
+    Cursor { at, left, store: 0 }
 }
 
 // The record after the cursor's, if its side took part.
@@ -247,7 +234,16 @@ fn compare_chains(left: &[i64], right: &[i64], m: usize, n: usize, w: usize) -> 
     // Kept: each chain is walked at its own pace, so no range counts the turns; a `for` is no plainer.
     while (0 < a.left) | (0 < b.left) {
         let t = choose(a, b);
-        let d = compare_block(t, left, a.at, right, b.at, w);
+        let l = taken(t.left, left, a.at);
+        let r = taken(t.right, right, b.at);
+        let sides = Sides {
+            store: t.store,
+            side: w,
+            left: l,
+            right: r,
+            alike: are_alike(l, r),
+        };
+        let d = sides.compare();
         if d.is_some() {
             return d;
         }

@@ -1,4 +1,6 @@
 // The words of a channel: sizes, entries, stores, and the chain.
+// Kept (buffers): a record is named by its index in the whole words, which is what the chain's words hold: callers that walk the chain have the whole and an index.
+// Kept (facts): w ≤ 256 of a bare number: these two serve callers that hold the rows of a block and no form, and are where the form is made.
 ghost use Rattle.std.specs.Prelude.{◌≡◌, true, ◌+◌, ◌<◌, ◌≤◌, length, pos, nat_abs};
 ghost use Rattle.algebra.specs.Words.{up_to};
 ghost use Rattle.scalar.specs.Calls.{scalar_of};
@@ -6,7 +8,7 @@ ghost use Rattle.store.specs.Store.{max_word};
 ghost use Rattle.channel.specs.Layout.{record_head, full, channels, block_size, record_size, entry_at, store_at, word, dim_at};
 ghost use Rattle.channel.specs.Inner.Shapes.{Entries};
 
-use super::forms::{self, ALL};
+use super::forms::{ALL, Form};
 use scalar::Scalar;
 use scalar::numerators::reduce;
 use store::store_from;
@@ -27,7 +29,7 @@ pub fn block_size(w: usize) -> usize
     requires { w ≤ 256 }
     ensures { result ≡ block_size (full w) }
 {
-    forms::block_size(w, ALL)
+    Form::new(w, ALL).block_size()
 }
 
 // The words of the record of a block of w rows and columns.
@@ -35,7 +37,7 @@ pub fn record_size(w: usize) -> usize
     requires { w ≤ 256 }
     ensures { result ≡ record_size (full w) }
 {
-    forms::record_size(w, ALL)
+    Form::new(w, ALL).record_size()
 }
 
 // Entry k, row · w + column, of the record at `at` of a channel, in lowest form.

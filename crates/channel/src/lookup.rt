@@ -1,4 +1,5 @@
 // The block of a store, as a part of the channel's words.
+// Kept (facts): the words are a slice that a judge has just found well formed; a struct that says so would be built by each call for the one function that it goes on to.
 ghost use Rattle.std.specs.Prelude.{◌≡◌, true, nat_abs};
 ghost use Rattle.channel.specs.Layout.{word, count_at};
 ghost use Rattle.channel.specs.WellFormed.{well_formed};

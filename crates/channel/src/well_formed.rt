@@ -1,24 +1,15 @@
-// Whether words are a well-formed channel, and whether a block of it is zero. The words of a block are read in one pass.
-ghost use Rattle.std.specs.Prelude.{◌≡◌, true, ◌+◌, ◌*◌, ◌≤◌, length, nat_abs};
-ghost use Rattle.store.specs.Store.{store_from};
-ghost use Rattle.channel.specs.Layout.{full, record_head, record_size, entry_at, store_at, word, chain};
-ghost use Rattle.channel.specs.WellFormed.{is_dim, words_ok, store_ok, block_ok, record_ok, chain_ok, well_formed, all_zero, some_zero, verdict_by};
-ghost use Rattle.channel.specs.Inner.Shapes.{when, judged_at, Room, header_of, shape_of};
+// Whether words are well formed in a form, whether they are a channel, and whether a block of it is zero.
+ghost use Rattle.std.specs.Prelude.{◌≡◌, true, is_none, unwrap_or, nat_abs};
+ghost use Rattle.channel.specs.Layout.{word};
+ghost use Rattle.channel.specs.WellFormed.{is_dim, rises, chain_ok, well_formed};
+ghost use Rattle.channel.specs.Inner.Shapes.{when, some_blank, Room, header_of, shape_of};
 
 use super::Shape;
-use super::forms::{ALL, Parts, is_start, record_size};
-use super::layout::{EXPONENT, HEADER, RECORD_HEAD, block_size, up_to};
-use exact::MAX_EXPONENT;
-use gather::see;
-use store::{MAX_WORD, comes_before, fits_bits, join};
-use verdict::{Refusal, Verdict};
-
-// What is found of a record that is right: its store, and whether its block is zero.
-#[derive(Clone, Copy)]
-struct Judged {
-    store: u64,
-    zero: bool,
-}
+use super::forms::{ALL, Form, Parts};
+use super::layout::{HEADER, up_to};
+use super::records::Record;
+use store::comes_before;
+use verdict::Refusal;
 
 fn is_dim(z: i64) -> bool
     ensures { result ≡ is_dim z }
@@ -26,94 +17,38 @@ fn is_dim(z: i64) -> bool
     (z == 1) | (z == 2) | (z == 4) | (z == 8) | (z == 16)
 }
 
-// The store in two words, if it has at most m bits.
-fn judge_words(low: i64, high: i64, m: u32) -> Option<u64>
-    requires { m ≤ 64 }
-    ensures { result ≡ when (words_ok low high m) (store_from low high) }
+// Whether a store comes after the one before it, if there is one.
+fn rises(prev: Option<u64>, store: u64) -> bool
+    ensures { result ≡ rises (is_none prev) (unwrap_or prev 0) store }
 {
-    if !(up_to(MAX_WORD, low) & up_to(MAX_WORD, high)) {
-        return None;
+    match prev {
+        None => true,
+        Some(p) => comes_before(p, store),
     }
-    let store = join(low, high);
-    if !fits_bits(store, m) {
-        return None;
-    }
-    Some(store)
 }
 
-// The store of the record at `at`, if it has at most m bits.
-fn judge_store(s: &[i64], at: usize, m: u32) -> Option<u64>
-    requires { (at + record_head ≤ length s.now) × (m ≤ 64) }
-    ensures { result ≡ when (store_ok s.now at m) (store_at s.now at) }
-{
-    judge_words(s[at + 1], s[at + 2], m)
-}
-
-// Whether all numerators of the record at `at`, of w rows and columns, are zero, if its exponent and they are a shared form in range.
-fn judge_block(s: &[i64], at: usize, w: usize) -> Option<bool>
-    requires { (w ≤ 256) × (at + record_size (full w) ≤ length s.now) }
-    ensures { result ≡ when (block_ok (full w) s.now at) (all_zero (w * w) (entry_at (full w) s.now at)) }
-{
-    let e = s[at + EXPONENT];
-    if !up_to(MAX_EXPONENT as u64, e) {
-        return None;
-    }
-    let g = see(s, at + RECORD_HEAD, block_size(w));
-    if !(g.range & ((e == 0) | !g.even)) {
-        return None;
-    }
-    Some(g.zero)
-}
-
-// The record at `at`, if it is right, its store coming after `prev` unless it is the first.
-fn judge_record(s: &[i64], at: usize, w: usize, m: u32, first: bool, prev: u64) -> Option<Judged>
-    requires { (w ≤ 256) × ((m ≤ 64) × (at + record_size (full w) ≤ length s.now)) }
-    ensures { result ≡ when (record_ok (full w) s.now m at first prev) (judged_at w s.now at) }
-{
-    let store = judge_store(s, at, m)?;
-    if !(first | comes_before(prev, store)) {
-        return None;
-    }
-    let zero = judge_block(s, at, w)?;
-    Some(Judged { store, zero })
-}
-
-// The verdict by whether the words are well formed and whether a block is zero.
-fn verdict_by(right: bool, blank: bool) -> Verdict
-    ensures { result ≡ verdict_by right blank }
-{
-    if !right {
-        return Err(Refusal::Malformed);
-    }
-    if blank {
-        return Err(Refusal::ZeroBlock);
-    }
-    Ok(())
-}
-
-// Whether the chain visits `count` records in rising order of their stores, and ends; then, whether a block is zero.
-fn judge_chain(s: &[i64], w: usize, m: u32, count: usize) -> Verdict
-    requires { Room s.now w m count }
-    ensures { result ≡ verdict_by (chain_ok (full w) s.now m count count (word s.now 3) true 0) (some_zero w (chain (full w) s.now count (nat_abs (word s.now 3)))) }
+// Whether one of `count` blocks is blank, if the chain visits their records in rising order of their stores, and ends.
+pub fn judge_chain(s: &[i64], form: Form, m: u32, count: usize) -> Option<bool>
+    requires { Room form s.now m count }
+    ensures { result ≡ when (chain_ok form s.now m count count (word s.now 3) true 0) (some_blank form s.now count (nat_abs (word s.now 3))) }
 {
     let mut z = s[3];
-    let mut first = true;
-    let mut prev = 0;
-    let mut zero = false;
+    let mut prev = None;
+    let mut blank = false;
     for i in 0..count {
-        if !is_start(w, ALL, count, z) {
-            return Err(Refusal::Malformed);
+        if !form.is_start(count, z) {
+            return None;
         }
-        let at = z as usize;
-        let Some(j) = judge_record(s, at, w, m, first, prev) else {
-            return Err(Refusal::Malformed);
-        };
-        z = s[at];
-        zero = zero | j.zero;
-        first = false;
-        prev = j.store;
+        let r = Record::at(s, form, z as usize);
+        let store = r.judge_store(m)?;
+        if !rises(prev, store) {
+            return None;
+        }
+        blank = blank | r.judge_block()?;
+        z = r.next();
+        prev = Some(store);
     }
-    verdict_by(z == 0, zero)
+    if z == 0 { Some(blank) } else { None }
 }
 
 // The header of words of a form, if it and the room for its records are right.
@@ -130,7 +65,7 @@ pub fn header(s: &[i64], f: Parts) -> Result<Shape, Refusal>
         return Err(Refusal::Malformed);
     }
     let d = dim as usize;
-    let most = (s.len() - HEADER) / record_size(d * d, f);
+    let most = (s.len() - HEADER) / Form::new(d * d, f).record_size();
     if !up_to(most as u64, count) {
         return Err(Refusal::Malformed);
     }
@@ -146,8 +81,11 @@ pub fn judge(s: &[i64]) -> Result<Shape, Refusal>
     ensures { result ≡ shape_of s.now }
 {
     let h = header(s, ALL)?;
-    judge_chain(s, h.dim * h.dim, h.bits, h.count)?;
-    Ok(h)
+    match judge_chain(s, h.form(ALL), h.bits, h.count) {
+        None => Err(Refusal::Malformed),
+        Some(true) => Err(Refusal::ZeroBlock),
+        Some(false) => Ok(h),
+    }
 }
 
 // A channel with a block of zeros is well formed too.

@@ -14,11 +14,10 @@ use Rattle.verdict.specs.Questions.{Question, granted}
 use Rattle.verdict.proofs.Questions.{handed}
 use Rattle.channel.specs.declared.Shape.{Shape}
 use Rattle.channel.specs.declared.forms.Parts.{Parts}
-use Rattle.channel.specs.Layout.{header_size, record_size, dim_at, count_at, form_of, form_in}
+use Rattle.channel.specs.Layout.{header_size, record_size, count_at, form_of, form_in}
 use Rattle.channel.specs.WellFormed.{well_formed_in, well_formed, has_zero_block, verdict_by, form_verdict}
 use Rattle.channel.specs.Inner.Shapes.{shape_at, shape_of}
 use Rattle.channel.proofs.Judging.{formed_in, in_channel, form-full, verdict_test, shape-yes, shape_no, Passed, passed_is}
-use Rattle.channel.proofs.Words.{square_small}
 use Rattle.recast.specs.Words.{size_in}
 use Rattle.recast.specs.Inner.Records.{Ready}
 use Rattle.form_judge.specs.Faults.{fault_of}
@@ -81,7 +80,7 @@ module _ (f : Parts) (l res : List ℤ) where
 
     pub chained : Chained (form_of (h.dim * h.dim) full) l h.count
     chained = subst (λ (s : Shape). Chained (form_of (s.dim * s.dim) full) l s.count) (sym passed.is)
-        (record { width = subst (λ (s : Shape). s.dim * s.dim ≤ 256) passed.is passed.width; right = sym (in_channel l) ∙ passed.right; counted = refl })
+        (record { right = sym (in_channel l) ∙ passed.right; counted = refl })
 
     abbrev found : Option ℕ
     found = fault_of (form_of (h.dim * h.dim) full) (form_of (h.dim * h.dim) f) l
@@ -124,8 +123,8 @@ module _ (f : Parts) (l res : List ℤ) where
     is : (well_formed_in (form_in f l) l ≡ true) × (h ≡ shape_at l)
     is = let q = shape-yes (verdict_by (well_formed_in (form_in f l) l) false) l e in (sym (verdict_test (well_formed_in (form_in f l) l)) ∙ ap is_ok q.0, q.1)
 
-    pub read_width : h.dim * h.dim ≤ 256
-    read_width = subst (λ (s : Shape). s.dim * s.dim ≤ 256) (sym is.1) (square_small (dim_at l) (formed_in (form_in f l) l is.0).0.small)
+    pub read_narrow : h.dim ≤ 16
+    read_narrow = subst (λ (s : Shape). s.dim ≤ 16) (sym is.1) (formed_in (form_in f l) l is.0).0.small
 
     pub read_room_is : (s : ℕ) → s ≡ record_size (form_of (h.dim * h.dim) full) → leb (header_size + h.count * s) (length res) ≡ read_room
     read_room_is s p = ap (λ (s : ℕ). leb (header_size + h.count * s) (length res)) p ∙ ap (λ (g : Shape). leb (header_size + g.count * record_size (form_of (g.dim * g.dim) full)) (length res)) is.1
@@ -148,12 +147,9 @@ module _ (f : Parts) (l res : List ℤ) where
   pub write_ready : is_ok (write_verdict f l res) ≡ true → Ready (own l) (form_in f l) l (count_at l) res
   write_ready e =
       let q = asked e in
-      let r = sym (in_channel l) ∙ q.0 in
-      let w = square_small (dim_at l) (formed_in (own l) l r).0.small in
-      record { width = w; target = w; right = r; count = refl; room = leb-true _ _ q.1.1.1 }
+      record { right = sym (in_channel l) ∙ q.0; count = refl; room = leb-true _ _ q.1.1.1 }
 
   pub read_ready : is_ok (read_verdict f l res) ≡ true → Ready (form_in f l) (own l) l (count_at l) res
   read_ready e =
       let q = asked-read e in
-      let w = square_small (dim_at l) (formed_in (form_in f l) l q.0).0.small in
-      record { width = w; target = w; right = q.0; count = refl; room = leb-true _ _ q.1 }
+      record { right = q.0; count = refl; room = leb-true _ _ q.1 }

@@ -1,15 +1,15 @@
 // A channel's words written in a form that keeps less of each block, and read from there. A refusal leaves the result as it was.
 #![tactic(auto)]
 
-ghost use Rattle.std.specs.Prelude.{◌≡◌, cond, ◌+◌, ◌*◌, ◌≤◌, leb};
+ghost use Rattle.std.specs.Prelude.{◌≡◌, cond, ◌+◌, ◌*◌, leb};
 ghost use Rattle.verdict.specs.declared.Refusal.TheVariants.{NotHermitianAt, NotPlainAt};
-ghost use Rattle.channel.specs.Layout.{header_size};
+ghost use Rattle.channel.specs.Layout.{header_size, record_size};
 ghost use Rattle.channel.specs.Inner.Shapes.{shape_at};
 ghost use Rattle.verdict.specs.Questions.{granted};
 ghost use Rattle.form_calls.specs.Calls.{write_questions, read_questions, write_verdict, read_verdict, write_result, read_result};
 
 use channel::Shape;
-use channel::forms::{ALL, Parts, record_size};
+use channel::forms::{ALL, Form, Parts};
 use channel::layout::HEADER;
 use channel::well_formed::judge;
 use form_judge::{first_fault, judge_form};
@@ -27,15 +27,14 @@ fn refusal(half: bool, i: usize) -> Refusal
     }
 }
 
-// Whether n records of a size fit into a slice of a length, after a header.
-fn has_room(long: usize, n: usize, size: usize) -> bool
-    requires { 1 ≤ size }
-    ensures { result ≡ leb (header_size + n * size) long }
+// Whether n records of a form fit into a slice of a length, after a header.
+fn has_room(long: usize, n: usize, form: Form) -> bool
+    ensures { result ≡ leb (header_size + n * record_size form) long }
 {
     if long < HEADER {
         return false;
     }
-    n <= (long - HEADER) / size
+    n <= (long - HEADER) / form.record_size()
 }
 
 // The header of a channel that is written to a result, or why it is refused.
@@ -43,11 +42,10 @@ fn judge_write(channel: &[i64], f: Parts, res: &[i64]) -> Result<Shape, Refusal>
     ensures { result ≡ granted (shape_at channel.now) (write_questions f channel.now res.now) }
 {
     let h = judge(channel)?;
-    let w = h.dim * h.dim;
-    if let Some(i) = first_fault(channel, w, ALL, f, h.count) {
+    if let Some(i) = first_fault(channel, h.form(ALL), f, h.count) {
         return Err(refusal(f.half, i));
     }
-    if !has_room(res.len(), h.count, record_size(w, f)) {
+    if !has_room(res.len(), h.count, h.form(f)) {
         return Err(Refusal::ShortBuffer);
     }
     Ok(h)
@@ -58,7 +56,7 @@ fn judge_read(words: &[i64], f: Parts, res: &[i64]) -> Result<Shape, Refusal>
     ensures { result ≡ granted (shape_at words.now) (read_questions f words.now res.now) }
 {
     let h = judge_form(words, f)?;
-    if !has_room(res.len(), h.count, record_size(h.dim * h.dim, ALL)) {
+    if !has_room(res.len(), h.count, h.form(ALL)) {
         return Err(Refusal::ShortBuffer);
     }
     Ok(h)
@@ -70,7 +68,7 @@ pub fn write_form(channel: &[i64], f: Parts, res: &mut [i64]) -> Verdict
     ensures words { res.new ≡ write_result f channel.now res.old }
 {
     let h = judge_write(channel, f, res)?;
-    recast(channel, h.dim * h.dim, ALL, h.count, res, f);
+    recast(channel, h.form(ALL), h.count, res, f);
     Ok(())
 }
 
@@ -80,6 +78,6 @@ pub fn read_form(words: &[i64], f: Parts, res: &mut [i64]) -> Verdict
     ensures words { res.new ≡ read_result f words.now res.old }
 {
     let h = judge_read(words, f, res)?;
-    recast(words, h.dim * h.dim, f, h.count, res, ALL);
+    recast(words, h.form(f), h.count, res, ALL);
     Ok(())
 }

@@ -6,10 +6,17 @@ use mathlib.Core.Bool.{Bool, true, false, cond}
 use mathlib.Core.List.{List}
 use Prim.Native.Nat.{ℕ, suc, ◌+◌, ◌-◌, ◌<◌, ◌≤◌}
 use native.Mathlib.Omega.{arith}
+use lib.ListN.{drop}
 use lib.IntN.{ℤ, nat_abs}
-use Rattle.channel.specs.Layout.{Form, word, numbers_at}
+use Rattle.channel.specs.declared.forms.Parts.{Parts}
+use Rattle.channel.specs.Layout.{Form, word, numbers_at, form_of}
+use Rattle.channel.proofs.Suffix.{numbers-from}
 use Rattle.channel.specs.Forms.{restores}
 use Rattle.form_judge.specs.Faults.{fault_from}
+
+-- whether a form restores a block, read from its record's first word on
+pub restored-from : (to : Parts) {F M : Form} (l : List ℤ) {v : List ℤ} (at : ℕ) → M ≡ F → v ≡ drop at l → restores (form_of M.side to) (numbers_at M v 0) ≡ restores (form_of F.side to) (numbers_at F l at)
+restored-from to {F} {M} l {v} at e f = (λ i. restores (form_of (e i).side to) (numbers_at (e i) (f i) 0)) ∙ ap (restores (form_of F.side to)) (numbers-from F l at)
 
 module _ (F G : Form) (l : List ℤ) (n at : ℕ) where
   step : 0 < n → fault_from F G l n at ≡ cond (restores G (numbers_at F l at)) (option_map suc (fault_from F G l (n - 1) (nat_abs (word l at)))) (Some 0)

@@ -3,18 +3,20 @@ use mathlib.Core.Path.{◌≡◌, refl, sym, ap, ◌∙◌}
 use mathlib.Core.Bool.{Bool, true, false, ◌&&◌}
 use mathlib.Core.List.{List}
 use Prim.Native.Nat.{ℕ, zero, suc, ◌+◌, ◌-◌, ◌%◌, ◌^◌, ◌≤◌, ◌<◌}
-use native.Mathlib.Nat.{add-zero, add-suc, add_assoc}
+use native.Mathlib.Nat.{add-zero, zero-add, add-suc, add_assoc}
 use native.Mathlib.Numerals.{add-one}
 use native.Mathlib.Omega.{arith}
 use lib.Bits.{bit_and, bit_or, bit_xor, or_add_and, or_lt, and_le_l, and_le_r}
 use lib.Dec.{eqb, leb, ltb}
-use lib.ListN.{get_or}
+use lib.ListN.{get_or, length, take, drop, length-drop}
+use Rattle.std.proofs.lemmas.List.{length-take-le, get_or-take, get_or-drop}
 use lib.Pow.{pow_pos}
 use lib.IntN.{ℤ, pos, negsuc, nat_abs}
 use lib.Signed.{mag}
 use mir.Syntax.{w64}
 use mir.Val.{SFits, of_z}
 use borrow.Author.Tests.{ltb-true, lt-ltb, le-leb}
+use Rattle.algebra.specs.Dyadic.{evenℤ}
 use Rattle.algebra.specs.Lists.{all_below}
 use Rattle.algebra.specs.Words.{eqℤ}
 use Rattle.algebra.proofs.Tests.{test_same, and_split, and_no, all-at, all-by}
@@ -115,3 +117,26 @@ module _ (l : List ℤ) (at n : ℕ) (g : ℕ) (e : g ≡ edges l at n) where
     even = (ap (λ (k : ℕ). eqb k 0) (and_one g) ∙ ap (λ (k : ℕ). eqb (k % 2) 0) e ∙ edges-even l at n) i;
     zero = (ap (λ (k : ℕ). eqb k 0) e ∙ edges-zero l at n) i;
   }
+
+-- ---- n words of l from `at` on, cut out
+module _ (l : List ℤ) (at n k : ℕ) (e : k ≡ n) (h : at + n ≤ length l) where
+  cut-long : length (take k (drop at l)) ≡ n
+  cut-long = length-take-le k (drop at l) (rw length-drop (omega arith)) ∙ e
+
+  cut-word : (i : ℕ) → i < n → get_or (take k (drop at l)) (0 + i) (pos 0) ≡ get_or l (at + i) (pos 0)
+  cut-word i q = ap (λ (j : ℕ). get_or (take k (drop at l)) j (pos 0)) (zero-add i) ∙ get_or-take k (drop at l) i (pos 0) (omega arith) ∙ get_or-drop at l i (pos 0)
+
+  each-cut : (p : ℤ → Bool) → each_word p (take k (drop at l)) 0 n ≡ each_word p l at n
+  each-cut p = all_same n _ _ (λ i q. ap p (cut-word i q))
+
+  pub seen-cut : seen_of (take k (drop at l)) 0 (length (take k (drop at l))) ≡ seen_of l at n
+  seen-cut =
+      ap (seen_of (take k (drop at l)) 0) cut-long
+      ∙ (λ i. record { range = each-cut (λ (x : ℤ). leb (nat_abs x) max_numerator) i; even = each-cut evenℤ i; zero = each-cut (λ (x : ℤ). eqℤ x (pos 0)) i })
+
+-- n words of each of two
+pub same-cut : (l : List ℤ) (a : ℕ) (m : List ℤ) (b n j k : ℕ) → j ≡ n → k ≡ n → a + n ≤ length l → b + n ≤ length m
+    → same_words (take j (drop a l)) 0 (take k (drop b m)) 0 (length (take j (drop a l))) ≡ same_words l a m b n
+same-cut l a m b n j k e f g h =
+    ap (same_words (take j (drop a l)) 0 (take k (drop b m)) 0) (cut-long l a n j e g)
+    ∙ all_same n _ _ (λ i q. λ t. eqℤ (cut-word l a n j e g i q t) (cut-word m b n k f h i q t))

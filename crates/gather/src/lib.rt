@@ -1,7 +1,7 @@
 // Passes over many words: what all of them have in common is gathered without an early exit, so that a pass becomes vector code.
 #![tactic(auto)]
 
-ghost use Rattle.std.specs.Prelude.{◌≡◌, ◌+◌, ◌≤◌, length};
+ghost use Rattle.std.specs.Prelude.{◌≡◌, length};
 ghost use Rattle.std.specs.Int.{w64};
 ghost use Rattle.std.proofs.Common.{of_z};
 ghost use Rattle.gather.specs.Words.{all_in_range, seen_of, same_words};
@@ -11,6 +11,7 @@ use exact::MAX_NUMERATOR;
 use exact::ranges::at_most;
 
 // What is seen of numerators: whether each is in range, each even, each zero.
+// Kept: three answers of one pass, each asked for by itself, and none of them a failure.
 #[derive(Clone, Copy, Debug, PartialEq, Eq)]
 pub struct Seen {
     pub range: bool,
@@ -20,37 +21,34 @@ pub struct Seen {
 
 // What is gathered from x ^ (x << 1): the bits from 62 up are 0 exactly if each word lies from −2^61 to 2^61 − 1, bit 0 is 0 exactly if each is even,
 // and all bits are 0 exactly if each word is 0.
-fn gather_edges(s: &[i64], at: usize, n: usize) -> i64
-    requires { at + n ≤ length s.now }
-    ensures { of_z w64 result ≡ edges s.now at n }
+fn gather_edges(s: &[i64]) -> i64
+    ensures { of_z w64 result ≡ edges s.now 0 (length s.now) }
 {
     let mut g = 0i64;
-    for i in 0..n {
-        let x = s[at + i];
+    for i in 0..s.len() {
+        let x = s[i];
         g = g | (x ^ (x << 1));
     }
     g
 }
 
-// Whether each of n words is in range, word by word.
-fn each_in_range(s: &[i64], at: usize, n: usize) -> bool
-    requires { at + n ≤ length s.now }
-    ensures { result ≡ all_in_range s.now at n }
+// Whether each word is in range, word by word.
+fn each_in_range(s: &[i64]) -> bool
+    ensures { result ≡ all_in_range s.now 0 (length s.now) }
 {
-    for i in 0..n {
-        if !at_most(s[at + i], MAX_NUMERATOR) {
+    for i in 0..s.len() {
+        if !at_most(s[i], MAX_NUMERATOR) {
             return false;
         }
     }
     true
 }
 
-// What is seen of n words from `at` on, in one pass. Only where a word reaches the edge of the range or lies outside it, the words are looked at again one by one.
-pub fn see(s: &[i64], at: usize, n: usize) -> Seen
-    requires { at + n ≤ length s.now }
-    ensures { result ≡ seen_of s.now at n }
+// What is seen of words, in one pass. Only where a word reaches the edge of the range or lies outside it, the words are looked at again one by one.
+pub fn see(s: &[i64]) -> Seen
+    ensures { result ≡ seen_of s.now 0 (length s.now) }
 {
-    let g = gather_edges(s, at, n);
+    let g = gather_edges(s);
     let even = g & 1 == 0;
     let zero = g == 0;
     if g >> 62 == 0 {
@@ -60,18 +58,19 @@ pub fn see(s: &[i64], at: usize, n: usize) -> Seen
             zero,
         };
     }
-    let range = each_in_range(s, at, n);
+    let range = each_in_range(s);
     Seen { range, even, zero }
 }
 
-// Whether n words of s from a on are those of t from b on.
-pub fn same_words(s: &[i64], a: usize, t: &[i64], b: usize, n: usize) -> bool
-    requires { (a + n ≤ length s.now) × (b + n ≤ length t.now) }
-    ensures { result ≡ same_words s.now a t.now b n }
+// Whether the words of s are those of t, of which there are as many.
+// Kept: `==` of slices, measured in place of `same_rows`: 1.25 times as long for 2 Mi words, 3 to 4 times for 64 to 16 Ki.
+pub fn same_words(s: &[i64], t: &[i64]) -> bool
+    requires { length s.now ≡ length t.now }
+    ensures { result ≡ same_words s.now 0 t.now 0 (length s.now) }
 {
     let mut d = 0i64;
-    for i in 0..n {
-        d = d | (s[a + i] ^ t[b + i]);
+    for i in 0..s.len() {
+        d = d | (s[i] ^ t[i]);
     }
     d == 0
 }
@@ -80,16 +79,17 @@ pub fn same_words(s: &[i64], a: usize, t: &[i64], b: usize, n: usize) -> bool
 const ROW: usize = 64;
 
 // The same, row by row: the first row that differs ends it.
-pub fn same_rows(s: &[i64], a: usize, t: &[i64], b: usize, n: usize) -> bool
-    requires { (a + n ≤ length s.now) × (b + n ≤ length t.now) }
-    ensures { result ≡ same_words s.now a t.now b n }
+// Kept: as `same_words`.
+pub fn same_rows(s: &[i64], t: &[i64]) -> bool
+    requires { length s.now ≡ length t.now }
+    ensures { result ≡ same_words s.now 0 t.now 0 (length s.now) }
 {
-    for r in 0..n / ROW {
+    let rows = s.len() / ROW;
+    for r in 0..rows {
         let k = r * ROW;
-        if !same_words(s, a + k, t, b + k, ROW) {
+        if !same_words(&s[k..k + ROW], &t[k..k + ROW]) {
             return false;
         }
     }
-    let k = n / ROW * ROW;
-    same_words(s, a + k, t, b + k, n - k)
+    same_words(&s[rows * ROW..], &t[rows * ROW..])
 }

@@ -1,4 +1,3 @@
-pub mod Places
 pub mod Linking
 pub mod Rows
 pub mod Ready

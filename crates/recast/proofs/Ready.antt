@@ -39,8 +39,6 @@ module _ (F G : Form) (l : List ℤ) (n : ℕ) (res : List ℤ) (g : Ready F G l
 
   linked : (k at : ℕ) → OnwardIn F l k at → (z : ℤ) → z ≡ pos at → Linked F G z
   linked k at o z f = record {
-    width = g.width;
-    target = g.target;
     index = f ∙ ap (λ (y : ℤ). pos (nat_abs y)) (sym f);
     start = λ q. subst (λ (y : ℤ). header_size ≤ nat_abs y) (sym f) (chain-from k at o (λ e. q (f ∙ ap pos e)));
     small = subst (λ (y : ℤ). record_at G ((nat_abs y - header_size) / record_size F) < 2 ^ 63) (sym f) (small k at o);
@@ -51,8 +49,6 @@ module _ (F G : Form) (l : List ℤ) (n : ℕ) (res : List ℤ) (g : Ready F G l
 
   pub records-of : Records F G l n
   records-of = record {
-    width = g.width;
-    target = g.target;
     inside = subst (λ (k : ℕ). record_at F k ≤ length l) (sym g.count) (formed_in F l g.right).0.inside;
     block = λ j h. each_record F l g.right (λ (at : ℕ). block_ok F l at ≡ true) (λ k at o p. on-block o p) j (subst (λ (k : ℕ). j < k) g.count h);
     next = λ j h. each_record F l g.right (λ (at : ℕ). Linked F G (word l at)) (λ k at o p. linked (k - 1) (nat_abs (word l at)) (on-next o p) (word l at) (on-index o p)) j (subst (λ (k : ℕ). j < k) g.count h);

@@ -12,10 +12,10 @@ use lib.IntN.{ℤ}
 use Rattle.algebra.specs.Words.{blocks, joined}
 use Rattle.algebra.proofs.Blocks.{length-joined, blocks-joined, append_block}
 use Rattle.exact.specs.Exact.{Number}
-use Rattle.channel.specs.Layout.{Form, entry_size, entry_words, from, row_start, row_words, block_size, block_words}
+use Rattle.channel.specs.Layout.{Form, entry_size, entry_words, from, row_start, row_words, block_size}
 use Rattle.channel.proofs.Restore.{row_zero, row_next}
-use Rattle.recast.specs.Inner.Records.{Kept}
-use Rattle.recast.proofs.Places.{entry_long, kept-inside}
+use Rattle.channel.specs.Inner.Kept.{Kept}
+use Rattle.channel.proofs.Kept.{entry_long, kept-inside}
 
 module _ (F : Form) where
   abbrev w : ℕ
@@ -25,21 +25,30 @@ module _ (F : Form) where
   s = entry_size F.plain
 
   -- the words of row r
-  pub row_room : (r : ℕ) → r < w → w ≤ 256 → row_start F r * s + (w - from F r) * s ≤ block_size F
-  row_room r h g = by (row_start F r) (w - 1 - from F r) s (block_size F) (sym split) (kept-inside F k _ refl)
+  row_room : (r : ℕ) → r < w → row_start F r * s + (w - from F r) * s ≤ block_size F
+  row_room r h = by (row_start F r) (w - 1 - from F r) s (block_size F) (sym split) (kept-inside F k _ refl)
     where
       below : (b : Bool) → cond b r 0 ≤ w - 1
       below true = omega arith
       below false = omega arith
 
       k : Kept F r (w - 1)
-      k = record { width = g; row = h; col = omega arith; after = below F.half }
+      k = record { row = h; col = omega arith; after = below F.half }
 
       split : w - from F r ≡ suc (w - 1 - from F r)
       split = let q = below F.half in omega arith
 
       by : {m : ℕ} (a k t b : ℕ) → suc k ≡ m → (a + k) * t + t ≤ b → a * t + m * t ≤ b
       by a k t b e u = subst (λ (m : ℕ). a * t + m * t ≤ b) e (omega (arith, suc-mul k t))
+
+  -- room for row r, where there is room for the block
+  pub row-fits : (v out r R S k m : ℕ) → w ≡ v → r < w → R ≡ row_start F r → S ≡ s → out + block_size F ≤ k → m ≡ k → out + R * S + (v - from F r) * s ≤ m
+  row-fits v out r R S k m e h p q u t =
+      subst (λ (x : ℕ). out + x + (v - from F r) * s ≤ m) (sym (λ i. p i * q i))
+      (by (row_start F r * s) ((v - from F r) * s) (block_size F) (subst (λ (x : ℕ). row_start F r * s + (x - from F r) * s ≤ block_size F) e (row_room r h)) u)
+    where
+      by : (a b n : ℕ) → a + b ≤ n → out + n ≤ k → out + a + b ≤ m
+      by a b n x y = omega arith
 
   module _ (z : ℕ → Number) where
     length-row : (r : ℕ) → length (row_words F z r) ≡ (w - from F r) * s
@@ -71,9 +80,6 @@ module _ (F : Form) where
           (e ∙ blocks-joined s (λ (j : ℕ). entry_words F.plain (z (r * w + (from F r + j)))) (λ j. entry_long F.plain _) b (out + row_start F r * s) (w - from F r))
           ∙ ap (λ (k : ℕ). sets l out (joined k (row_words F z))) (sym (add-one r));
     }
-
-    pub rows_done : {l : List ℤ} {out : ℕ} {b : List ℤ} {r : ℕ} → Rows l out b r → w ≤ r → b ≡ sets l out (block_words F z)
-    rows_done {l} {out} {r = r} g h = let e : r ≡ w = omega (arith, g.count) in g.is ∙ ap (λ (k : ℕ). sets l out (joined k (row_words F z))) e
 
     pub rows_long : {l : List ℤ} {out : ℕ} {b : List ℤ} {r : ℕ} → Rows l out b r → length b ≡ length l
     rows_long {l} {out} {r = r} g = ap length g.is ∙ length-sets l out (joined r (row_words F z))

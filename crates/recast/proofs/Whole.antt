@@ -9,9 +9,10 @@ use lib.Seq.{sets, sets-eq}
 use lib.IntN.{ℤ}
 use Rattle.algebra.specs.Words.{blocks, joined}
 use Rattle.algebra.proofs.Blocks.{length-joined, blocks-joined, append_block}
-use Rattle.channel.specs.Layout.{Form, header_size, block_size, record_size, record_at, word, count_at, numbers_at}
+use Rattle.channel.specs.Layout.{Form, header_size, block_size, record_size, record_at, word, count_at, block_words, numbers_at}
 use Rattle.channel.specs.Recast.{relink, recast_record, recast}
 use Rattle.channel.proofs.Restore.{length-block}
+use Rattle.channel.proofs.Suffix.{word-from, first-from, numbers-from}
 use Rattle.recast.specs.Words.{size_in, recast_into}
 
 module _ (F G : Form) (l : List ℤ) where
@@ -20,6 +21,10 @@ module _ (F G : Form) (l : List ℤ) where
     where
       by : (k : ℕ) → suc (suc (suc (suc k))) ≡ 4 + k
       by k = omega arith
+
+  -- read from its first word on
+  pub recast-from : (at : ℕ) → recast_record F G (drop at l) 0 ≡ recast_record F G l at
+  recast-from at = λ j. relink F G (first-from l at j) ∷ word-from l at 1 j ∷ word-from l at 2 j ∷ word-from l at 3 j ∷ block_words G (numbers-from F l at j)
 
   abbrev recorded : ℕ → List ℤ
   recorded j = recast_record F G l (record_at F j)

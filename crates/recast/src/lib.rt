@@ -1,45 +1,22 @@
 // Words taken from one form to another: the records in their order, with next indices to match, and of each block what the form keeps. Each block is read once.
+// Kept (buffers, together): `res` is lent whole with a place `out`: given the part from `out` on, each caller would have to show what its own writes make of the whole,
+// at no shorter code.
 #![tactic(auto)]
 
-ghost use Rattle.std.specs.Prelude.{◌≡◌, cond, [], ◌∷◌, ℕ, ◌+◌, ◌*◌, ◌-◌, ◌<◌, ◌≤◌, length};
+ghost use Rattle.std.specs.Prelude.{◌≡◌, [], ◌∷◌, ℕ, ◌+◌, ◌*◌, ◌-◌, ◌<◌, ◌≤◌, length};
 ghost use Rattle.std.proofs.lemmas.List.Edits.{sets};
 ghost use Rattle.algebra.specs.Quadratic.{conjugate};
 ghost use Rattle.algebra.specs.Words.{blocks};
 ghost use Rattle.exact.specs.Exact.{root2, number_of, list_of, max_numerator};
 ghost use Rattle.exact.specs.Inner.Sizes.{Within};
-ghost use Rattle.channel.specs.Layout.{header_size, record_size, record_at, block_size, block_words, entry_size, entry_words, entry_from, row_start, from, word, numbers_at, form_of};
+ghost use Rattle.channel.specs.Layout.{header_size, record_size, record_at, block_size, block_words, from, entry_size, entry_words, word, numbers_at, form_of};
 ghost use Rattle.channel.specs.Recast.{relink, recast_record};
 ghost use Rattle.recast.specs.Words.{recast_into};
-ghost use Rattle.recast.specs.Inner.Records.{Kept, Readable, Linked, Records, Ready};
+ghost use Rattle.recast.specs.Inner.Records.{Linked, Records, Ready};
 
-use channel::forms::{Parts, entry_size, first_column, record_size, row_start};
+use channel::forms::{Form, Parts};
 use channel::layout::{EXPONENT, HEADER, RECORD_HEAD};
-
-// Where the words of entry (r, c) begin in its block.
-pub fn place(w: usize, f: Parts, r: usize, c: usize) -> usize
-    requires { Kept (form_of w f) r c }
-    ensures { result ≡ (row_start (form_of w f) r + (c - from (form_of w f) r)) * entry_size f.plain }
-{
-    let start = row_start(w, f.half, r);
-    let skipped = first_column(f.half, r);
-    let size = entry_size(f.plain);
-    (start + (c - skipped)) * size
-}
-
-// The numerators of an entry whose words begin at p.
-pub fn read_kept(s: &[i64], p: usize, plain: bool) -> [i64; 4]
-    requires { p + entry_size plain ≤ length s.now }
-    ensures { result ≡ list_of (entry_from plain (λ (i : ℕ). word s.now (p + i))) }
-{
-    let a = s[p];
-    let b = s[p + 1];
-    if plain {
-        return [a, 0, b, 0];
-    }
-    let c = s[p + 2];
-    let d = s[p + 3];
-    [a, b, c, d]
-}
+use channel::records::Block;
 
 // The conjugate.
 pub fn conj4(x: [i64; 4]) -> [i64; 4]
@@ -49,19 +26,15 @@ pub fn conj4(x: [i64; 4]) -> [i64; 4]
     [x[0], x[1], -x[2], -x[3]]
 }
 
-// The numerators of entry (r, c) of the record at `at`: what is not kept is the conjugate of entry (c, r).
-pub fn read_number(s: &[i64], at: usize, w: usize, f: Parts, r: usize, c: usize) -> [i64; 4]
-    requires { Readable (form_of w f) s.now at × ((r < w) × (c < w)) }
-    ensures { result ≡ list_of (numbers_at (form_of w f) s.now at (r * w + c)) }
+// The numerators of entry (r, c) of a block: what is not kept is the conjugate of entry (c, r).
+pub fn read_number(b: &Block, r: usize, c: usize) -> [i64; 4]
+    requires { let m = b.now in (r < m.form.side) × (c < m.form.side) }
+    ensures { let m = b.now in result ≡ list_of (numbers_at m.form m.words.now 0 (r * m.form.side + c)) }
 {
-    let plain = f.plain;
-    if c < first_column(f.half, r) {
-        let q = place(w, f, c, r);
-        let x = read_kept(s, at + RECORD_HEAD + q, plain);
-        return conj4(x);
+    if c < b.form.first_column(r) {
+        return conj4(b.kept(c, r));
     }
-    let p = place(w, f, r, c);
-    read_kept(s, at + RECORD_HEAD + p, plain)
+    b.kept(r, c)
 }
 
 // Write what is kept of the numerators of an entry from p on.
@@ -69,10 +42,7 @@ fn write_number(s: &mut [i64], p: usize, plain: bool, x: [i64; 4])
     requires { p + entry_size plain ≤ length s.old }
     ensures { s.new ≡ sets s.old p (entry_words plain (number_of x)) }
 {
-    let a = x[0];
-    let b = x[1];
-    let c = x[2];
-    let d = x[3];
+    let [a, b, c, d] = x;
     if plain {
         s[p] = a;
         s[p + 1] = c;
@@ -84,100 +54,95 @@ fn write_number(s: &mut [i64], p: usize, plain: bool, x: [i64; 4])
     s[p + 3] = d;
 }
 
-// Write the entries of row r from column `skipped` on.
-fn copy_row(
-    s: &[i64],
-    at: usize,
-    w: usize,
-    f: Parts,
-    r: usize,
-    skipped: usize,
-    res: &mut [i64],
-    out: usize,
-    plain: bool,
-)
-    requires { Readable (form_of w f) s.now at × ((r < w) × ((skipped ≤ w) × (out + (w - skipped) * entry_size plain ≤ length res.old))) }
-    ensures { res.new ≡ blocks (entry_size plain) res.old out (w - skipped) (λ (j : ℕ). entry_words plain (numbers_at (form_of w f) s.now at (r * w + (skipped + j)))) }
+// Write the entries of row r of a block that the form `to` keeps, from `out` on.
+fn copy_row(b: &Block, to: Form, r: usize, res: &mut [i64], out: usize)
+    requires { let m = b.now in (to.side ≡ m.form.side) × ((r < m.form.side) × (out + (m.form.side - from to r) * entry_size to.plain ≤ length res.old)) }
+    ensures { let m = b.now in res.new ≡ blocks (entry_size to.plain) res.old out (m.form.side - from to r) (λ (j : ℕ). entry_words to.plain (numbers_at m.form m.words.now 0 (r * m.form.side + (from to r + j)))) }
 {
-    let size = entry_size(plain);
-    for j in 0..w - skipped {
-        let x = read_number(s, at, w, f, r, skipped + j);
+    let skipped = to.first_column(r);
+    let size = to.entry_size();
+    let plain = to.is_plain();
+    for j in 0..to.side() - skipped {
+        let x = read_number(b, r, skipped + j);
         write_number(res, out + j * size, plain, x);
     }
 }
 
-// Write the block of the record at `at` as `to` keeps it, from `out` on.
-fn copy_block(s: &[i64], at: usize, w: usize, f: Parts, res: &mut [i64], out: usize, to: Parts)
-    requires { Readable (form_of w f) s.now at × (out + block_size (form_of w to) ≤ length res.old) }
-    ensures { res.new ≡ sets res.old out (block_words (form_of w to) (numbers_at (form_of w f) s.now at)) }
+// Write a block as the form that keeps the parts `to` keeps it, from `out` on.
+fn copy_block(b: &Block, to: Parts, res: &mut [i64], out: usize)
+    requires { let m = b.now in out + block_size (form_of m.form.side to) ≤ length res.old }
+    ensures { let m = b.now in res.new ≡ sets res.old out (block_words (form_of m.form.side to) (numbers_at m.form m.words.now 0)) }
 {
-    let size = entry_size(to.plain);
-    for r in 0..w {
-        let start = row_start(w, to.half, r);
-        let skipped = first_column(to.half, r);
-        copy_row(s, at, w, f, r, skipped, res, out + start * size, to.plain);
+    let form = b.form.keeping(to);
+    let size = form.entry_size();
+    for r in 0..form.side() {
+        copy_row(b, form, r, res, out + form.row_start(r) * size);
     }
 }
 
-// The index in the form `to` that matches an index in the form `f`.
-fn relinked(w: usize, f: Parts, to: Parts, z: i64) -> i64
-    requires { Linked (form_of w f) (form_of w to) z }
-    ensures { result ≡ relink (form_of w f) (form_of w to) z }
+// The index in the form `to` that matches an index in the form `from`.
+fn relinked(from: Form, to: Form, z: i64) -> i64
+    requires { Linked from to z }
+    ensures { result ≡ relink from to z }
 {
     if z == 0 {
         return 0;
     }
-    let size = record_size(w, f);
-    let j = (z as usize - HEADER) / size;
-    let at = HEADER + j * record_size(w, to);
+    let j = (z as usize - HEADER) / from.record_size();
+    let at = HEADER + j * to.record_size();
     at as i64
 }
 
 // Write four words from `at` on.
-fn put_four(res: &mut [i64], at: usize, a: i64, b: i64, c: i64, d: i64)
+fn put_four(res: &mut [i64], at: usize, x: [i64; 4])
     requires { at + 4 ≤ length res.old }
-    ensures { res.new ≡ sets res.old at (a ∷ b ∷ c ∷ d ∷ []) }
+    ensures { res.new ≡ sets res.old at x }
 {
+    let [a, b, c, d] = x;
     res[at] = a;
     res[at + 1] = b;
     res[at + 2] = c;
     res[at + 3] = d;
 }
 
-// Write the record at `at` in the form `to` from `out` on.
-fn copy_record(s: &[i64], at: usize, w: usize, f: Parts, res: &mut [i64], out: usize, to: Parts)
-    requires { Readable (form_of w f) s.now at × (Linked (form_of w f) (form_of w to) (word s.now at) × (out + record_size (form_of w to) ≤ length res.old)) }
-    ensures { res.new ≡ sets res.old out (recast_record (form_of w f) (form_of w to) s.now at) }
+// Write the record of a block in the form that keeps the parts `to`, from `out` on.
+fn copy_record(b: &Block, to: Parts, res: &mut [i64], out: usize)
+    requires { let m = b.now in let G = form_of m.form.side to in Linked m.form G (word m.words.now 0) × (out + record_size G ≤ length res.old) }
+    ensures { let m = b.now in res.new ≡ sets res.old out (recast_record m.form (form_of m.form.side to) m.words.now 0) }
 {
-    let next = s[at];
-    let low = s[at + 1];
-    let high = s[at + 2];
-    let exponent = s[at + EXPONENT];
-    put_four(res, out, relinked(w, f, to, next), low, high, exponent);
-    copy_block(s, at, w, f, res, out + RECORD_HEAD, to);
+    let from = b.form;
+    let s = b.words;
+    let next = relinked(from, from.keeping(to), s[0]);
+    put_four(res, out, [next, s[1], s[2], s[EXPONENT]]);
+    copy_block(b, to, res, out + RECORD_HEAD);
 }
 
-// Write n records in the form `to`, in their order.
-fn copy_records(s: &[i64], w: usize, f: Parts, n: usize, res: &mut [i64], to: Parts)
-    requires { Records (form_of w f) (form_of w to) s.now n × (record_at (form_of w to) n ≤ length res.old) }
-    ensures { res.new ≡ blocks (record_size (form_of w to)) res.old header_size n (λ (j : ℕ). recast_record (form_of w f) (form_of w to) s.now (record_at (form_of w f) j)) }
+// Write n records in the form that keeps the parts `to`, in their order.
+fn copy_records(s: &[i64], from: Form, n: usize, res: &mut [i64], to: Parts)
+    requires { let G = form_of from.side to in Records from G s.now n × (record_at G n ≤ length res.old) }
+    ensures { let G = form_of from.side to in res.new ≡ blocks (record_size G) res.old header_size n (λ (j : ℕ). recast_record from G s.now (record_at from j)) }
 {
-    let here = record_size(w, f);
-    let there = record_size(w, to);
+    let here = from.record_size();
+    let there = from.keeping(to).record_size();
     for j in 0..n {
-        copy_record(s, HEADER + j * here, w, f, res, HEADER + j * there, to);
+        let b = Block::at(s, from, HEADER + j * here);
+        copy_record(&b, to, res, HEADER + j * there);
     }
 }
 
-// Write words of the form `f`, of n records with blocks of w rows and columns, in the form `to`.
-pub fn recast(s: &[i64], w: usize, f: Parts, n: usize, res: &mut [i64], to: Parts)
-    requires { Ready (form_of w f) (form_of w to) s.now n res.old }
-    ensures { res.new ≡ recast_into (form_of w f) (form_of w to) s.now res.old }
+// Write words of the form `from`, of n records, in the form that keeps the parts `to`.
+pub fn recast(s: &[i64], from: Form, n: usize, res: &mut [i64], to: Parts)
+    requires { Ready from (form_of from.side to) s.now n res.old }
+    ensures { res.new ≡ recast_into from (form_of from.side to) s.now res.old }
 {
     let dim = s[0];
     let bits = s[1];
     let count = s[2];
     let first = s[3];
-    put_four(res, 0, dim, bits, count, relinked(w, f, to, first));
-    copy_records(s, w, f, n, res, to);
+    put_four(
+        res,
+        0,
+        [dim, bits, count, relinked(from, from.keeping(to), first)],
+    );
+    copy_records(s, from, n, res, to);
 }

@@ -1,5 +1,5 @@
--- What the judge of a channel answers inside: the header or a refusal, and what is found of a record; the room and the walk that its calls ask for.
-use Rattle.std.specs.Prelude.{◌≡◌, Bool, true, false, cond, List, ℕ, ◌+◌, ◌*◌, ◌≤◌, length, ℤ, pos, Option, Some, None, Result, Ok}
+-- What the judge of a channel answers inside: the header or a refusal, and whether a record is blank; the room and the walk that its calls ask for.
+use Rattle.std.specs.Prelude.{◌≡◌, Bool, true, false, cond, ◌||◌, List, ℕ, zero, suc, ◌+◌, ◌*◌, ◌≤◌, length, ℤ, pos, nat_abs, Option, Some, None, Result, Ok}
 use Rattle.std.specs.Result.{result_and}
 use Rattle.algebra.specs.Words.{up_to}
 use Rattle.exact.specs.Exact.{max_exponent}
@@ -7,9 +7,9 @@ use Rattle.verdict.specs.Questions.{Verdict}
 use Rattle.verdict.specs.declared.Refusal.{Refusal}
 use Rattle.channel.specs.declared.Shape.{Shape}
 use Rattle.channel.specs.declared.forms.Parts.{Parts}
-use Rattle.channel.specs.declared.well_formed.Judged.{Judged}
-use Rattle.channel.specs.Layout.{Form, full, channels, form_in, header_size, record_head, exponent_place, entry_size, record_size, word, entry_at, store_at, dim_at, bits_at, count_at}
-use Rattle.channel.specs.WellFormed.{all_zero, header_ok, chain_ok, well_formed_in, verdict_by, form_verdict}
+use Rattle.gather.specs.Words.{all_zero as zero_words}
+use Rattle.channel.specs.Layout.{Form, channels, form_in, record_head, record_at, block_size, exponent_place, entry_size, word, dim_at, bits_at, count_at}
+use Rattle.channel.specs.WellFormed.{header_ok, chain_ok, well_formed_in, verdict_by, form_verdict}
 
 abbrev pub shape_at : List ℤ → Shape
 shape_at l = record { dim = dim_at l; bits = bits_at l; count = count_at l }
@@ -29,15 +29,19 @@ header_of f l = shape_by (verdict_by (header_ok (form_in f l) l) false) l
 abbrev pub when : {A : Type 0} → Bool → A → Option A
 when b x = cond b (Some x) None
 
--- the store of the record at `at`, and whether its block is zero
-abbrev pub judged_at : ℕ → List ℤ → ℕ → Judged
-judged_at w l at = record { store = store_at l at; zero = all_zero (w * w) (entry_at (full w) l at) }
+-- all numerators that are kept of the record at `at` are 0
+abbrev pub blank : Form → List ℤ → ℕ → Bool
+blank F l at = zero_words l (at + record_head) (block_size F)
 
--- room for `count` records of side w
-pub record Room (l : List ℤ) (w m count : ℕ) : Type 0 where
-  pub width : w ≤ 256
+-- so are those of one of n records along the chain from index `at` on
+abbrev pub some_blank : Form → List ℤ → ℕ → ℕ → Bool
+some_blank F l zero at = false
+some_blank F l (suc n) at = blank F l at || some_blank F l n (nat_abs (word l at))
+
+-- room for `count` records of the form F
+pub record Room (F : Form) (l : List ℤ) (m count : ℕ) : Type 0 where
   pub few : m ≤ 64
-  pub inside : header_size + count * record_size (full w) ≤ length l
+  pub inside : record_at F count ≤ length l
 
 -- n entries of the record at `at` lie inside the words, and their exponent is one
 pub record Entries (l : List ℤ) (at n : ℕ) : Type 0 where

@@ -1,13 +1,12 @@
 -- The walk along two chains in step, as the code makes it: which side has the next store, and the blocks there.
-use Rattle.std.specs.Prelude.{◌≡◌, Bool, true, false, cond, ◌&&◌, List, ℕ, ◌+◌, ◌-◌, eqb, ltb, ℤ, nat_abs}
-use Rattle.algebra.specs.Words.{eqℤ}
+use Rattle.std.specs.Prelude.{◌≡◌, Bool, true, false, cond, List, ℕ, ◌-◌, eqb, ltb, ℤ, nat_abs}
 use Rattle.exact.specs.Exact.{Exact, exact}
 use Rattle.channel.specs.declared.compare.Turn.{Turn}
 use Rattle.channel.specs.declared.compare.Cursor.{Cursor}
 use Rattle.store.specs.Store.{before}
-use Rattle.channel.specs.Layout.{channels, exponent_place, side, dim_at, count_at, word, entry_at, store_at}
+use Rattle.channel.specs.Layout.{channels, side, dim_at, count_at, word, entry_at, store_at}
 use Rattle.channel.specs.WellFormed.{well_formed}
-use Rattle.channel.specs.Inner.Shapes.{Onward, Entries}
+use Rattle.channel.specs.Inner.Shapes.{Onward}
 use Rattle.channel.specs.Compare.{Both}
 
 -- a side that takes part has its block at `at`; else its block is missing
@@ -53,12 +52,3 @@ pub record Matched (l r : List ℤ) (m n w : ℕ) : Type 0 where
   pub right_count : n ≡ count_at r
   pub left_side : w ≡ side (dim_at l)
   pub right_side : w ≡ side (dim_at r)
-
--- both sides have a block, and both blocks one exponent
-abbrev pub alike : Turn → List ℤ → ℕ → List ℤ → ℕ → Bool
-alike t l i r j = (t.left && t.right) && eqℤ (word l (i + exponent_place)) (word r (j + exponent_place))
-
--- n entries of each side that has a block can be read
-pub record Held (t : Turn) (l : List ℤ) (i : ℕ) (r : List ℤ) (j n : ℕ) : Type 0 where
-  pub left : t.left ≡ true → Entries l i n
-  pub right : t.right ≡ true → Entries r j n

@@ -9,5 +9,5 @@ use Rattle.form_judge.proofs.first_fault.Given as goal
 
 abbrev pub invariant-loop-i : goal.invariant-loop-i
 invariant-loop-i l =
-    OnwardIn (form_of l.w l.f) l.s (l.count - l.i) l.at
-    × (fault_of (form_of l.w l.f) (form_of l.w l.to) l.s ≡ option_map (λ (j : ℕ). l.i + j) (fault_from (form_of l.w l.f) (form_of l.w l.to) l.s (l.count - l.i) l.at))
+    let G = form_of l.form.side l.to in
+    OnwardIn l.form l.s (l.count - l.i) l.at × (fault_of l.form G l.s ≡ option_map (λ (j : ℕ). l.i + j) (fault_from l.form G l.s (l.count - l.i) l.at))

@@ -1,9 +1,9 @@
--- What is answered of words of a form: the header or a refusal; and the room that the walk asks for.
-use Rattle.std.specs.Prelude.{◌≡◌, Bool, true, false, not, ◌&&◌, ◌||◌, List, ℕ, ◌+◌, ◌*◌, ◌≤◌, length, ℤ, Result}
+-- What is answered of words of a form: the header or a refusal.
+use Rattle.std.specs.Prelude.{◌≡◌, Bool, true, false, not, ◌&&◌, ◌||◌, List, ℕ, ◌+◌, ◌*◌, ℤ, Result}
 use Rattle.verdict.specs.declared.Refusal.{Refusal}
 use Rattle.exact.specs.Exact.{Number}
 use Rattle.channel.specs.declared.Shape.{Shape}
-use Rattle.channel.specs.Layout.{Form, record_at, count_at, form_in}
+use Rattle.channel.specs.Layout.{Form, count_at, form_in}
 use Rattle.channel.specs.WellFormed.{well_formed_in, verdict_by}
 use Rattle.channel.specs.Forms.{is_conjugate, has_root}
 use Rattle.channel.specs.Inner.Shapes.{shape_by}
@@ -12,12 +12,6 @@ use Rattle.channel.specs.declared.forms.Parts.{Parts}
 -- the header where the words are well formed, or 10
 abbrev pub shape_in : Parts → List ℤ → Result Shape Refusal
 shape_in f l = shape_by (verdict_by (well_formed_in (form_in f l) l) false) l
-
--- room for `count` records of the form F
-pub record Room (F : Form) (l : List ℤ) (m count : ℕ) : Type 0 where
-  pub width : F.side ≤ 256
-  pub few : m ≤ 64
-  pub inside : record_at F count ≤ length l
 
 -- entry (r, c) of numbers z is what a form that keeps these parts restores
 abbrev pub mirror_fits : Bool → ℕ → (ℕ → Number) → ℕ → ℕ → Bool
@@ -31,6 +25,5 @@ cell_fits half plain w z r c = mirror_fits half w z r c && plain_fits plain w z 
 
 -- well-formed words of the form F, with `count` records
 pub record Chained (F : Form) (l : List ℤ) (count : ℕ) : Type 0 where
-  pub width : F.side ≤ 256
   pub right : well_formed_in F l ≡ true
   pub counted : count ≡ count_at l

@@ -5,4 +5,4 @@ use Rattle.gather.specs.Words.{all_in_range}
 use Rattle.gather.proofs.each_in_range.Given as goal
 
 abbrev pub invariant-loop-i : goal.invariant-loop-i
-invariant-loop-i l = all_in_range l.s l.at l.i ≡ true
+invariant-loop-i l = all_in_range l.s 0 l.i ≡ true

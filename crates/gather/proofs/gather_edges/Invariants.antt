@@ -6,4 +6,4 @@ use mir.Val.{of_z}
 use Rattle.gather.proofs.gather_edges.Given as goal
 
 abbrev pub invariant-loop-i : goal.invariant-loop-i
-invariant-loop-i l = of_z w64 l.g ≡ edges l.s l.at l.i
+invariant-loop-i l = of_z w64 l.g ≡ edges l.s 0 l.i

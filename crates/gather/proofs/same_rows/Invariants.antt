@@ -6,4 +6,4 @@ use Rattle.gather.specs.Words.{same_words}
 use Rattle.gather.proofs.same_rows.Given as goal
 
 abbrev pub invariant-loop-r : goal.invariant-loop-r
-invariant-loop-r l = same_words l.s l.a l.t l.b (l.r * 64) ≡ true
+invariant-loop-r l = same_words l.s 0 l.t 0 (l.r * 64) ≡ true

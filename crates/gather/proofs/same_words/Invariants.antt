@@ -8,4 +8,4 @@ use Rattle.gather.specs.Words.{same_at}
 use Rattle.gather.proofs.same_words.Given as goal
 
 abbrev pub invariant-loop-i : goal.invariant-loop-i
-invariant-loop-i l = eqb (of_z w64 l.d) 0 ≡ all_below l.i (same_at l.s l.a l.t l.b)
+invariant-loop-i l = eqb (of_z w64 l.d) 0 ≡ all_below l.i (same_at l.s 0 l.t 0)

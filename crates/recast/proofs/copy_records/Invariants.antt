@@ -7,4 +7,5 @@ use Rattle.recast.proofs.copy_records.Given as goal
 
 abbrev pub invariant-loop-j : goal.invariant-loop-j
 invariant-loop-j l =
-    Writing (record_size (form_of l.w l.to)) l.initial.res header_size l.n (λ (k : ℕ). recast_record (form_of l.w l.f) (form_of l.w l.to) l.s (record_at (form_of l.w l.f) k)) l.res l.j
+    let G = form_of l.from.side l.to in
+    Writing (record_size G) l.initial.res header_size l.n (λ (k : ℕ). recast_record l.from G l.s (record_at l.from k)) l.res l.j

@@ -4,6 +4,7 @@ use native.Mathlib.Omega.{arith}
 use lib.Seq.{take-length}
 use Rattle.algebra.specs.Words.{from_bits}
 use Rattle.store.proofs.Bytes.{fits_word}
+use Rattle.channel.proofs.Words.{square_small}
 use Rattle.channel.proofs.Judging.{passed_is}
 use Rattle.channel.proofs.Finding.{inside_there}
 use Rattle.channel.proofs.lookup.locate.Goals as goal
@@ -19,7 +20,7 @@ pub find_store-requires : goal.find_store-requires
 find_store-requires c = let p = passed_is c.args.s.now c.in-Ok.ensures in (p.right, ap (λ h. h.count) p.is)
 
 pub overflow_mul-w : goal.overflow_mul-w
-overflow_mul-w c = omega (arith, (passed_is c.args.s.now c.in-Ok.ensures).width)
+overflow_mul-w c = omega (arith, square_small _ (passed_is c.args.s.now c.in-Ok.ensures).narrow)
 
 pub overflow_add-result : goal.overflow_add-result
 overflow_add-result c =
@@ -28,4 +29,4 @@ overflow_add-result c =
     omega arith
 
 pub block_size-requires : goal.block_size-requires
-block_size-requires c = (passed_is c.args.s.now c.in-Ok.ensures).width
+block_size-requires c = square_small _ (passed_is c.args.s.now c.in-Ok.ensures).narrow

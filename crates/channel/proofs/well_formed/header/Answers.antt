@@ -76,12 +76,12 @@ module _ (c : Else-not-is_dim-up_to) where
   small = read (dim a) (λ (z : ℤ). nat_abs z ≤ 16) (up-abs 16 (word (words a) 0) range.0)
 
 -- room for the records
-counts : (c : After-up_to-2) → c.up_to-2.result ≡ counted (form_in (parts (a c.before.before)) (words (a c.before.before))) (words (a c.before.before))
+counts : (c : After-up_to-2) → c.up_to-2.result ≡ counted (form_in (parts (a c.before.before.before)) (words (a c.before.before.before))) (words (a c.before.before.before))
 counts c =
-    let l = words (a c.before.before) in
+    let l = words (a c.before.before.before) in
     c.up_to-2.ensures
-    ∙ (λ i. up_to ((length l - header_size) / c.record_size.ensures i) (to_z-of_z (count (a c.before.before)) i))
-    ∙ ap (λ (z : ℤ). up_to ((length l - header_size) / record_size (form_of (nat_abs z * nat_abs z) (parts (a c.before.before)))) (word l 2)) (to_z-of_z (dim (a c.before.before)))
+    ∙ (λ i. up_to ((length l - header_size) / (c.record_size.ensures ∙ ap record_size c.new.ensures) i) (to_z-of_z (count (a c.before.before.before)) i))
+    ∙ ap (λ (z : ℤ). up_to ((length l - header_size) / record_size (form_of (nat_abs z * nat_abs z) (parts (a c.before.before.before)))) (word l 2)) (to_z-of_z (dim (a c.before.before.before)))
 
 -- the header by its three tests
 refused : (f : Parts) (l : List ℤ) → header_ok (form_in f l) l ≡ false → Err Malformed ≡ header_of f l
@@ -99,24 +99,24 @@ overflow_cast-d c = read (dim (a c)) (Casts w64) (cast_ok 16 (word (words (a c))
 pub overflow_mul-d : goal.overflow_mul-d
 overflow_mul-d c = omega (arith, square_small _ (small c))
 
-pub record_size-requires : goal.record_size-requires
-record_size-requires c = square_small _ (small c)
+pub new-requires : goal.new-requires
+new-requires c = square_small _ (small c)
 
 pub overflow_cast-result : goal.overflow_cast-result
 overflow_cast-result c =
-    let q = c.before.before.before in
+    let q = c.before.before.before.before in
     let l = words (a q) in
     read (bits (a q)) (Casts w32) (cast_ok 64 (word l 1) (and_split (is_dim (word l 0)) (up_to 64 (word l 1)) (right q)).1 (record { fits = lit< tt }))
 
 pub overflow_cast-result-2 : goal.overflow_cast-result-2
 overflow_cast-result-2 c =
-    let q = c.before.before.before in
+    let q = c.before.before.before.before in
     let l = words (a q) in
     read (count (a q)) (Casts w64) (casts_up ((length l - header_size) / record_size (form_in (parts (a q)) l)) (word l 2) (count (a q)) (sym (counts c.before) ∙ c.if-not-up_to.false))
 
 pub returns : goal.returns
 returns c =
-    let q = c.before.before.before in
+    let q = c.before.before.before.before in
     let l = words (a q) in
     let d = to_z-of_z (dim (a q)) in
     let b = to_z-of_z (bits (a q)) in

@@ -1,0 +1,16 @@
+-- `compare::Sides::search` meets its contract.
+use mathlib.Core.Path.{◌≡◌}
+use Prim.Native.Nat.{◌+◌, ◌*◌, ◌-◌, ◌<◌}
+use Rattle.channel.specs.Compare.{scan}
+use Rattle.channel.specs.Inner.Sides.{blocks_of}
+use Rattle.channel.proofs.compare.Sides.search.Given as goal
+
+abbrev pub invariant-loop-col : goal.invariant-loop-col
+invariant-loop-col l =
+    let b = blocks_of l.self.store l.self.left l.self.right in
+    (l.row < l.w) × (scan b l.w (l.w * l.w) 0 ≡ scan b l.w (l.w * l.w - (l.row * l.w + l.col)) (l.row * l.w + l.col))
+
+abbrev pub invariant-loop-row : goal.invariant-loop-row
+invariant-loop-row l =
+    let b = blocks_of l.self.store l.self.left l.self.right in
+    scan b l.w (l.w * l.w) 0 ≡ scan b l.w (l.w * l.w - l.row * l.w) (l.row * l.w)
