@@ -175,5 +175,5 @@ fits = record {
       (plus (plus (plus (plus (plus (known (utf8 "different\n")) (storing_most m p.store hm)) (entry-most n p.row p.col hn)) (valued-most ": " x)) (valued-most " against " y)) (known (utf8 "\n")))).le;
   refused = λ which r ws room h s.
       (more {b = max_answer} (omega arith)
-      (plus (plus (plus (plus (first-most which r.verdict r.position) (place-most r.line r.column ws h s)) (room_most r.gates room)) (reason-most r.verdict)) (known (utf8 "\n")))).le;
+      (plus (plus (plus (plus (first-most which (Err r.refusal) r.position) (place-most r.line r.column ws h s)) (room_most r.gates room)) (reason-most (Err r.refusal))) (known (utf8 "\n")))).le;
 }

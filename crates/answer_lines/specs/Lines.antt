@@ -1,5 +1,5 @@
 -- The bytes of an answer on two texts: a first line for scripts, then lines for people.
-use Rattle.std.specs.Prelude.{cond, List, [], ◌++◌, ℕ, eqb, length}
+use Rattle.std.specs.Prelude.{cond, List, [], ◌++◌, ℕ, eqb, length, Err}
 use Prim.Native.String.{String}
 use Rattle.algebra.specs.Lists.{concat_map}
 use Rattle.verdict.specs.Questions.{Verdict}
@@ -70,4 +70,4 @@ room_text gates room = cond (eqb gates 0) [] (decimal gates ++ labelled " gates,
 -- `gate` has the words of the gate at fault, and `room` says for how many gates room is lent
 abbrev pub refused_text : Which → Fault → List ℕ → ℕ → List ℕ
 refused_text which r gate room =
-    first_line which r.verdict r.position ++ place_text r.line r.column gate ++ room_text r.gates room ++ reason r.verdict ++ utf8 "\n"
+    first_line which (Err r.refusal) r.position ++ place_text r.line r.column gate ++ room_text r.gates room ++ reason (Err r.refusal) ++ utf8 "\n"

@@ -1,11 +1,12 @@
-// The bytes of an answer on two texts: a first line for scripts, then lines for people, put into lent room from its start on.
+// The bytes of an answer on two texts: a first line for scripts, then lines for people, put into lent room.
+// Kept (buffers): the number beside a label is put behind it, and the room beside a gate's words is the room lent for all gates: neither is a length of the bytes, or a place in them.
+// Kept (together): a writer with both counts; a struct of two counts would serve `put_head` and its caller alone.
 #![tactic(auto)]
 
-ghost use Rattle.std.specs.Prelude.{◌++◌};
+ghost use Rattle.std.specs.Prelude.{◌≡◌, ◌++◌, Err};
 ghost use Rattle.scalar.specs.Calls.{value};
 ghost use Rattle.text.specs.Decimal.{decimal};
-ghost use Rattle.text.specs.Page.{page};
-ghost use Rattle.text.specs.Inner.Written.{Written};
+ghost use Rattle.text.specs.Inner.Puts.{Puts};
 ghost use Rattle.answers.specs.Numbers.{number_text};
 ghost use Rattle.answer_lines.specs.Lines.{same_text, dimensions_text, after_storing, different_text, opening, first_line, gate_end, place_text, room_text, refused_text};
 
@@ -15,13 +16,13 @@ use answers::states::{put_bra_ket, put_store};
 use channel::compare::Place;
 use qasm_writer::printer::put_gates;
 use scalar::Scalar;
-use text::page::{put, put_all, put_decimal};
-use verdict::{Verdict, index, number};
+use text::page::Writer;
+use verdict::Refusal;
 
 // Why a text or its circuit is refused: the byte at fault with its line and column, or the place of the gate at fault; how many gates a text has that has too many. Each is 0 where there is none.
 #[derive(Clone, Copy)]
 pub struct Fault {
-    pub verdict: Verdict,
+    pub refusal: Refusal,
     pub position: usize,
     pub line: usize,
     pub column: usize,
@@ -36,132 +37,127 @@ pub enum Which {
     Only,
 }
 
-pub fn put_same(out: &mut [u8]) -> usize
-    ensures { Written (page out.old 0) same_text (page out.new result) }
+pub fn put_same(out: &mut Writer<'_>)
+    ensures { Puts out.old same_text out.new }
 {
-    put_all(
-        out,
-        0,
+    out.put_all(
         b"same\nThe two circuits do the same: their channels are equal at every store, row and column.\n",
-    )
+    );
 }
 
 // A number behind these bytes.
-fn put_labelled(out: &mut [u8], at: usize, label: &[u8], n: u64) -> usize
-    ensures { Written (page out.old at) (label.now ++ decimal n) (page out.new result) }
+fn put_labelled(out: &mut Writer<'_>, label: &[u8], n: u64)
+    ensures { Puts out.old (label.now ++ decimal n) out.new }
 {
-    let a = put_all(out, at, label);
-    put_decimal(out, a, n)
+    out.put_all(label);
+    out.put_decimal(n);
 }
 
 // The counts of both circuits.
-pub fn put_dimensions(out: &mut [u8], n: u32, m: u32, n2: u32, m2: u32) -> usize
-    ensures { Written (page out.old 0) (dimensions_text n m n2 m2) (page out.new result) }
+pub fn put_dimensions(out: &mut Writer<'_>, n: u32, m: u32, n2: u32, m2: u32)
+    ensures { Puts out.old (dimensions_text n m n2 m2) out.new }
 {
-    let a = put_labelled(out, 0, b"dimensions\nqubits: ", n as u64);
-    let b = put_labelled(out, a, b" against ", n2 as u64);
-    let c = put_labelled(out, b, b"; classical bits: ", m as u64);
-    let d = put_labelled(out, c, b" against ", m2 as u64);
-    put(out, d, b'\n')
+    put_labelled(out, b"dimensions\nqubits: ", n as u64);
+    put_labelled(out, b" against ", n2 as u64);
+    put_labelled(out, b"; classical bits: ", m as u64);
+    put_labelled(out, b" against ", m2 as u64);
+    out.put(b'\n');
 }
 
-fn put_after(out: &mut [u8], at: usize, m: u32, store: u64) -> usize
-    ensures { Written (page out.old at) (after_storing m store) (page out.new result) }
+fn put_after(out: &mut Writer<'_>, m: u32, store: u64)
+    ensures { Puts out.old (after_storing m store) out.new }
 {
-    if m == 0 {
-        return at;
+    if m != 0 {
+        out.put_all(b"after storing ");
+        put_store(out, store, m);
+        out.put_all(b", ");
     }
-    let a = put_all(out, at, b"after storing ");
-    let b = put_store(out, a, store, m);
-    put_all(out, b, b", ")
 }
 
-fn put_valued(out: &mut [u8], at: usize, label: &[u8], x: Scalar) -> usize
-    ensures { Written (page out.old at) (label.now ++ number_text (value x)) (page out.new result) }
+fn put_valued(out: &mut Writer<'_>, label: &[u8], x: Scalar)
+    ensures { Puts out.old (label.now ++ number_text (value x)) out.new }
 {
-    let a = put_all(out, at, label);
-    put_number(out, a, x)
+    out.put_all(label);
+    put_number(out, x);
 }
 
 // The first unequal entry: its place, and both numbers.
 pub fn put_different(
-    out: &mut [u8],
+    out: &mut Writer<'_>,
     qubits: u32,
     bits: u32,
     place: Place,
     left: Scalar,
     right: Scalar,
-) -> usize
-    ensures { Written (page out.old 0) (different_text qubits bits place left right) (page out.new result) }
+)
+    ensures { Puts out.old (different_text qubits bits place left right) out.new }
 {
-    let a = put_all(out, 0, b"different\n");
-    let b = put_after(out, a, bits, place.store);
-    let c = put_bra_ket(out, b, qubits, place.row, place.col);
-    let d = put_valued(out, c, b": ", left);
-    let e = put_valued(out, d, b" against ", right);
-    put(out, e, b'\n')
+    out.put_all(b"different\n");
+    put_after(out, bits, place.store);
+    put_bra_ket(out, qubits, place.row, place.col);
+    put_valued(out, b": ", left);
+    put_valued(out, b" against ", right);
+    out.put(b'\n');
 }
 
-fn put_opening(out: &mut [u8], which: Which) -> usize
-    ensures { Written (page out.old 0) (opening which) (page out.new result) }
+fn opening(which: Which) -> &'static [u8]
+    ensures { result.now ≡ opening which }
 {
     match which {
-        Which::Left => put_all(out, 0, b"left refused "),
-        Which::Right => put_all(out, 0, b"right refused "),
-        Which::Only => put_all(out, 0, b"refused "),
+        Which::Left => b"left refused ",
+        Which::Right => b"right refused ",
+        Which::Only => b"refused ",
     }
 }
 
-fn put_first(out: &mut [u8], which: Which, v: Verdict, position: usize) -> usize
-    ensures { Written (page out.old 0) (first_line which v position) (page out.new result) }
+fn put_first(out: &mut Writer<'_>, which: Which, refusal: Refusal, position: usize)
+    ensures { Puts out.old (first_line which (Err refusal) position) out.new }
 {
-    let a = put_opening(out, which);
-    let b = put_decimal(out, a, number(&v) as u64);
-    let c = put_labelled(out, b, b" ", index(&v) as u64);
-    let d = put_labelled(out, c, b" ", position as u64);
-    put(out, d, b'\n')
+    out.put_all(opening(which));
+    out.put_decimal(refusal.number() as u64);
+    put_labelled(out, b" ", refusal.index() as u64);
+    put_labelled(out, b" ", position as u64);
+    out.put(b'\n');
 }
 
-fn put_gate_end(out: &mut [u8], at: usize, gate: &[u32]) -> usize
-    ensures { Written (page out.old at) (gate_end gate.now) (page out.new result) }
+fn put_gate_end(out: &mut Writer<'_>, gate: &[u32])
+    ensures { Puts out.old (gate_end gate.now) out.new }
 {
     if gate.len() == 0 {
-        return put(out, at, b'\n');
+        out.put(b'\n');
+    } else {
+        out.put_all(b": ");
+        put_gates(out, gate);
     }
-    let a = put_all(out, at, b": ");
-    put_gates(out, a, gate)
 }
 
-fn put_place(out: &mut [u8], at: usize, line: usize, column: usize, gate: &[u32]) -> usize
-    ensures { Written (page out.old at) (place_text line column gate.now) (page out.new result) }
+fn put_place(out: &mut Writer<'_>, line: usize, column: usize, gate: &[u32])
+    ensures { Puts out.old (place_text line column gate.now) out.new }
 {
-    if line == 0 {
-        return at;
+    if line != 0 {
+        put_labelled(out, b"line ", line as u64);
+        put_labelled(out, b", column ", column as u64);
+        put_gate_end(out, gate);
     }
-    let a = put_labelled(out, at, b"line ", line as u64);
-    let b = put_labelled(out, a, b", column ", column as u64);
-    put_gate_end(out, b, gate)
 }
 
-fn put_room(out: &mut [u8], at: usize, gates: usize, room: usize) -> usize
-    ensures { Written (page out.old at) (room_text gates room) (page out.new result) }
+fn put_room(out: &mut Writer<'_>, gates: usize, room: usize)
+    ensures { Puts out.old (room_text gates room) out.new }
 {
-    if gates == 0 {
-        return at;
+    if gates != 0 {
+        out.put_decimal(gates as u64);
+        put_labelled(out, b" gates, and room for ", room as u64);
+        out.put(b'\n');
     }
-    let a = put_decimal(out, at, gates as u64);
-    let b = put_labelled(out, a, b" gates, and room for ", room as u64);
-    put(out, b, b'\n')
 }
 
 // A refusal; `gate` has the words of the gate at fault, if there is one, and `room` says for how many gates room is lent.
-pub fn put_refused(out: &mut [u8], which: Which, r: Fault, gate: &[u32], room: usize) -> usize
-    ensures { Written (page out.old 0) (refused_text which r gate.now room) (page out.new result) }
+pub fn put_refused(out: &mut Writer<'_>, which: Which, r: Fault, gate: &[u32], room: usize)
+    ensures { Puts out.old (refused_text which r gate.now room) out.new }
 {
-    let v = r.verdict;
-    let a = put_first(out, which, v, r.position);
-    let b = put_place(out, a, r.line, r.column, gate);
-    let c = put_room(out, b, r.gates, room);
-    let d = put_reason(out, c, v);
-    put(out, d, b'\n')
+    put_first(out, which, r.refusal, r.position);
+    put_place(out, r.line, r.column, gate);
+    put_room(out, r.gates, room);
+    put_reason(out, Err(r.refusal));
+    out.put(b'\n');
 }

@@ -17,16 +17,12 @@ use Rattle.algebra.specs.Lists.{concat_map, filter_by, total}
 use Rattle.algebra.proofs.Signed.{is_neg, not_neg}
 use Rattle.exact.specs.Exact.{Number, number, max_exponent}
 use Rattle.text.specs.Decimal.{decimal}
-use Rattle.text.specs.Page.{Page}
-use Rattle.text.specs.Inner.Written.{Written}
+use Rattle.text.specs.declared.page.Writer.{Writer}
+use Rattle.text.specs.Inner.Puts.{Puts}
 use Rattle.text.proofs.Put.{text}
 use Rattle.answers.specs.Numbers.{Term, term, is_zero, terms, sign, sized, term_text, is_sum, sum_text, numerator, denominator, number_text}
 use Rattle.answers.specs.Inner.Sums.{shown, count_of}
 use Rattle.answers.proofs.Bits.{power}
-
--- ---- words read back
-pub read4 : {w x y z : ℤ} → SFits w64 w → SFits w64 x → SFits w64 y → SFits w64 z → number (to_z w64 (of_z w64 w)) (to_z w64 (of_z w64 x)) (to_z w64 (of_z w64 y)) (to_z w64 (of_z w64 z)) ≡ number w x y z
-read4 e f g h = λ i. number (to_z-of_z e i) (to_z-of_z f i) (to_z-of_z g i) (to_z-of_z h i)
 
 -- ---- signs
 below : (f : Bool) (m n : ℕ) → sign f (negsuc m) ≡ sign f (negsuc n)
@@ -58,14 +54,14 @@ shown_is first z unit s e =
 pub read-absent : {b : Bool} {z : ℤ} → SFits w64 z → b ≡ is_zero (to_z w64 (of_z w64 z)) → b ≡ is_zero z
 read-absent s e = e ∙ ap is_zero (to_z-of_z s)
 
-pub read-term : (first : Bool) (unit : List ℕ) {z : ℤ} {p q : Page} → SFits w64 z → Written p (shown first (record { coefficient = to_z w64 (of_z w64 z); unit = unit })) q
-    → Written p (shown first (record { coefficient = z; unit = unit })) q
+pub read-term : (first : Bool) (unit : List ℕ) {z : ℤ} {p q : Writer} → SFits w64 z → Puts p (shown first (record { coefficient = to_z w64 (of_z w64 z); unit = unit })) q
+    → Puts p (shown first (record { coefficient = z; unit = unit })) q
 read-term first unit s w = text (ap (λ (y : ℤ). shown first (record { coefficient = y; unit = unit })) (to_z-of_z s)) w
 
 -- ---- fractions
-pub numerator_is : {y z : Number} {b : Bool} → y ≡ z → is_sum (terms y) ≡ b → cond b (40 ∷ [] ++ sum_text (terms y) ++ 41 ∷ []) (sum_text (terms y)) ≡ numerator (terms z)
+pub numerator_is : (z : Number) {b : Bool} → is_sum (terms z) ≡ b → cond b (40 ∷ [] ++ sum_text (terms z) ++ 41 ∷ []) (sum_text (terms z)) ≡ numerator (terms z)
 unfolding numerator
-numerator_is {y} e f = ap (λ (b : Bool). cond b (40 ∷ [] ++ sum_text (terms y) ++ 41 ∷ []) (sum_text (terms y))) (sym f) ∙ ap (λ (z : Number). numerator (terms z)) e
+numerator_is z f = ap (λ (b : Bool). cond b (40 ∷ [] ++ sum_text (terms z) ++ 41 ∷ []) (sum_text (terms z))) (sym f)
 
 pub denominator-small : (e : ℕ) → e ≤ max_exponent → 47 ∷ decimal (1 * 2 ^ e % 2 ^ 64) ≡ denominator e
 unfolding denominator
@@ -77,17 +73,17 @@ pub denominator_large : (e : ℕ) → max_exponent < e → 47 ∷ 50 ∷ 94 ∷ 
 unfolding denominator
 denominator_large e h = ap (λ (b : Bool). cond b (47 ∷ decimal (2 ^ e)) (47 ∷ 50 ∷ 94 ∷ decimal e)) (sym (lt-leb e max_exponent h))
 
-module _ {y z : Number} (e : ℕ) (p : y ≡ z) where
+module _ (z : Number) (e : ℕ) where
   abbrev by : Bool → List ℕ
   by b = cond b (sum_text (terms z)) (numerator (terms z) ++ denominator e)
 
-  pub fraction_whole : e ≡ 0 → sum_text (terms y) ≡ number_text (frac z e)
+  pub fraction_whole : e ≡ 0 → sum_text (terms z) ≡ number_text (frac z e)
   unfolding number_text
-  fraction_whole q = ap (λ (z : Number). sum_text (terms z)) p ∙ ap by (sym (eq-eqb e 0 q))
+  fraction_whole q = ap by (sym (eq-eqb e 0 q))
 
-  pub fraction_parts : (e ≡ 0 → ⊥) → numerator (terms y) ++ denominator e ≡ number_text (frac z e)
+  pub fraction_parts : (e ≡ 0 → ⊥) → numerator (terms z) ++ denominator e ≡ number_text (frac z e)
   unfolding number_text
-  fraction_parts q = ap (λ (z : Number). numerator (terms z) ++ denominator e) p ∙ ap by (sym (ne_eqb e 0 q))
+  fraction_parts q = ap by (sym (ne_eqb e 0 q))
 
 -- ---- sums
 abbrev absent : Term → Bool
@@ -137,13 +133,6 @@ none-shown (t ∷ ts) e = by (absent t) e (none-shown ts)
     by false e r = absurd (true≢false (sym e ∙ no_more ts))
 
 -- how many are there
-pub count-few : (z : ℤ) → count_of (to_z w64 (of_z w64 z)) ≤ 1
-count-few z = by (is_zero (to_z w64 (of_z w64 z)))
-  where
-    by : (b : Bool) → cond b 0 1 ≤ 1
-    by true = omega arith
-    by false = omega arith
-
 counted : (ts : List Term) → length (present ts) ≡ total (λ (t : Term). count_of t.coefficient) ts
 counted [] = refl
 counted (t ∷ ts) = by (absent t) (counted ts)

@@ -1,16 +1,14 @@
 // Exact numbers as mathematics writes them: (1 − 2√2 + i − 5i√2)/16. The minus sign is U+2212 and the root U+221A, three bytes each.
-ghost use Rattle.std.specs.Prelude.{◌≡◌};
-ghost use Rattle.algebra.specs.Dyadic.{frac};
-ghost use Rattle.exact.specs.Exact.{number};
+ghost use Rattle.std.specs.Prelude.{◌≡◌, ◌≤◌};
+ghost use Rattle.exact.specs.Exact.{number_of};
 ghost use Rattle.scalar.specs.Calls.{value};
-ghost use Rattle.text.specs.Page.{page};
-ghost use Rattle.text.specs.Inner.Written.{Written};
+ghost use Rattle.text.specs.Inner.Puts.{Puts};
 ghost use Rattle.answers.specs.Numbers.{is_zero, sign, sized, terms, is_sum, sum_text, numerator, denominator, number_text};
 ghost use Rattle.answers.specs.Inner.Sums.{shown, count_of};
 
 use exact::MAX_EXPONENT;
 use scalar::Scalar;
-use text::page::{put, put_all, put_decimal};
+use text::page::Writer;
 
 // A term that is left out.
 fn is_absent(z: i64) -> bool
@@ -19,110 +17,108 @@ fn is_absent(z: i64) -> bool
     z == 0
 }
 
-fn put_sign(out: &mut [u8], at: usize, first: bool, z: i64) -> usize
-    ensures { Written (page out.old at) (sign first z) (page out.new result) }
+fn put_sign(out: &mut Writer<'_>, first: bool, z: i64)
+    ensures { Puts out.old (sign first z) out.new }
 {
     if first {
         if z < 0 {
-            return put_all(out, at, b"\xe2\x88\x92");
+            out.put_all(b"\xe2\x88\x92");
         }
-        return at;
+    } else if z < 0 {
+        out.put_all(b" \xe2\x88\x92 ");
+    } else {
+        out.put_all(b" + ");
     }
-    if z < 0 {
-        return put_all(out, at, b" \xe2\x88\x92 ");
-    }
-    put_all(out, at, b" + ")
 }
 
-fn put_sized(out: &mut [u8], at: usize, n: u64, unit: &[u8]) -> usize
-    ensures { Written (page out.old at) (sized n unit.now) (page out.new result) }
+fn put_sized(out: &mut Writer<'_>, n: u64, unit: &[u8])
+    ensures { Puts out.old (sized n unit.now) out.new }
 {
     if (n == 1) & (0 < unit.len()) {
-        return put_all(out, at, unit);
+        out.put_all(unit);
+    } else {
+        out.put_decimal(n);
+        out.put_all(unit);
     }
-    let a = put_decimal(out, at, n);
-    put_all(out, a, unit)
 }
 
 // A term, behind others or the first; nothing for zero.
-fn put_term(out: &mut [u8], at: usize, first: bool, z: i64, unit: &[u8]) -> usize
-    ensures { Written (page out.old at) (shown first (record { coefficient = z; unit = unit.now })) (page out.new result) }
+fn put_term(out: &mut Writer<'_>, first: bool, z: i64, unit: &[u8])
+    ensures { Puts out.old (shown first (record { coefficient = z; unit = unit.now })) out.new }
 {
-    if is_absent(z) {
-        return at;
+    if !is_absent(z) {
+        put_sign(out, first, z);
+        put_sized(out, z.unsigned_abs(), unit);
     }
-    let a = put_sign(out, at, first, z);
-    put_sized(out, a, z.unsigned_abs(), unit)
 }
 
 // The terms that are not zero, or 0 where there are none.
-fn put_sum(out: &mut [u8], at: usize, w: i64, x: i64, y: i64, z: i64) -> usize
-    ensures { Written (page out.old at) (sum_text (terms (number w x y z))) (page out.new result) }
+fn put_sum(out: &mut Writer<'_>, n: [i64; 4])
+    ensures { Puts out.old (sum_text (terms (number_of n))) out.new }
 {
+    let [w, x, y, z] = n;
     let f = is_absent(w);
     let g = f & is_absent(x);
     let h = g & is_absent(y);
     if h & is_absent(z) {
-        return put(out, at, b'0');
+        out.put(b'0');
+    } else {
+        put_term(out, true, w, b"");
+        put_term(out, f, x, b"\xe2\x88\x9a2");
+        put_term(out, g, y, b"i");
+        put_term(out, h, z, b"i\xe2\x88\x9a2");
     }
-    let a = put_term(out, at, true, w, b"");
-    let b = put_term(out, a, f, x, b"\xe2\x88\x9a2");
-    let c = put_term(out, b, g, y, b"i");
-    put_term(out, c, h, z, b"i\xe2\x88\x9a2")
 }
 
 // 1 for a term that is there.
 fn count_of(z: i64) -> u32
-    ensures { result ≡ count_of z }
+    ensures value { result ≡ count_of z }
+    ensures few { result ≤ 1 }
 {
     if is_absent(z) { 0 } else { 1 }
 }
 
 // Whether two terms or more are there.
-fn is_sum(w: i64, x: i64, y: i64, z: i64) -> bool
-    ensures { result ≡ is_sum (terms (number w x y z)) }
+fn is_sum(n: [i64; 4]) -> bool
+    ensures { result ≡ is_sum (terms (number_of n)) }
 {
+    let [w, x, y, z] = n;
     1 < count_of(w) + count_of(x) + count_of(y) + count_of(z)
 }
 
 // A sum stands in brackets before a denominator.
-fn put_numerator(out: &mut [u8], at: usize, w: i64, x: i64, y: i64, z: i64) -> usize
-    ensures { Written (page out.old at) (numerator (terms (number w x y z))) (page out.new result) }
+fn put_numerator(out: &mut Writer<'_>, n: [i64; 4])
+    ensures { Puts out.old (numerator (terms (number_of n))) out.new }
 {
-    if is_sum(w, x, y, z) {
-        let a = put(out, at, b'(');
-        let b = put_sum(out, a, w, x, y, z);
-        return put(out, b, b')');
+    if is_sum(n) {
+        out.put(b'(');
+        put_sum(out, n);
+        out.put(b')');
+    } else {
+        put_sum(out, n);
     }
-    put_sum(out, at, w, x, y, z)
 }
 
-fn put_denominator(out: &mut [u8], at: usize, e: u32) -> usize
-    ensures { Written (page out.old at) (denominator e) (page out.new result) }
+fn put_denominator(out: &mut Writer<'_>, e: u32)
+    ensures { Puts out.old (denominator e) out.new }
 {
     if e <= MAX_EXPONENT {
-        let a = put(out, at, b'/');
-        return put_decimal(out, a, 1u64 << e);
+        out.put(b'/');
+        out.put_decimal(1u64 << e);
+    } else {
+        out.put_all(b"/2^");
+        out.put_decimal(e as u64);
     }
-    let b = put_all(out, at, b"/2^");
-    put_decimal(out, b, e as u64)
-}
-
-fn put_fraction(out: &mut [u8], at: usize, w: i64, x: i64, y: i64, z: i64, e: u32) -> usize
-    ensures { Written (page out.old at) (number_text (frac (number w x y z) e)) (page out.new result) }
-{
-    if e == 0 {
-        return put_sum(out, at, w, x, y, z);
-    }
-    let a = put_numerator(out, at, w, x, y, z);
-    put_denominator(out, a, e)
 }
 
 // Puts a number as it stands: what is not in lowest form is not brought to it.
-pub fn put_number(out: &mut [u8], at: usize, x: Scalar) -> usize
-    ensures { Written (page out.old at) (number_text (value x)) (page out.new result) }
+pub fn put_number(out: &mut Writer<'_>, x: Scalar)
+    ensures { Puts out.old (number_text (value x)) out.new }
 {
-    let n = x.n;
-    let e = x.e;
-    put_fraction(out, at, n[0], n[1], n[2], n[3], e)
+    if x.e == 0 {
+        put_sum(out, x.n);
+    } else {
+        put_numerator(out, x.n);
+        put_denominator(out, x.e);
+    }
 }

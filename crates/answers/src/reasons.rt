@@ -1,10 +1,9 @@
 // Refusals in words: what is wrong, and what to do.
 ghost use Rattle.std.specs.Prelude.{◌≡◌, Err};
-ghost use Rattle.text.specs.Page.{page};
-ghost use Rattle.text.specs.Inner.Written.{Written};
+ghost use Rattle.text.specs.Inner.Puts.{Puts};
 ghost use Rattle.answers.specs.Reasons.{reason};
 
-use text::page::put_all;
+use text::page::Writer;
 use verdict::{Refusal, Verdict};
 
 fn sentence(refusal: Refusal) -> &'static [u8]
@@ -61,11 +60,11 @@ fn sentence(refusal: Refusal) -> &'static [u8]
 }
 
 // Puts the sentence of a verdict.
-pub fn put_reason(out: &mut [u8], at: usize, v: Verdict) -> usize
-    ensures { Written (page out.old at) (reason v) (page out.new result) }
+pub fn put_reason(out: &mut Writer<'_>, v: Verdict)
+    ensures { Puts out.old (reason v) out.new }
 {
     match v {
-        Ok(()) => put_all(out, at, b"The circuit is accepted."),
-        Err(refusal) => put_all(out, at, sentence(refusal)),
+        Ok(()) => out.put_all(b"The circuit is accepted."),
+        Err(refusal) => out.put_all(sentence(refusal)),
     }
 }

@@ -1,4 +1,5 @@
 // The calls of the C interface on texts of OpenQASM 2.
+// Kept (together): the parameters are those of the C interface.
 #![tactic(auto)]
 
 ghost use Rattle.std.specs.Prelude.{◌≡◌};

@@ -1,7 +1,7 @@
 -- What the calls on texts reply and write: a number for the answer, and six numbers behind it.
 use Rattle.std.specs.Prelude.{List, [], ◌∷◌, ◌++◌, ℕ, Option, None, Result, Ok, Err, ⊤}
 use Rattle.verdict.specs.declared.Refusal.TheVariants.{ShortBuffer}
-use Rattle.verdict.specs.Verdict.{refusal_number, verdict_number, verdict_index}
+use Rattle.verdict.specs.Verdict.{refusal_number, refusal_index}
 use Rattle.channel.specs.declared.compare.Difference.{Difference}
 use Rattle.answer_lines.specs.declared.Fault.{Fault}
 use Rattle.judge_texts.specs.declared.Answer.{Answer}
@@ -28,7 +28,7 @@ abbrev pub zeros : List ℕ
 zeros = 0 ∷ 0 ∷ 0 ∷ []
 
 abbrev pub fault_numbers : Fault → List ℕ
-fault_numbers f = verdict_number f.verdict ∷ verdict_index f.verdict ∷ f.position ∷ f.line ∷ f.column ∷ f.gates ∷ []
+fault_numbers f = refusal_number f.refusal ∷ refusal_index f.refusal ∷ f.position ∷ f.line ∷ f.column ∷ f.gates ∷ []
 
 abbrev pub answer_numbers : Answer → List ℕ
 answer_numbers NoRoom = zeros ++ zeros
@@ -39,7 +39,7 @@ answer_numbers (Compared c) = place_words (difference c) ++ zeros
 -- ---- one text
 abbrev pub reply_number : Result ⊤ Fault → ℕ
 reply_number (Ok x) = 0
-reply_number (Err f) = verdict_number f.verdict
+reply_number (Err f) = refusal_number f.refusal
 
 abbrev pub reply_numbers : Result ⊤ Fault → List ℕ
 reply_numbers (Ok x) = zeros ++ zeros

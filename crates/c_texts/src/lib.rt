@@ -1,4 +1,5 @@
 // The calls of the C interface on what texts say, and on the words of an answer.
+// Kept (together): the parameters are those of the C interface.
 #![tactic(auto)]
 
 ghost use Rattle.std.specs.Prelude.{◌≡◌};
@@ -22,7 +23,7 @@ use c_words::replies::{LEFT_REFUSED, RIGHT_REFUSED};
 use cells::CELL;
 use channel::compare::Difference;
 use judge_texts::Answer;
-use verdict::{index, number};
+use text::page::Writer;
 
 // The number of the refusal of a room that is too small.
 const SHORT: u32 = 8;
@@ -48,13 +49,13 @@ fn entry_of(a: Answer) -> Option<Difference>
     }
 }
 
-// The number and index of the verdict, the byte's position, line and column, and how many gates there are.
+// The number and index of the refusal, the byte's position, line and column, and how many gates there are.
 fn fault_numbers(f: Fault) -> [u64; 6]
     ensures { result ≡ fault_numbers f }
 {
     [
-        number(&f.verdict) as u64,
-        index(&f.verdict) as u64,
+        f.refusal.number() as u64,
+        f.refusal.index() as u64,
         f.position as u64,
         f.line as u64,
         f.column as u64,
@@ -147,7 +148,7 @@ pub fn text_channel(
         Err(refused) => {
             *bytes = refused.bytes;
             *numbers = fault_numbers(refused.fault);
-            number(&refused.fault.verdict)
+            refused.fault.refusal.number()
         }
     }
 }
@@ -156,19 +157,25 @@ pub fn text_channel(
 pub fn number_text(x: &[i64; CELL], out: &mut [u8]) -> usize
     ensures { page out.new result ≡ write (page out.old 0) (number_text (operand x.now)) }
 {
-    put_number(out, 0, read_operand(x))
+    let mut w = Writer::new(out);
+    put_number(&mut w, read_operand(x));
+    w.at
 }
 
 // Row and column of a Choi block on so many qubits, as the input and the output that they mean.
 pub fn entry_text(qubits: u32, row: usize, column: usize, out: &mut [u8]) -> usize
     ensures { page out.new result ≡ write (page out.old 0) (entry_text qubits row column) }
 {
-    put_bra_ket(out, 0, qubits, row, column)
+    let mut w = Writer::new(out);
+    put_bra_ket(&mut w, qubits, row, column);
+    w.at
 }
 
 // The bits of a store from bit 0 on.
 pub fn store_text(store: u64, bits: u32, out: &mut [u8]) -> usize
     ensures { page out.new result ≡ write (page out.old 0) (store_bits bits store) }
 {
-    put_store(out, 0, store, bits)
+    let mut w = Writer::new(out);
+    put_store(&mut w, store, bits);
+    w.at
 }

@@ -1,6 +1,6 @@
 -- Which numbers and which texts are an input, and what is seen of one from the left.
 use mathlib.Core.Path.{◌≡◌, refl, sym, ap, ◌∙◌}
-use mathlib.Core.Bool.{Bool, true, false, cond, ◌&&◌, ◌||◌}
+use mathlib.Core.Bool.{Bool, true, false, cond, ◌&&◌, ◌||◌, true≢false}
 use mathlib.Core.List.{List}
 use Prim.Native.Nat.{ℕ, suc, ◌+◌, ◌-◌, ◌<◌, ◌≤◌}
 use native.Mathlib.Decide.{dec_lt}
@@ -9,16 +9,16 @@ use native.Mathlib.Omega.{arith}
 use lib.Dec.{eqb, leb, ltb}
 use lib.ListN.{length, get_or, take, drop, set, length-set, length-map}
 use lib.Seq.{sets, sets-eq, length-sets, take_at, drop-cons}
-use borrow.Author.Tests.{leb-true, eqb-true, eqb-false, eq-eqb, ne_eqb, le-leb, lt-leb, lt-ltb, le-ltb}
+use borrow.Author.Tests.{leb-true, eqb-true, eqb-false, ne_eqb, le-leb, lt-leb, lt-ltb, le-ltb}
 use Rattle.algebra.specs.Lists.{every}
-use Rattle.algebra.proofs.Tests.{and_split, and_no, or_right}
+use Rattle.algebra.proofs.Tests.{and_split, and_no, or_right, all-at}
 use Rattle.std.specs.Prelude.{Option, Some, None}
 use Rattle.circuit_text.specs.declared.input.Circuit.{Circuit}
 use Rattle.circuit_text.specs.declared.input.Seen.{Seen}
 use Rattle.text.specs.Decimal.{value, is_number}
 use Rattle.circuit_text.specs.Text.{max_bytes, body_length, body, pieces}
 use Rattle.circuit_text.specs.Input.{max_bits, max_gates, number_count, max_byte, bits_in, gates_in, store_in, circuit_in, bytes, is_input, numbers_of, is_input_text, input_of}
-use Rattle.circuit_text.specs.Inner.Reading.{filled, stored, max_numbers, none_seen, seen_with, seen_ok, seen_input, input_in}
+use Rattle.circuit_text.specs.Inner.Reading.{filled, stored, max_numbers, none_seen, seen_next, fits_store, seen_ok, seen_input, input_in}
 
 -- what holds of the numbers of an input
 pub record Right (ns : List ℕ) : Type 0 where
@@ -41,10 +41,6 @@ module _ (ns : List ℕ) where
         store = v.1;
       }
 
-  pub is_input_lem : Right ns → is_input ns ≡ true
-  unfolding is_input
-  is_input_lem r = λ i. (le-leb (bits_in ns) max_bits r.bits i && le-leb (gates_in ns) max_gates r.gates i) && (eq-eqb (length ns) (number_count (bits_in ns) (gates_in ns)) r.size i && r.store i)
-
   pub not_input : (Right ns → ⊥) → is_input ns ≡ false
   not_input f = by (is_input ns) refl
     where
@@ -62,14 +58,10 @@ pub record Seeing (ns : List ℕ) (s : Seen) : Type 0 where
   pub qubits : 0 < s.count → s.qubits ≡ get_or ns 0 0
   pub bits : 1 < s.count → s.bits ≡ bits_in ns
   pub gates : 2 + s.bits < s.count → s.gates ≡ get_or ns (2 + s.bits) 0
-  pub store : s.bytes ≡ bytes ns (s.count - 2 - (s.count - 2 - s.bits))
+  pub store : bytes ns (s.count - 2 - (s.count - 2 - s.bits)) ≡ true
 
 pub seeing_none : (ns : List ℕ) → Seeing ns none_seen
 seeing_none ns = record { qubits = λ h. absurd (omega arith); bits = λ h. absurd (omega arith); gates = λ h. absurd (omega arith); store = refl }
-
-and_yes : (a b : Bool) → b ≡ true → (a && b) ≡ a
-and_yes true b e = e
-and_yes false b e = refl
 
 module _ (ns : List ℕ) (s : Seen) (g : Seeing ns s) where
   abbrev i : ℕ
@@ -79,7 +71,7 @@ module _ (ns : List ℕ) (s : Seen) (g : Seeing ns s) where
   v = get_or ns i 0
 
   abbrev next : Seen
-  next = seen_with s v
+  next = seen_next s v
 
   -- the bit count stands once two numbers are seen
   bits-kept : (i ≡ 1 → ⊥) → next.bits ≡ s.bits
@@ -109,28 +101,39 @@ module _ (ns : List ℕ) (s : Seen) (g : Seeing ns s) where
       go true e = ap (λ (k : ℕ). get_or ns k 0) (eqb-true i (2 + s.bits) e)
       go false e = let d = eqb-false i (2 + s.bits) e in g.gates (omega (arith, same))
 
-  store-more : next.bytes ≡ bytes ns (seen_bits (i + 1) next.bits)
-  store-more = go (dec_lt i 2) (dec_lt i (2 + s.bits))
+  module _ (f : fits_store s v ≡ true) where
+    store-more : bytes ns (seen_bits (i + 1) next.bits) ≡ true
+    store-more = go (dec_lt i 2) (dec_lt i (2 + s.bits))
+      where
+        -- no number of the store
+        past : seen_bits i s.bits ≡ seen_bits (i + 1) next.bits → bytes ns (seen_bits (i + 1) next.bits) ≡ true
+        past e = ap (bytes ns) (sym e) ∙ g.store
+
+        go : Dec (i < 2) → Dec (i < 2 + s.bits) → bytes ns (seen_bits (i + 1) next.bits) ≡ true
+        go (yes h) d = past (omega arith)
+        go (no h) (no l) = let same = bits-kept (λ e. omega arith) in past (omega (arith, same))
+        go (no h) (yes l) =
+            let same = bits-kept (λ e. omega arith) in
+            let here : seen_bits i s.bits ≡ i - 2 = omega arith in
+            let there : suc (i - 2) ≡ seen_bits (i + 1) next.bits = omega (arith, same) in
+            let place : i ≡ 2 + (i - 2) = omega arith in
+            let byte : leb v max_byte ≡ true = sym (λ k. le-ltb i 2 (omega arith) k || (lt-leb (2 + s.bits) i l k || leb v max_byte)) ∙ f in
+            ap (bytes ns) (sym there) ∙ (λ k. (ap (bytes ns) (sym here) ∙ g.store) k && (ap (λ (j : ℕ). leb (get_or ns j 0) max_byte) (sym place) ∙ byte) k)
+
+    pub seeing_more : Seeing ns next
+    seeing_more = record { qubits = qubits-more; bits = bits-more; gates = gates-more; store = store-more }
+
+  -- a number of the store that is no byte
+  pub seeing_bad : fits_store s v ≡ false → is_input ns ≡ false
+  seeing_bad f = go (dec_lt i 2) (dec_lt i (2 + s.bits))
     where
-      -- no number of the store
-      past : (ltb i 2 || (leb (2 + s.bits) i || leb v max_byte)) ≡ true → seen_bits i s.bits ≡ seen_bits (i + 1) next.bits → next.bytes ≡ bytes ns (seen_bits (i + 1) next.bits)
-      past e f = and_yes s.bytes _ e ∙ g.store ∙ ap (bytes ns) f
-
-      go : Dec (i < 2) → Dec (i < 2 + s.bits) → next.bytes ≡ bytes ns (seen_bits (i + 1) next.bits)
-      go (yes h) d = past (ap (λ (c : Bool). c || (leb (2 + s.bits) i || leb v max_byte)) (lt-ltb i 2 h)) (omega arith)
-      go (no h) (no l) =
-          let same = bits-kept (λ e. omega arith) in
-          past (or_right (ltb i 2) _ (ap (λ (c : Bool). c || leb v max_byte) (le-leb (2 + s.bits) i (omega arith)))) (omega (arith, same))
-      go (no h) (yes l) =
-          let same = bits-kept (λ e. omega arith) in
-          let here : seen_bits i s.bits ≡ i - 2 = omega arith in
-          let there : suc (i - 2) ≡ seen_bits (i + 1) next.bits = omega (arith, same) in
+      go : Dec (i < 2) → Dec (i < 2 + s.bits) → is_input ns ≡ false
+      go (yes h) d = absurd (true≢false (sym (ap (λ (c : Bool). c || (leb (2 + s.bits) i || leb v max_byte)) (lt-ltb i 2 h)) ∙ f))
+      go (no h) (no l) = absurd (true≢false (sym (or_right (ltb i 2) _ (ap (λ (c : Bool). c || leb v max_byte) (le-leb (2 + s.bits) i (omega arith)))) ∙ f))
+      go (no h) (yes l) = not_input ns (λ r.
           let place : i ≡ 2 + (i - 2) = omega arith in
-          (λ k. (g.store ∙ ap (bytes ns) here) k && (le-ltb i 2 (omega arith) k || (lt-leb (2 + s.bits) i l k || leb (get_or ns (place k) 0) max_byte)))
-          ∙ ap (bytes ns) there
-
-  pub seeing_more : Seeing ns (seen_with s (get_or ns s.count 0))
-  seeing_more = record { qubits = qubits-more; bits = bits-more; gates = gates-more; store = store-more }
+          let byte = all-at (bits_in ns) (λ (k : ℕ). leb (get_or ns (2 + k) 0) max_byte) r.store (i - 2) (omega (arith, g.bits (omega arith))) in
+          true≢false (sym (or_right (ltb i 2) _ (or_right (leb (2 + s.bits) i) _ (ap (λ (j : ℕ). leb (get_or ns j 0) max_byte) place ∙ byte))) ∙ f))
 
   -- all numbers are seen
   module _ (n : s.count ≡ length ns) where
@@ -142,13 +145,18 @@ module _ (ns : List ℕ) (s : Seen) (g : Seeing ns s) where
       same-gates : s.gates ≡ gates_in ns
       same-gates = g.gates h ∙ ap (λ (m : ℕ). get_or ns (2 + m) 0) same_bits_lem
 
-      same_store : s.bytes ≡ bytes ns (bits_in ns)
-      same_store = let e : seen_bits i s.bits ≡ s.bits = omega arith in g.store ∙ ap (bytes ns) (e ∙ same_bits_lem)
+      same_store : true ≡ bytes ns (bits_in ns)
+      same_store = let e : seen_bits i s.bits ≡ s.bits = omega arith in sym g.store ∙ ap (bytes ns) (e ∙ same_bits_lem)
 
       same_test : seen_ok s ≡ is_input ns
       unfolding is_input
       same_test =
-          λ k. (leb (same_bits_lem k) max_bits && leb (same-gates k) max_gates) && (eqb (n k) (number_count (same_bits_lem k) (same-gates k)) && same_store k)
+          and_true (eqb i (number_count s.bits s.gates))
+          ∙ (λ k. (leb (same_bits_lem k) max_bits && leb (same-gates k) max_gates) && (eqb (n k) (number_count (same_bits_lem k) (same-gates k)) && same_store k))
+        where
+          and_true : (b : Bool) → ((leb s.bits max_bits && leb s.gates max_gates) && b) ≡ ((leb s.bits max_bits && leb s.gates max_gates) && (b && true))
+          and_true true = refl
+          and_true false = refl
 
       same_circuit : ◌≡◌ {A = Circuit} (record { qubits = s.qubits; bits = s.bits; gates = s.gates }) (circuit_in ns)
       same_circuit = λ k. record { qubits = g.qubits (omega arith) k; bits = same_bits_lem k; gates = same-gates k }
@@ -160,7 +168,7 @@ module _ (ns : List ℕ) (s : Seen) (g : Seeing ns s) where
         go (yes h) = λ k. cond (same_test h k) (Some (same_circuit h k)) None
         go (no h) =
             let short : seen_ok s ≡ false =
-            and_no (leb s.bits max_bits && leb s.gates max_gates) _ (ap (λ (c : Bool). c && s.bytes) (ne_eqb i (number_count s.bits s.gates) (λ e. omega arith))) in
+            and_no (leb s.bits max_bits && leb s.gates max_gates) _ (ne_eqb i (number_count s.bits s.gates) (λ e. omega arith)) in
             let none : is_input ns ≡ false = not_input ns (λ r. omega (arith, r.size, g.bits (omega (arith, r.size)))) in
             ap (λ (c : Bool). cond c (Some (record { qubits = s.qubits; bits = s.bits; gates = s.gates })) None) short
             ∙ ap (λ (c : Bool). cond c (Some (circuit_in ns)) None) (sym none)
@@ -234,9 +242,6 @@ pub record Copied (ns : List ℕ) (m : ℕ) (l₀ l : List ℕ) (i : ℕ) : Type
   pub same : length l ≡ length l₀
 
 module _ (ns : List ℕ) (m : ℕ) (l₀ : List ℕ) where
-  pub copied_none : Copied ns m l₀ l₀ 0
-  copied_none = record { count = omega arith; is = let e : m - 0 ≡ m = omega arith in ap (λ (k : ℕ). sets l₀ 0 (take k (drop 2 ns))) (sym e); same = refl }
-
   module _ (l : List ℕ) {i : ℕ} (g : Copied ns m l₀ l i) where
     pub copied_more : i < m → 2 + m ≤ length ns → Copied ns m l₀ (set l i (get_or ns (2 + i) 0)) (i + 1)
     copied_more h q = record {
@@ -250,6 +255,3 @@ module _ (ns : List ℕ) (m : ℕ) (l₀ : List ℕ) where
           ∙ (λ j. sets (set l i (get_or ns (2 + i) 0)) (sym (add-one i) j) (take (m - (i + 1)) (drop (f j) ns)));
       same = length-set l i (get_or ns (2 + i) 0) ∙ g.same;
     }
-
-    pub copied_all : m ≤ i → l ≡ sets l₀ 0 (take m (drop 2 ns))
-    copied_all h = let e : m - i ≡ 0 = omega arith in sym (g.is ∙ ap (λ (k : ℕ). sets l i (take k (drop (2 + i) ns))) e)

@@ -5,8 +5,9 @@ ghost use Rattle.circuit_text.specs.Text.{max_bytes, pieces};
 ghost use Rattle.circuit_text.specs.Input.{max_bits, bytes, input_of};
 ghost use Rattle.circuit_text.specs.Inner.Reading.{filled, stored, max_numbers, none_seen, seen_with, seen_input, input_in};
 
-use super::numbers::{body_length, next_blank, read_numbers};
+use super::numbers::{body_length, read_numbers};
 use gate::GATE;
+use text::bytes::is_blank;
 use text::number::number_in;
 
 // The most bytes that a text has.
@@ -30,14 +31,13 @@ pub struct Circuit {
     pub gates: usize,
 }
 
-// What the first numbers of an input say, and whether those of its store are bytes.
+// What the first numbers of an input say.
 #[derive(Clone, Copy)]
 struct Seen {
     count: usize,
     qubits: u32,
     bits: u32,
     gates: u32,
-    bytes: bool,
 }
 
 impl Seen {
@@ -49,24 +49,23 @@ impl Seen {
             qubits: 0,
             bits: 0,
             gates: 0,
-            bytes: true,
         }
     }
 
-    // With one more number.
-    fn with(self, v: u32) -> Seen
+    // With one more number, if it is no number of the store or a byte.
+    fn with(self, v: u32) -> Option<Seen>
         requires { self.count ≤ max_bytes }
         ensures { result ≡ seen_with self v }
     {
         let i = self.count;
         let end = 2 + self.bits as usize;
-        Seen {
+        let is_right = i < 2 || end <= i || v <= MAX_BYTE;
+        is_right.then_some(Seen {
             count: i + 1,
             qubits: if i == 0 { v } else { self.qubits },
             bits: if i == 1 { v } else { self.bits },
             gates: if i == end { v } else { self.gates },
-            bytes: self.bytes && (i < 2 || end <= i || v <= MAX_BYTE),
-        }
+        })
     }
 
     // The circuit that all numbers say.
@@ -75,10 +74,7 @@ impl Seen {
     {
         let m = self.bits as usize;
         let g = self.gates as usize;
-        let is_right = m <= MAX_BITS
-            && g <= MAX_GATES
-            && self.count == 3 + m + GATE * g
-            && self.bytes;
+        let is_right = m <= MAX_BITS && g <= MAX_GATES && self.count == 3 + m + GATE * g;
         is_right.then_some(Circuit {
             qubits: self.qubits,
             bits: self.bits,
@@ -92,14 +88,10 @@ fn judge(text: &[u8]) -> Option<Circuit>
     requires { length text.now ≤ max_bytes }
     ensures { result ≡ input_in (pieces text.now) }
 {
-    let mut at = 0;
     let mut seen = Seen::none();
-    // Kept: a piece's end is found in the text, so that no `for` is plainer.
-    while at <= text.len() {
-        let e = next_blank(text, at);
-        let number = number_in(&text[at..e])?;
-        seen = seen.with(number);
-        at = e + 1;
+    for piece in text.split(|&b| is_blank(b)) {
+        let number = number_in(piece)?;
+        seen = seen.with(number)?;
     }
     seen.circuit()
 }

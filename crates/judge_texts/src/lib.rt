@@ -1,10 +1,11 @@
 // Two texts of OpenQASM 2 in, one answer out: whether their circuits do the same, from the first byte read to the last byte answered.
+// Kept (together): the lent buffers. In one struct they would be lent anew for each text, and each contract would say of each buffer that it is the same one, beside what it holds.
 #![tactic(auto)]
 
 ghost use Rattle.std.specs.Prelude.{◌≡◌};
 ghost use Rattle.qasm.specs.Reading.{read_of, filled};
 ghost use Rattle.text.specs.Page.{page, write};
-ghost use Rattle.text.specs.Inner.Written.{Written};
+ghost use Rattle.text.specs.Inner.Puts.{Puts};
 ghost use Rattle.text_sides.specs.Sides.{result_by, work_by};
 ghost use Rattle.judge_texts.specs.Call.{compared_text, answer_of, text_of, gates_after, first_after, second_after, work_after_both};
 ghost use Rattle.judge_texts.specs.Inner.Behind.{judged_behind, text_behind};
@@ -13,6 +14,7 @@ use answer_lines::{Fault, Which, put_different, put_dimensions, put_same};
 use channel::compare::{Comparison, compare};
 use circuit::limits::Limits;
 use qasm::reader::Reading;
+use text::page::Writer;
 use text_channel::MAX_ANSWER;
 use text_channel::refusals::refuse;
 use text_sides::run_side;
@@ -35,13 +37,8 @@ pub struct Judgement {
 }
 
 // Puts the answer of a comparison of the channels of two circuits.
-fn put_compared(
-    out: &mut [u8],
-    l: Reading,
-    r: Reading,
-    answer: Result<Comparison, Refusal>,
-) -> usize
-    ensures { Written (page out.old 0) (compared_text l r answer) (page out.new result) }
+fn put_compared(out: &mut Writer<'_>, l: Reading, r: Reading, answer: Result<Comparison, Refusal>)
+    ensures { Puts out.old (compared_text l r answer) out.new }
 {
     match answer {
         Ok(Comparison::Same) => put_same(out),
@@ -49,7 +46,7 @@ fn put_compared(
         Ok(Comparison::Differs(d)) => put_different(
             out, l.qubits, l.bits, d.place, d.left, d.right,
         ),
-        Err(_) => 0,
+        Err(_) => (),
     }
 }
 
@@ -82,10 +79,11 @@ fn judge_right(
         }
     };
     let found = compare(first, second);
-    let bytes = put_compared(out, l, r, found);
+    let mut w = Writer::new(out);
+    put_compared(&mut w, l, r, found);
     Judgement {
         answer: Answer::Compared(found),
-        bytes,
+        bytes: w.at,
     }
 }
 

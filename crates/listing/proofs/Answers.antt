@@ -7,11 +7,10 @@ use lib.IntN.{ℤ}
 use Rattle.verdict.specs.Questions.{Verdict}
 use Rattle.circuit.specs.declared.limits.Limits.{Limits}
 use Rattle.circuit.specs.Limits.{ceilings}
-use Rattle.verdict.specs.Verdict.{verdict_number, verdict_index}
 use Rattle.judge.specs.Call.{verdict_of, result_after, work_after}
 use Rattle.circuit_text.specs.declared.input.Circuit.{Circuit}
 use Rattle.circuit_text.specs.Input.{bits_in, store_in, words_in, circuit_in, numbers_of, is_input_text}
-use Rattle.listing.specs.Listing.{listing, refusal_line, input_line}
+use Rattle.listing.specs.Listing.{input_line}
 use Rattle.listing.specs.Answer.{lines_for, lines_of, answer_of, result_of, work_of}
 
 -- the lines for what a call answers with the default limits

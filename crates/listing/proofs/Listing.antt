@@ -23,14 +23,14 @@ use Rattle.channel.specs.Layout.{Form, channels, header_size, record_size, word,
 use Rattle.channel.specs.WellFormed.{store_ok, is_dim, header_ok, chained, well_formed_in, well_formed}
 use Rattle.channel.proofs.Words.{dim_range}
 use Rattle.text.specs.Decimal.{decimal}
-use Rattle.text.specs.Page.{Page}
-use Rattle.text.specs.Inner.Written.{Written}
+use Rattle.text.specs.declared.page.Writer.{Writer}
+use Rattle.text.specs.Inner.Puts.{Puts}
 use Rattle.listing.specs.Listing.{newline, spaced, entry_line, entry_lines, listing, listing_of}
 use Rattle.text.proofs.Put.{text}
 
 -- ---- entries
 -- a word, as it is read
-pub spaced-word : {p q : Page} (z : ℤ) → mag z < 2 ^ 63 → Written p (spaced (to_z w64 (of_z w64 z))) q → Written p (spaced z) q
+pub spaced-word : {p q : Writer} (z : ℤ) → mag z < 2 ^ 63 → Puts p (spaced (to_z w64 (of_z w64 z))) q → Puts p (spaced z) q
 spaced-word z h w = text (ap spaced (reads z h)) w
 
 module _ (r c : ℕ) (x : Exact) where
@@ -78,9 +78,5 @@ header l e =
     let v = and_split (is_dim (word l 0)) _ u.0 in
     record { long = leb-true header_size (length l) t.0; dim = (dim_range (word l 0) v.0).0; bits = v.1; count = u.1 }
 
-module _ (l : List ℤ) where
-  pub all_listed : well_formed l ≡ true → listing l ≡ listing_of l
-  all_listed e = ap (λ (t : Bool). cond t (listing l) []) (sym e)
-
-  pub unlisted : well_formed l ≡ false → [] ≡ listing_of l
-  unlisted e = ap (λ (t : Bool). cond t (listing l) []) (sym e)
+pub unlisted : (l : List ℤ) → well_formed l ≡ false → [] ≡ listing_of l
+unlisted l e = ap (λ (t : Bool). cond t (listing l) []) (sym e)

@@ -1,5 +1,5 @@
 -- The listing of a channel, and the line of a refusal.
-use Rattle.std.specs.Prelude.{cond, List, [], ◌∷◌, ◌++◌, ℕ, zero, suc, ◌+◌, ◌*◌, ◌/◌, ◌%◌, ℤ, pos}
+use Rattle.std.specs.Prelude.{cond, List, [], ◌∷◌, ◌++◌, ℕ, zero, suc, ◌*◌, ◌/◌, ◌%◌, ℤ, pos}
 use Rattle.algebra.specs.Lists.{concat_map}
 use Rattle.exact.specs.Exact.{Exact, is_zero}
 use Rattle.cells.specs.Cells.{cell_words}

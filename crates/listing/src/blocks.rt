@@ -1,114 +1,116 @@
 // The lines of a well-formed channel.
+// Kept (facts): the words are a slice that a judge has just found well formed; a struct that says so would ask the same fact of each caller of `put_channel`, where it is built, and serve these three functions alone.
 ghost use Rattle.std.specs.Prelude.{◌≡◌, true, ◌*◌, ◌≤◌};
 ghost use Rattle.algebra.specs.Lists.{concat_map};
 ghost use Rattle.cells.specs.Cells.{cell_words};
 ghost use Rattle.scalar.specs.Calls.{value};
-ghost use Rattle.channel.specs.Layout.{channels, side, entry_at, block_at, dim_at, bits_at, count_at, read_back};
-ghost use Rattle.channel.specs.Inner.Shapes.{Entries};
+ghost use Rattle.channel.specs.Layout.{channels, side, entry_at, block_at, dim_at, read_back};
+ghost use Rattle.channel.specs.Inner.Shapes.{Entries, shape_at};
 ghost use Rattle.channel.specs.WellFormed.{store_ok, well_formed};
-ghost use Rattle.text.specs.Page.{page};
-ghost use Rattle.text.specs.Inner.Written.{Written};
+ghost use Rattle.text.specs.Inner.Puts.{Puts};
 ghost use Rattle.listing.specs.Listing.{spaced, first_line, store_line, entry_line, entry_lines, block_lines, listing};
 
 use super::spaced::{put_natural, put_spaced};
 use answers::states::put_store;
+use channel::Shape;
 use channel::layout::{follow, read_entry, read_store};
 use scalar::Scalar;
-use text::page::{put, put_all, put_decimal};
+use text::page::Writer;
 
-fn put_store_line(out: &mut [u8], at: usize, store: u64, m: u32) -> usize
-    ensures { Written (page out.old at) (store_line m store) (page out.new result) }
+fn put_store_line(out: &mut Writer<'_>, store: u64, m: u32)
+    ensures { Puts out.old (store_line m store) out.new }
 {
-    let a = put_all(out, at, b"store ");
-    let b = put_store(out, a, store, m);
-    put(out, b, b'\n')
+    out.put_all(b"store ");
+    put_store(out, store, m);
+    out.put(b'\n');
 }
 
 // The numerators and the exponent of a scalar, each after a space.
-fn put_scalar(out: &mut [u8], at: usize, x: Scalar) -> usize
-    ensures { Written (page out.old at) (concat_map spaced (cell_words (value x))) (page out.new result) }
+fn put_scalar(out: &mut Writer<'_>, x: Scalar)
+    ensures { Puts out.old (concat_map spaced (cell_words (value x))) out.new }
 {
     let n = x.n;
-    let a = put_spaced(out, at, n[0]);
-    let b = put_spaced(out, a, n[1]);
-    let c = put_spaced(out, b, n[2]);
-    let d = put_spaced(out, c, n[3]);
-    put_natural(out, d, x.e as u64)
+    put_spaced(out, n[0]);
+    put_spaced(out, n[1]);
+    put_spaced(out, n[2]);
+    put_spaced(out, n[3]);
+    put_natural(out, x.e as u64);
 }
 
 // The line of an entry that is not zero.
-fn put_entry(out: &mut [u8], at: usize, x: Scalar, row: usize, column: usize) -> usize
-    ensures { Written (page out.old at) (entry_line row column (value x)) (page out.new result) }
+fn put_entry(out: &mut Writer<'_>, x: Scalar, row: usize, column: usize)
+    ensures { Puts out.old (entry_line row column (value x)) out.new }
 {
-    if x.is_zero() {
-        return at;
+    if !x.is_zero() {
+        out.put_decimal(row as u64);
+        put_natural(out, column as u64);
+        put_scalar(out, x);
+        out.put(b'\n');
     }
-    let a = put_decimal(out, at, row as u64);
-    let b = put_natural(out, a, column as u64);
-    let c = put_scalar(out, b, x);
-    put(out, c, b'\n')
 }
 
+// Kept (buffers): a record is the channel and a place in it, as `layout::read_entry` and the facts of the walk have it; a `channel::records::Block` has the words cut from there on, so that the facts of the walk would be moved to those words for each record.
 // The entries of the record of side w at `place`, rows then columns.
-fn put_entries(out: &mut [u8], at: usize, s: &[i64], place: usize, w: usize) -> usize
+fn put_entries(out: &mut Writer<'_>, s: &[i64], place: usize, w: usize)
     requires { (w ≤ 256) × Entries s.now place (w * w) }
-    ensures { Written (page out.old at) (entry_lines w (w * w) (entry_at (channels (dim_at s.now)) s.now place)) (page out.new result) }
+    ensures { Puts out.old (entry_lines w (w * w) (entry_at (channels (dim_at s.now)) s.now place)) out.new }
 {
-    let mut p = at;
-    let n = w * w;
-    for k in 0..n {
-        let x = read_entry(s, place, k);
-        p = put_entry(out, p, x, k / w, k % w);
+    for k in 0..w * w {
+        put_entry(out, read_entry(s, place, k), k / w, k % w);
     }
-    p
 }
 
 // The block of the record of side w at `place`: its store, then its entries.
-fn put_block(out: &mut [u8], at: usize, s: &[i64], place: usize, w: usize, m: u32) -> usize
+fn put_block(out: &mut Writer<'_>, s: &[i64], place: usize, w: usize, m: u32)
     requires { (w ≤ 256) × ((store_ok s.now place m ≡ true) × Entries s.now place (w * w)) }
-    ensures { Written (page out.old at) (block_lines m w (block_at (channels (dim_at s.now)) s.now place)) (page out.new result) }
+    ensures { Puts out.old (block_lines m w (block_at (channels (dim_at s.now)) s.now place)) out.new }
 {
-    let a = put_store_line(out, at, read_store(s, place), m);
-    put_entries(out, a, s, place, w)
+    put_store_line(out, read_store(s, place), m);
+    put_entries(out, s, place, w);
 }
 
-// The blocks of a well-formed channel, along its chain.
-fn put_blocks(out: &mut [u8], at: usize, s: &[i64], w: usize, m: u32, count: usize) -> usize
-    requires { (well_formed s.now ≡ true) × ((w ≡ side (dim_at s.now)) × ((m ≡ bits_at s.now) × (count ≡ count_at s.now))) }
-    ensures { Written (page out.old at) (concat_map (block_lines m w) (read_back s.now)) (page out.new result) }
-{
-    let mut p = at;
-    let mut place = follow(s, 3);
-    // Kept: the walk follows the chain, and says how many of its records are left; a for is no plainer.
-    let mut left = count;
-    while 0 < left {
-        p = put_block(out, p, s, place, w, m);
-        place = follow(s, place);
-        left -= 1;
-    }
-    p
-}
-
-fn put_first(out: &mut [u8], at: usize, dim: u64, bits: u64, count: u64) -> usize
-    ensures { Written (page out.old at) (first_line dim bits count) (page out.new result) }
-{
-    let a = put_all(out, at, b"dim");
-    let b = put_natural(out, a, dim);
-    let c = put_all(out, b, b" cbits");
-    let d = put_natural(out, c, bits);
-    let e = put_all(out, d, b" blocks");
-    let f = put_natural(out, e, count);
-    put(out, f, b'\n')
-}
-
-// The lines of a channel, from the page's start on.
-pub fn put_channel(out: &mut [u8], s: &[i64]) -> usize
+// The header of a well-formed channel.
+fn read_shape(s: &[i64]) -> Shape
     requires { well_formed s.now ≡ true }
-    ensures { Written (page out.old 0) (listing s.now) (page out.new result) }
+    ensures { result ≡ shape_at s.now }
 {
     let dim = s[0] as usize;
     let bits = s[1] as u32;
     let count = s[2] as usize;
-    let a = put_first(out, 0, dim as u64, bits as u64, count as u64);
-    put_blocks(out, a, s, dim * dim, bits, count)
+    Shape { dim, bits, count }
+}
+
+fn put_first(out: &mut Writer<'_>, shape: Shape)
+    ensures { Puts out.old (first_line shape.dim shape.bits shape.count) out.new }
+{
+    out.put_all(b"dim");
+    put_natural(out, shape.dim as u64);
+    out.put_all(b" cbits");
+    put_natural(out, shape.bits as u64);
+    out.put_all(b" blocks");
+    put_natural(out, shape.count as u64);
+    out.put(b'\n');
+}
+
+// The blocks of a well-formed channel, along its chain.
+fn put_blocks(out: &mut Writer<'_>, s: &[i64], shape: Shape)
+    requires { (well_formed s.now ≡ true) × (shape ≡ shape_at s.now) }
+    ensures { Puts out.old (concat_map (block_lines shape.bits (side shape.dim)) (read_back s.now)) out.new }
+{
+    let w = shape.dim * shape.dim;
+    let mut place = follow(s, 3);
+    for _ in 0..shape.count {
+        put_block(out, s, place, w, shape.bits);
+        place = follow(s, place);
+    }
+}
+
+// The lines of a channel.
+pub fn put_channel(out: &mut Writer<'_>, s: &[i64])
+    requires { well_formed s.now ≡ true }
+    ensures { Puts out.old (listing s.now) out.new }
+{
+    let shape = read_shape(s);
+    put_first(out, shape);
+    put_blocks(out, s, shape);
 }

@@ -6,7 +6,7 @@ ghost use Rattle.listing.specs.Listing.{listing_of, refusal_line, input_line};
 use super::blocks::put_channel;
 use super::spaced::put_natural;
 use channel::well_formed::well_formed;
-use text::page::{put, put_all};
+use text::page::Writer;
 
 // Puts the listing of a channel into `out`, and answers how many bytes it has. Words that are no channel have none.
 pub fn write_listing(out: &mut [u8], channel: &[i64]) -> usize
@@ -15,22 +15,28 @@ pub fn write_listing(out: &mut [u8], channel: &[i64]) -> usize
     if !well_formed(channel) {
         return 0;
     }
-    put_channel(out, channel)
+    let mut w = Writer::new(out);
+    put_channel(&mut w, channel);
+    w.at
 }
 
 // Puts the line of a refusal into `out`: its number and its index.
 pub fn write_refusal(out: &mut [u8], number: u64, index: u64) -> usize
     ensures { page out.new result ≡ write (page out.old 0) (refusal_line number index) }
 {
-    let a = put_all(out, 0, b"refused");
-    let b = put_natural(out, a, number);
-    let c = put_natural(out, b, index);
-    put(out, c, b'\n')
+    let mut w = Writer::new(out);
+    w.put_all(b"refused");
+    put_natural(&mut w, number);
+    put_natural(&mut w, index);
+    w.put(b'\n');
+    w.at
 }
 
 // Puts the line for a text that is no input into `out`.
 pub fn write_no_input(out: &mut [u8]) -> usize
     ensures { page out.new result ≡ write (page out.old 0) input_line }
 {
-    put_all(out, 0, b"refused input\n")
+    let mut w = Writer::new(out);
+    w.put_all(b"refused input\n");
+    w.at
 }

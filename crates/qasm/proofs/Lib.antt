@@ -7,11 +7,9 @@ pub mod Sound
 pub mod Length
 pub mod Same
 pub mod Scanning
-pub mod Table
-pub mod Due
-pub mod Kept
+pub mod Named
+pub mod Words
 pub mod Moves
-pub mod Openings
 pub mod Going
 pub mod Answer
 pub mod Examples

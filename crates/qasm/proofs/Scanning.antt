@@ -1,59 +1,49 @@
 -- The tokens of a text from a position on, step by step.
-use mathlib.Core.Path.{◌≡◌, refl, sym, ap, ◌∙◌}
-use mathlib.Core.Bool.{Bool, true, false, cond, ◌||◌}
+use mathlib.Core.Path.{◌≡◌, refl, sym, ap, ◌∙◌, subst}
+use mathlib.Core.Bool.{Bool, true, false, cond, not}
 use mathlib.Core.List.{List, [], ◌∷◌}
-use Prim.Native.Nat.{ℕ, suc, ◌+◌, ◌-◌, ◌<◌, ◌≤◌}
-use native.Mathlib.Numerals.{add-one}
+use Prim.Native.Nat.{ℕ, zero, suc, ◌+◌, ◌-◌, ◌<◌, ◌≤◌, min}
+use native.Mathlib.Decide.{dec_lt}
 use native.Mathlib.Omega.{arith}
-use lib.ListN.{length, get_or, take, drop, drop_of_length-le, length-drop}
-use lib.Seq.{drop-cons, drop-drop}
-use Rattle.algebra.proofs.Tests.{or_no}
+use lib.ListN.{length, get_or, take, drop, length-drop, drop_of_length-le}
+use Rattle.std.specs.Prelude.{Some, None}
+use Rattle.std.proofs.lemmas.List.{take_rest, drop-drop}
+use Rattle.std.proofs.lemmas.List.Sums.{position_or_len_is}
+use Rattle.std.proofs.lemmas.List.Recursion.{is_position_or_len}
 use Rattle.text.specs.Decimal.{is_digit}
+use Rattle.qasm.specs.declared.tokens.Part.TheVariants.{Gap, Bytes}
 use Rattle.qasm.specs.Tokens.{is_blank, is_comment, is_gap, in_line, opens_word, in_word, run, arrow, library, begins, sign_more, more, Token, token, tokens}
-use Rattle.qasm.specs.Inner.Scanning.{from, Passed}
-use Rattle.qasm.specs.Inner.Progress.{part, Inside}
+use Rattle.qasm.specs.Inner.Scanning.{from, first_part}
 use Rattle.qasm.proofs.Same.{begins_long}
 use Rattle.qasm.proofs.Lexing.{tokens-inside}
 
 -- ---- runs
--- the run from `at` on goes as far as i, and from there as far as it does from i
-pub record Running (p : ℕ → Bool) (t : List ℕ) (at i : ℕ) : Type 0 where
-  pub inside : i ≤ length t
-  pub is : at + run p (drop at t) ≡ i + run p (drop i t)
-
-module _ (p : ℕ → Bool) (t : List ℕ) (at : ℕ) where
-  pub run-begins : at ≤ length t → Running p t at at
-  run-begins h = record { inside = h; is = refl }
-
-  module _ {i : ℕ} (r : Running p t at i) where
-    pub run-ended : length t ≤ i → i ≡ at + run p (drop at t)
-    unfolding run
-    run-ended h = let e = ap (run p) (drop_of_length-le t h) in omega (arith, r.is)
-
-    module _ (h : i < length t) where
-      abbrev then : Bool → ℕ
-      then c = cond c (suc (run p (drop (suc i) t))) 0
-
-      pub run-stopped : p (get_or t i 0) ≡ false → i ≡ at + run p (drop at t)
-      unfolding run
-      run-stopped e = let q = ap (run p) (drop-cons t i 0 h) ∙ ap then e in omega (arith, r.is)
-
-      pub run_again : p (get_or t i 0) ≡ true → Running p t at (i + 1)
-      unfolding run
-      run_again e =
-          let q = ap (run p) (drop-cons t i 0 h) ∙ ap then e ∙ ap (λ (k : ℕ). suc (run p (drop k t))) (sym (add-one i)) in
-          record { inside = omega arith; is = omega (arith, r.is) }
-
-pub run-most : (p : ℕ → Bool) (bs : List ℕ) → run p bs ≤ length bs
+run-none : (p : ℕ → Bool) → run p [] ≡ 0
 unfolding run
-run-most p [] = omega arith
-run-most p (b ∷ bs) = by (p b) (run-most p bs)
+run-none p = refl
+
+more-run : (p : ℕ → Bool) (b : ℕ) (bs : List ℕ) → run p (b ∷ bs) ≡ cond (not (p b)) 0 (1 + run p bs)
+unfolding run
+more-run p b bs = by (p b)
+  where
+    by : (c : Bool) → cond c (suc (run p bs)) 0 ≡ cond (not c) 0 (1 + run p bs)
+    by true = omega arith
+    by false = refl
+
+-- as many pass as stand before the first that fails
+pub run_is : (p : ℕ → Bool) (bs : List ℕ) (i : ℕ) → i ≤ length bs → ((k : ℕ) → k < i → not (p (get_or bs k 0)) ≡ false) → (i < length bs → not (p (get_or bs i 0)) ≡ true) → i ≡ run p bs
+run_is p bs i h before here = sym (position_or_len_is (λ b. not (p b)) bs i 0 h before here) ∙ sym (is_position_or_len (run p) (λ b. not (p b)) (run-none p) (more-run p) bs)
+
+pub run_most : (p : ℕ → Bool) (bs : List ℕ) → run p bs ≤ length bs
+unfolding run
+run_most p [] = omega arith
+run_most p (b ∷ bs) = by (p b) (run_most p bs)
   where
     by : (c : Bool) → run p bs ≤ length bs → cond c (suc (run p bs)) 0 ≤ suc (length bs)
     by true h = omega arith
     by false h = omega arith
 
--- a gap or token lies in the text
+-- ---- a gap or token lies in the text
 sign-most : (b : ℕ) (bs : List ℕ) → sign_more (b ∷ bs) ≤ length bs
 sign-most b bs = by (begins arrow (b ∷ bs)) refl (begins library (b ∷ bs)) refl
   where
@@ -62,133 +52,119 @@ sign-most b bs = by (begins arrow (b ∷ bs)) refl (begins library (b ∷ bs)) r
     by false e true f = let h = begins_long library (b ∷ bs) f in omega arith
     by false e false f = omega arith
 
-pub more-most : (b : ℕ) (bs : List ℕ) → more b bs ≤ length bs
+more-most : (b : ℕ) (bs : List ℕ) → more b bs ≤ length bs
 more-most b bs = by (is_blank b) (is_comment b bs) (is_digit b) (opens_word b)
   where
     by : (blank comment digit word : Bool) → cond blank 0 (cond comment (run in_line bs) (cond digit (run is_digit bs) (cond word (run in_word bs) (sign_more (b ∷ bs))))) ≤ length bs
     by true comment digit word = omega arith
-    by false true digit word = run-most in_line bs
-    by false false true word = run-most is_digit bs
-    by false false false true = run-most in_word bs
+    by false true digit word = run_most in_line bs
+    by false false true word = run_most is_digit bs
+    by false false false true = run_most in_word bs
     by false false false false = sign-most b bs
 
--- ---- gaps and tokens
-module _ (t : List ℕ) (at : ℕ) where
-  pub from_end : length t ≤ at → from t at ≡ []
+-- ---- the part at the front, of n bytes
+pub record Front (bs : List ℕ) (n : ℕ) : Type 0 where
+  pub some : 1 ≤ n
+  pub inside : n ≤ length bs
+
+after : (b : ℕ) (bs : List ℕ) (at : ℕ) → tokens (suc at) (more b bs) bs ≡ tokens (at + suc (more b bs)) 0 (drop (more b bs) bs)
+after b bs at = let n : suc at + more b bs ≡ at + suc (more b bs) = omega arith in tokens-inside (suc at) (more b bs) bs ∙ ap (λ (a : ℕ). tokens a 0 (drop (more b bs) bs)) n
+
+abbrev Passed : List ℕ → ℕ → Type 0
+Passed bs n = Front bs n × ((at : ℕ) → tokens at 0 bs ≡ tokens (at + n) 0 (drop n bs))
+
+abbrev Taken : List ℕ → ℕ → Type 0
+Taken bs n = Front bs n × ((at : ℕ) → tokens at 0 bs ≡ token at (take n bs) ∷ tokens (at + n) 0 (drop n bs))
+
+module _ (b : ℕ) (bs : List ℕ) where
+  abbrev m : ℕ
+  m = suc (more b bs)
+
+  front : Front (b ∷ bs) m
+  front = record { some = omega arith; inside = omega (arith, more-most b bs) }
+
+  abbrev shape : ℕ → Bool → List Token
+  shape at c = cond c (tokens (suc at) (more b bs) bs) (token at (b ∷ take (more b bs) bs) ∷ tokens (suc at) (more b bs) bs)
+
+  passed : is_gap b bs ≡ true → Passed (b ∷ bs) m
   unfolding tokens
-  from_end h = ap (tokens at 0) (drop_of_length-le t h)
+  passed e = (front, λ at. ap (shape at) e ∙ after b bs at)
 
-  module _ (h : at < length t) where
-    abbrev pub here : ℕ
-    here = get_or t at 0
+  taken : is_gap b bs ≡ false → Taken (b ∷ bs) m
+  unfolding tokens
+  taken e = (front, λ at. ap (shape at) e ∙ ap (λ (ts : List Token). token at (b ∷ take (more b bs) bs) ∷ ts) (after b bs at))
 
-    abbrev pub later : List ℕ
-    later = drop (at + 1) t
+gap-front : (bs : List ℕ) (n : ℕ) → Some (Gap n) ≡ first_part bs → Passed bs n
+gap-front [] n e = absurd (cc)
+gap-front (b ∷ bs) n e = by (is_gap b bs) refl e
+  where
+    by : (c : Bool) → is_gap b bs ≡ c → Some (Gap n) ≡ Some (cond c (Gap (m b bs)) (Bytes (m b bs))) → Passed (b ∷ bs) n
+    by true f e = let q : m b bs ≡ n = (cc) in subst (Passed (b ∷ bs)) q (passed b bs f)
+    by false f e = absurd (cc)
 
-    -- where the gap or token ends
-    abbrev pub next : ℕ
-    next = at + 1 + more here later
+bytes-front : (bs : List ℕ) (n : ℕ) → Some (Bytes n) ≡ first_part bs → Taken bs n
+bytes-front [] n e = absurd (cc)
+bytes-front (b ∷ bs) n e = by (is_gap b bs) refl e
+  where
+    by : (c : Bool) → is_gap b bs ≡ c → Some (Bytes n) ≡ Some (cond c (Gap (m b bs)) (Bytes (m b bs))) → Taken (b ∷ bs) n
+    by true f e = absurd (cc)
+    by false f e = let q : m b bs ≡ n = (cc) in subst (Taken (b ∷ bs)) q (taken b bs f)
 
-    cut : drop at t ≡ here ∷ later
-    cut = drop-cons t at 0 h ∙ ap (λ (k : ℕ). here ∷ drop k t) (sym (add-one at))
+-- ---- the same at a position of a text
+-- the next n bytes lie in it
+pub record Next (t : List ℕ) (at n : ℕ) : Type 0 where
+  pub some : 1 ≤ n
+  pub inside : at + n ≤ length t
 
-    abbrev shape : Bool → List Token → List Token
-    shape c rest = cond c rest (token at (here ∷ take (more here later) later) ∷ rest)
+nothing : (at : ℕ) → tokens at 0 [] ≡ []
+unfolding tokens
+nothing at = refl
 
-    after : tokens (suc at) (more here later) later ≡ from t next
-    after =
-        tokens-inside (suc at) (more here later) later
-        ∙ (λ i. tokens (ap (λ (k : ℕ). k + more here later) (sym (add-one at)) i) 0 (drop-drop (more here later) (at + 1) t i))
+module _ (t : List ℕ) (at : ℕ) (h : at ≤ length t) where
+  abbrev pub rest : List ℕ
+  rest = take (length t - at) (drop at t)
 
-    by_shape : (c : Bool) → is_gap here later ≡ c → from t at ≡ shape c (from t next)
-    unfolding tokens
-    by_shape c e = ap (tokens at 0) cut ∙ (λ i. shape (e i) (after i))
+  next : {n : ℕ} → Front (drop at t) n → Next t at n
+  next f = record { some = f.some; inside = omega (arith, f.inside, length-drop at t) }
 
-    pub from_gap : is_gap here later ≡ true → from t at ≡ from t next
-    from_gap e = by_shape true e
+  pub gap_next : {n : ℕ} → Some (Gap n) ≡ first_part rest → Next t at n × (from t at ≡ from t (at + n))
+  gap_next {n} e = let p = gap-front (drop at t) n (e ∙ ap first_part (take_rest t at)) in (next p.0, p.1 at ∙ ap (tokens (at + n) 0) (drop-drop n at t))
 
-    from-token : is_gap here later ≡ false → from t at ≡ token at (take (suc (more here later)) (drop at t)) ∷ from t next
-    from-token e = by_shape false e ∙ ap (λ (bs : List ℕ). token at (take (suc (more here later)) bs) ∷ from t next) (sym cut)
+  pub token_next : {n : ℕ} → Some (Bytes n) ≡ first_part rest → Next t at n × (from t at ≡ token at (take (at + n - at) (drop at t)) ∷ from t (at + n))
+  token_next {n} e =
+      let p = bytes-front (drop at t) n (e ∙ ap first_part (take_rest t at)) in
+      let k : n ≡ at + n - at = omega arith in
+      (next p.0, p.1 at ∙ (λ i. token at (take (k i) (drop at t)) ∷ tokens (at + n) 0 (drop-drop n at t i)))
 
-    module _ {end : ℕ} (e : end ≡ next) where
-      pub token-inside : Inside (length t) at end
-      token-inside = record { some = omega arith; within = omega (arith, more-most here later, length-drop (at + 1) t) }
+  pub none_next : None ≡ first_part rest → from t at ≡ []
+  none_next e = by (drop at t) (e ∙ ap first_part (take_rest t at))
+    where
+      by : (bs : List ℕ) → None ≡ first_part bs → tokens at 0 bs ≡ []
+      by [] e = nothing at
+      by (b ∷ bs) e = absurd (cc)
 
-      pub next-token : is_gap here later ≡ false → from t at ≡ token at (part t at end) ∷ from t end
-      next-token g = let n : suc (more here later) ≡ end - at = omega arith in from-token g ∙ (λ i. token at (take (n i) (drop at t)) ∷ from t (sym e i))
+-- no more tokens than bytes
+tokens-few : (at k : ℕ) (bs : List ℕ) → length (tokens at k bs) ≤ length bs
+unfolding tokens
+tokens-few at k [] = omega arith
+tokens-few at (suc k) (b ∷ bs) = let h = tokens-few (suc at) k bs in omega arith
+tokens-few at zero (b ∷ bs) = by (is_gap b bs) (tokens-few (suc at) (more b bs) bs)
+  where
+    by : (c : Bool) → length (tokens (suc at) (more b bs) bs) ≤ length bs
+        → length (cond c (tokens (suc at) (more b bs) bs) (token at (b ∷ take (more b bs) bs) ∷ tokens (suc at) (more b bs) bs)) ≤ suc (length bs)
+    by true h = omega arith
+    by false h = omega arith
 
-    -- ---- how long the token is
-    abbrev length-by : Bool → Bool → Bool → Bool → ℕ
-    length-by blank comment digit word = cond blank 0 (cond comment (run in_line later) (cond digit (run is_digit later) (cond word (run in_word later) (sign_more (here ∷ later)))))
+pub from-few : (t : List ℕ) (at : ℕ) → length (from t at) ≤ length t
+from-few t at = omega (arith, tokens-few at 0 (drop at t), length-drop at t)
 
-    module _ (g : is_gap here later ≡ false) where
-      no_blank : is_blank here ≡ false
-      no_blank = (or_no (is_blank here) (is_comment here later) g).0
+pub from_end : (t : List ℕ) (at : ℕ) → length t ≤ at → from t at ≡ []
+from_end t at h = ap (tokens at 0) (drop_of_length-le t h) ∙ nothing at
 
-      no_comment : is_comment here later ≡ false
-      no_comment = (or_no (is_blank here) (is_comment here later) g).1
-
-      pub more-digit : is_digit here ≡ true → more here later ≡ run is_digit later
-      more-digit d = λ i. length-by (no_blank i) (no_comment i) (d i) (opens_word here)
-
-      module _ (d : is_digit here ≡ false) where
-        pub more-word : opens_word here ≡ true → more here later ≡ run in_word later
-        more-word w = λ i. length-by (no_blank i) (no_comment i) (d i) (w i)
-
-        module _ (w : opens_word here ≡ false) where
-          sign-more : more here later ≡ sign_more (drop at t)
-          sign-more = (λ i. length-by (no_blank i) (no_comment i) (d i) (w i)) ∙ ap sign_more (sym cut)
-
-          pub more-arrow : begins arrow (drop at t) ≡ true → more here later ≡ 1
-          more-arrow a = sign-more ∙ ap (λ (c : Bool). cond c 1 (cond (begins library (drop at t)) 11 0)) a
-
-          module _ (a : begins arrow (drop at t) ≡ false) where
-            pub more-library : begins library (drop at t) ≡ true → more here later ≡ 11
-            more-library l = sign-more ∙ (λ i. cond (a i) 1 (cond (l i) 11 0))
-
-            pub more-none : begins library (drop at t) ≡ false → more here later ≡ 0
-            more-none l = sign-more ∙ (λ i. cond (a i) 1 (cond (l i) 11 0))
-
--- ---- gaps, one after the other
--- from `at` to i there are gaps alone
-pub record Passing (t : List ℕ) (at i : ℕ) : Type 0 where
-  pub along : at ≤ i
-  pub inside : i ≤ length t
-  pub same : from t at ≡ from t i
-
-module _ (t : List ℕ) (at : ℕ) where
-  pub passing_none : at ≤ length t → Passing t at at
-  passing_none h = record { along = omega arith; inside = h; same = refl }
-
-  module _ {i : ℕ} (p : Passing t at i) where
-    pub passed_all : length t ≤ i → Passed t at i
-    passed_all h = record { along = p.along; inside = p.inside; same = p.same; stops = λ l. absurd (omega arith) }
-
-    module _ (h : i < length t) where
-      abbrev b : ℕ
-      b = get_or t i 0
-
-      abbrev bs : List ℕ
-      bs = drop (i + 1) t
-
-      pub passing_blank : is_blank b ≡ true → Passing t at (i + 1)
-      passing_blank e =
-          let gap = ap (λ (c : Bool). c || is_comment b bs) e in
-          let m : more b bs ≡ 0 = ap (λ (c : Bool). length-by t i h c (is_comment b bs) (is_digit b) (opens_word b)) e in
-          let n : i + 1 + more b bs ≡ i + 1 = omega arith in
-          record { along = omega (arith, p.along); inside = omega arith; same = p.same ∙ from_gap t i h gap ∙ ap (from t) n }
-
-      module _ (e : is_blank b ≡ false) where
-        pub passed_here : is_comment b bs ≡ false → Passed t at i
-        passed_here f = record { along = p.along; inside = p.inside; same = p.same; stops = λ l. λ j. e j || f j }
-
-        module _ {j : ℕ} (f : is_comment b bs ≡ true) (r : j ≡ i + 1 + run in_line bs) where
-          pub comment_inside : j ≤ length t
-          comment_inside = omega (arith, run-most in_line bs, length-drop (i + 1) t)
-
-          pub passing_comment : Passing t at j
-          passing_comment =
-              let gap : is_gap b bs ≡ true = λ k. e k || f k in
-              let m : more b bs ≡ run in_line bs = λ k. length-by t i h (e k) (f k) (is_digit b) (opens_word b) in
-              let n : i + 1 + more b bs ≡ j = omega arith in
-              record { along = omega (arith, p.along); inside = comment_inside; same = p.same ∙ from_gap t i h gap ∙ ap (from t) n }
+-- behind the text's end there is no token
+pub from-min : (t : List ℕ) (at : ℕ) {k : ℕ} → k ≡ min at (length t) → from t k ≡ from t at
+from-min t at {k} e = by (dec_lt at (length t))
+  where
+    by : Dec (at < length t) → from t k ≡ from t at
+    by (yes h) = let q : k ≡ at = omega arith in ap (from t) q
+    by (no h) = from_end t k (omega arith) ∙ sym (from_end t at (omega arith))

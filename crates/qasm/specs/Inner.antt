@@ -1,4 +1,5 @@
 -- What contracts of inner functions need.
 pub mod Scanning
-pub mod Places
+pub mod Left
+pub mod Pieces
 pub mod Progress

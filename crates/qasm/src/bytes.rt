@@ -1,13 +1,6 @@
-// What a byte is, two texts that are the same, and parts of a text.
-ghost use Rattle.std.specs.Prelude.{◌≡◌, ◌≤◌, length, drop};
-ghost use Rattle.qasm.specs.Tokens.{same, is_blank, is_small, opens_word, begins};
-
-// A part of a text: from `start` on, before `end`.
-#[derive(Clone, Copy, Debug, PartialEq, Eq)]
-pub struct Span {
-    pub start: usize,
-    pub end: usize,
-}
+// What a byte of a text is.
+ghost use Rattle.std.specs.Prelude.{◌≡◌};
+ghost use Rattle.qasm.specs.Tokens.{is_blank, is_small, opens_word};
 
 pub fn is_blank(b: u8) -> bool
     ensures { result ≡ is_blank b }
@@ -26,18 +19,4 @@ pub fn opens_word(b: u8) -> bool
     ensures { result ≡ opens_word b }
 {
     b.is_ascii_alphabetic() || b == b'_'
-}
-
-pub fn is_same(xs: &[u8], ys: &[u8]) -> bool
-    ensures { result ≡ same xs.now ys.now }
-{
-    xs == ys
-}
-
-// Whether these bytes stand in the text from `at` on.
-pub fn begins_with(text: &[u8], at: usize, bytes: &[u8]) -> bool
-    requires { at ≤ length text.now }
-    ensures { result ≡ begins bytes.now (drop at text.now) }
-{
-    text[at..].starts_with(bytes)
 }

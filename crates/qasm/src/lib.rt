@@ -5,5 +5,5 @@ pub mod bytes;
 mod names;
 mod pieces;
 pub mod reader;
-pub mod scan;
 mod steps;
+pub mod tokens;

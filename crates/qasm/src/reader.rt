@@ -1,13 +1,11 @@
 // A circuit read from its text.
-ghost use Rattle.std.specs.Prelude.{◌≡◌, ◌≤◌, length};
+ghost use Rattle.std.specs.Prelude.{◌≡◌, length};
 ghost use mathlib.Core.List.{foldl};
 ghost use Rattle.qasm.specs.Reading.{step, start, ended, read_of, reply, filled};
-ghost use Rattle.qasm.specs.Inner.Scanning.{from};
+ghost use Rattle.qasm.specs.Inner.Left.{tokens_left};
 
-use super::bytes::begins_with;
-use super::pieces::{FORMS, STOP, piece_at};
-use super::scan::blanks_end;
 use super::steps::run;
+use super::tokens::{HEADER, Tokens, blanks};
 use verdict::Refusal;
 
 // What a text says: how many qubits and bits it declares, and how many words its gates have.
@@ -25,20 +23,16 @@ pub struct Fault {
     pub position: usize,
 }
 
-// The bytes of the header.
-const HEADER: usize = 13;
-
-// The text after its header, from `at` on: judged without writing a word, and then read once more.
-fn read_body(text: &[u8], at: usize, gates: &mut [u32]) -> Result<Reading, Fault>
-    requires { at ≤ length text.now }
-    ensures reply { result ≡ reply (length gates.old) (ended (length text.now) (foldl step start (from text.now at))) }
-    ensures gates { gates.new ≡ filled gates.old (ended (length text.now) (foldl step start (from text.now at))) }
+// The tokens behind the header of a text of `size` bytes: judged without writing a word, and then read once more.
+fn read_body(tokens: Tokens, size: usize, gates: &mut [u32]) -> Result<Reading, Fault>
+    ensures reply { result ≡ reply (length gates.old) (ended size (foldl step start (tokens_left tokens.entry))) }
+    ensures gates { gates.new ≡ filled gates.old (ended size (foldl step start (tokens_left tokens.entry))) }
 {
-    let s = run(text, at, gates, 0)?;
-    if piece_at(&FORMS, s.place) != STOP {
+    let s = run(tokens, &mut [])?;
+    if !s.due.is_empty() {
         return Err(Fault {
             refusal: Refusal::BadText,
-            position: text.len(),
+            position: size,
         });
     }
     if gates.len() < s.words {
@@ -47,7 +41,7 @@ fn read_body(text: &[u8], at: usize, gates: &mut [u32]) -> Result<Reading, Fault
             position: 0,
         });
     }
-    run(text, at, gates, s.words).unwrap();
+    run(tokens, gates).unwrap();
     Ok(Reading {
         qubits: s.qubits,
         bits: s.bits,
@@ -56,16 +50,17 @@ fn read_body(text: &[u8], at: usize, gates: &mut [u32]) -> Result<Reading, Fault
 }
 
 // Reads a circuit; its gates' words go to `gates`. Where the text is refused, `gates` is as it was.
+#[tactic(auto, using(crate::proofs::Scanning::run_most))]
 pub fn read_qasm(text: &[u8], gates: &mut [u32]) -> Result<Reading, Fault>
     ensures reply { result ≡ reply (length gates.old) (read_of text.now) }
     ensures gates { gates.new ≡ filled gates.old (read_of text.now) }
 {
-    let begin = blanks_end(text, 0);
-    if !begins_with(text, begin, b"OPENQASM 2.0;") {
+    let begin = blanks(text);
+    if !text[begin..].starts_with(&HEADER) {
         return Err(Fault {
             refusal: Refusal::BadText,
             position: begin,
         });
     }
-    read_body(text, begin + HEADER, gates)
+    read_body(Tokens::behind_header(text), text.len(), gates)
 }

@@ -1,149 +1,206 @@
 // One token after the other.
-ghost use Rattle.std.specs.Prelude.{◌≡◌, true, cond, [], ◌+◌, ◌-◌, ◌^◌, ◌≤◌, ◌<◌, length};
-ghost use Rattle.gate.specs.Gate.{gate_size};
-ghost use Rattle.qasm.specs.Inner.Places.{entry_count, forms, indexed, word_of, due_at};
-ghost use Rattle.qasm.specs.Inner.Progress.{put_word, put_gate, placed, from_top, declares, Opened, May, Stepped, Ran};
+// Kept (facts): that the words fit, asked by three functions. In a ghost field of Progress it would forbid `..s`, by which each step says what it changes.
+// Kept (buffers): a gate's word goes to its place in the lent room, or is left out where the room ends before it.
+ghost use Rattle.std.specs.Prelude.{◌≡◌, [], ◌∷◌, List, ℕ, ◌+◌, ◌^◌, ◌<◌, length, set, is_some, IfSome, MatchOption};
+ghost use mathlib.Core.List.{foldl};
+ghost use Rattle.std.proofs.lemmas.List.Edits.{sets};
+ghost use Rattle.gate.specs.Kinds.{number_of};
+ghost use Rattle.qasm.specs.Tokens.{same, token, is_small};
+ghost use Rattle.qasm.specs.Reading.{fits, taken, wrong, unknown, step, start};
+ghost use Rattle.qasm.specs.Forms.{fresh};
+ghost use Rattle.qasm.specs.Inner.Left.{token_of, tokens_left};
+ghost use Rattle.qasm.specs.Inner.Pieces.{place_of, piece_of};
+ghost use Rattle.qasm.specs.Inner.Progress.{index_in, with_word, names_of, seen_of, declares, Sees, Stepped};
 
-use super::bytes::{Span, is_same};
-use super::names::{find, kind_at, place_at};
-use super::pieces::{CREG, FORMS, Progress, STOP, TOP, fits, index_in, piece_at, taken, wrong};
+use super::bytes::{is_small, opens_word};
+use super::names::{Entry, gate_named};
+use super::pieces::{CREG, Piece, Register, TOP};
 use super::reader::Fault;
-use super::scan::{gap_end, token_end};
+use super::tokens::{Token, Tokens};
 use gate::GATE;
+use gate::kinds::Kind;
+use text::number::number_in;
+use verdict::Refusal;
 
-fn top() -> Progress
-    ensures { result ≡ from_top }
+// What has been read: the pieces that are due before the statement ends (none between statements), the registers' names (none: no bytes) and sizes, and how many words the gates have.
+#[derive(Clone, Copy, Debug)]
+pub struct Progress<'a> {
+    pub due: &'static [Piece],
+    pub quantum: &'a [u8],
+    pub classical: &'a [u8],
+    pub qubits: u32,
+    pub bits: u32,
+    pub words: usize,
+}
+
+// The number in a token, which has no zero in front of other digits.
+fn index_in(token: &[u8]) -> Option<u32>
+    ensures { result ≡ index_in token.now }
 {
-    let nowhere = Span { start: 0, end: 0 };
-    Progress {
-        place: TOP,
-        quantum: nowhere,
-        classical: nowhere,
-        qubits: 0,
-        bits: 0,
-        words: 0,
+    match token {
+        [b'0', _, ..] => None,
+        _ => number_in(token),
     }
 }
 
-fn go_to(s: Progress, place: usize, words: usize) -> Progress
-    ensures { result ≡ placed s place words }
+// Whether a token can name a register that is declared.
+fn is_new_name(s: Progress, token: Token) -> bool
+    ensures { result ≡ fits (fresh 0) (names_of s.entry) (token_of token.entry) }
 {
-    Progress { place, words, ..s }
+    token.bytes.first().is_some_and(|&b| is_small(b))
+        && s.quantum != token.bytes
+        && s.classical != token.bytes
 }
 
 // A word, if there is room for it.
-fn put(gates: &mut [u32], room: usize, at: usize, v: u32)
-    requires { room ≤ length gates.old }
-    ensures { gates.new ≡ put_word gates.old room at v }
+fn put(gates: &mut [u32], at: usize, v: u32)
+    ensures { gates.new ≡ set gates.old at v }
 {
-    if at < room {
+    if at < gates.len() {
         gates[at] = v;
     }
 }
 
-// The word of the last gate that the piece says, if it says one.
-fn put_index(gates: &mut [u32], room: usize, words: usize, piece: u8, v: u32)
-    requires { (room ≤ length gates.old) × (indexed piece ≡ true → gate_size ≤ words) }
-    ensures { gates.new ≡ cond (indexed piece) (put_word gates.old room (words - gate_size + word_of piece) v) gates.old }
+// The words of a gate that begins: its kind and zeros.
+fn put_gate(gates: &mut [u32], at: usize, kind: Kind)
+    requires { at + 256 < 2 ^ 64 }
+    ensures { gates.new ≡ sets gates.old at (number_of kind ∷ 0 ∷ 0 ∷ 0 ∷ 0 ∷ []) }
 {
-    if (b'1' <= piece) & (piece <= b'3') {
-        put(gates, room, words - GATE + (piece - b'0') as usize, v);
+    put(gates, at, u32::from(kind));
+    put(gates, at + 1, 0);
+    put(gates, at + 2, 0);
+    put(gates, at + 3, 0);
+    put(gates, at + 4, 0);
+}
+
+// What has been read with a token where this piece is due, if it can stand there. A word that it says is written where there is room for it.
+#[tactic(auto, using(crate::proofs::Same::same_pointwise))]
+fn take<'a>(
+    gates: &mut [u32],
+    s: Progress<'a>,
+    piece: Piece,
+    token: Token<'a>,
+) -> Option<Progress<'a>>
+    requires { s.words + 256 < 2 ^ 64 }
+    ensures fitting { is_some result ≡ fits (piece_of piece) (names_of s.entry) (token_of token.entry) }
+    ensures stays { IfSome result (λ r. (r.due ≡ s.entry.due) × (r.words ≡ s.entry.words)) }
+    ensures seen { IfSome result (λ r. (ws : List ℕ) → seen_of r (with_word (piece_of piece) (token_of token.entry) (length ws) ws)
+        ≡ taken (piece_of piece) (seen_of s.entry ws) (token_of token.entry)) }
+    ensures written { MatchOption result (gates.new ≡ gates.old)
+        (λ r. gates.new ≡ with_word (piece_of piece) (token_of token.entry) s.entry.words gates.old) }
+{
+    match piece {
+        Piece::Fixed(bytes) => (bytes == token.bytes).then_some(s),
+        Piece::Fresh(register) => is_new_name(s, token).then_some(match register {
+            Register::Quantum => Progress {
+                quantum: token.bytes,
+                ..s
+            },
+            Register::Classical => Progress {
+                classical: token.bytes,
+                ..s
+            },
+        }),
+        Piece::Size(register) => {
+            let size = index_in(token.bytes)?;
+            Some(match register {
+                Register::Quantum => Progress { qubits: size, ..s },
+                Register::Classical => Progress { bits: size, ..s },
+            })
+        }
+        Piece::Used(Register::Quantum) => (s.quantum == token.bytes).then_some(s),
+        Piece::Used(Register::Classical) => (s.classical == token.bytes).then_some(s),
+        Piece::Index(word) => {
+            let value = index_in(token.bytes)?;
+            put(gates, s.words.saturating_sub(GATE) + word as usize, value);
+            Some(s)
+        }
     }
 }
 
-// The words of a gate that begins: its kind and zeros.
-fn put_gate(gates: &mut [u32], room: usize, at: usize, kind: u32)
-    requires { (room ≤ length gates.old) × (at + gate_size < 2 ^ 64) }
-    ensures { gates.new ≡ put_gate gates.old room at kind }
+// The refusal of a token where the name of a gate or of a register is due.
+fn unknown(token: Token) -> Refusal
+    ensures { result ≡ unknown (token_of token.entry) }
 {
-    put(gates, room, at, kind);
-    put(gates, room, at + 1, 0);
-    put(gates, room, at + 2, 0);
-    put(gates, room, at + 3, 0);
-    put(gates, room, at + 4, 0);
+    if token.bytes.first().is_some_and(|&b| opens_word(b)) {
+        return Refusal::UnknownNameAt(0);
+    }
+    Refusal::BadText
 }
 
-fn open_gate(gates: &mut [u32], room: usize, s: Progress, e: usize) -> Progress
-    requires { ((room ≤ length gates.old) × (s.words + gate_size < 2 ^ 64)) × (e < entry_count) }
-    ensures { Opened room s e gates.old result gates.new }
+// The refusal of a token that cannot stand where the piece is due.
+fn wrong(piece: Piece, token: Token) -> Refusal
+    ensures { result ≡ wrong (piece_of piece) (token_of token.entry) }
 {
-    put_gate(gates, room, s.words, kind_at(e));
-    let place = place_at(e);
-    go_to(s, place, s.words + GATE)
+    match piece {
+        Piece::Used(_) => unknown(token),
+        _ => Refusal::BadText,
+    }
 }
 
 // Whether a word declares the classical register, which it may once and before all gates.
 fn declares(s: Progress, word: &[u8]) -> bool
-    ensures { result ≡ declares s word.now }
+    ensures { result ≡ declares s.entry word.now }
 {
-    s.classical.start == s.classical.end && s.words == 0 && is_same(b"creg", word)
+    s.classical.is_empty() && s.words == 0 && word == b"creg".as_slice()
 }
 
 // The first token of a statement: creg, or a gate's name.
-fn open(
-    text: &[u8],
-    gates: &mut [u32],
-    room: usize,
-    s: Progress,
-    token: Span,
-) -> Result<Progress, Fault>
-    requires { May (length text.now) room (length gates.old) s token.start token.end × (due_at s.place ≡ []) }
-    ensures { Stepped text.now room s gates.old token.start token.end result gates.new }
+fn open<'a>(gates: &mut [u32], s: Progress<'a>, token: Token<'a>) -> Result<Progress<'a>, Fault>
+    requires due { s.due.now ≡ [] }
+    requires few { s.words + 256 < 2 ^ 64 }
+    ensures { Stepped s.entry gates.old (token_of token.entry) result gates.new }
 {
-    let word = &text[token.start..token.end];
-    if declares(s, word) {
-        return Ok(go_to(s, CREG, s.words));
+    if declares(s, token.bytes) {
+        return Ok(Progress { due: &CREG, ..s });
     }
-    match find(word) {
-        Some(e) => Ok(open_gate(gates, room, s, e)),
+    match gate_named(token.bytes) {
+        Some(&Entry(_, kind, form)) => {
+            put_gate(gates, s.words, kind);
+            Ok(Progress {
+                due: form.pieces(),
+                words: s.words + GATE,
+                ..s
+            })
+        }
         None => Err(Fault {
-            refusal: wrong(true, text[token.start]),
-            position: token.start,
+            refusal: unknown(token),
+            position: token.at,
         }),
     }
 }
 
-// One token. A word that it says is written where there is room for it.
-fn step(
-    pieces: &[u8],
-    text: &[u8],
-    gates: &mut [u32],
-    room: usize,
-    s: Progress,
-    token: Span,
-) -> Result<Progress, Fault>
-    requires { (pieces.now ≡ forms) × May (length text.now) room (length gates.old) s token.start token.end }
-    ensures { Stepped text.now room s gates.old token.start token.end result gates.new }
+// One token.
+fn step<'a>(gates: &mut [u32], s: Progress<'a>, token: Token<'a>) -> Result<Progress<'a>, Fault>
+    requires { s.words + 256 < 2 ^ 64 }
+    ensures { Stepped s.entry gates.old (token_of token.entry) result gates.new }
 {
-    let piece = piece_at(pieces, s.place);
-    if piece == STOP {
-        return open(text, gates, room, s, token);
+    let Some((&piece, due)) = s.due.split_first() else {
+        return open(gates, s, token);
+    };
+    match take(gates, Progress { due, ..s }, piece, token) {
+        Some(s) => Ok(s),
+        None => Err(Fault {
+            refusal: wrong(piece, token),
+            position: token.at,
+        }),
     }
-    let index = index_in(&text[token.start..token.end]);
-    if !fits(text, s, piece, index, token) {
-        return Err(Fault {
-            refusal: wrong((piece == b'q') | (piece == b'c'), text[token.start]),
-            position: token.start,
-        });
-    }
-    let value = index.unwrap_or(0);
-    put_index(gates, room, s.words, piece, value);
-    Ok(taken(s, piece, value, token))
 }
 
-// All tokens from `at` on, up to the first fault.
-pub fn run(text: &[u8], at: usize, gates: &mut [u32], room: usize) -> Result<Progress, Fault>
-    requires { (at ≤ length text.now) × (room ≤ length gates.old) }
-    ensures { Ran text.now at room gates.old result gates.new }
+// All tokens up to the first fault. The gates' words are written as far as there is room for them.
+pub fn run<'a>(tokens: Tokens<'a>, gates: &mut [u32]) -> Result<Progress<'a>, Fault>
+    ensures { Sees gates.old result gates.new (foldl step start (tokens_left tokens.entry)) }
 {
-    let pieces: &[u8] = &FORMS;
-    let mut s = top();
-    let mut begin = gap_end(text, at);
-    // Kept: the next token's place is found in the text, so that no `for` is plainer.
-    while begin < text.len() {
-        let end = token_end(text, begin);
-        s = step(pieces, text, gates, room, s, Span { start: begin, end })?;
-        begin = gap_end(text, end);
+    let mut s: Progress<'a> = Progress {
+        due: &TOP,
+        quantum: &[],
+        classical: &[],
+        qubits: 0,
+        bits: 0,
+        words: 0,
+    };
+    for token in tokens {
+        s = step(gates, s, token)?;
     }
     Ok(s)
 }

@@ -17,8 +17,7 @@ use Rattle.verdict.specs.Questions.{Question, first_no}
 use Rattle.verdict.proofs.Questions.{refused, passed}
 use Rattle.gate.specs.Gate.{Gate, gate_size, gate_at, gates_from, gates_of}
 use Rattle.gate.proofs.Listed.{gates-more, gates-none}
-use Rattle.text.specs.Page.{Page, page}
-use Rattle.text.specs.Inner.Written.{Written}
+use Rattle.text.specs.Page.{Page, page, write}
 use Rattle.text.proofs.Put.{write-from}
 use Rattle.verdict.specs.declared.Refusal.{Refusal}
 use Rattle.qasm_writer.specs.Call.{along, formed_at, named_at, word_questions, text_of, write_reply, room_after}
@@ -97,10 +96,10 @@ module _ (n m : ℕ) (ws room : List ℕ) where
     pub refused-room : leb (length text) (length room) ≡ false → Answers (Err ShortBuffer) room
     refused-room f = refuses (then-room f)
 
-    pub taken-whole : leb (length text) (length room) ≡ true → {after : List ℕ} {k : ℕ} → Written (page room 0) text (page after k) → Answers (Ok k) after
+    pub taken-whole : leb (length text) (length room) ≡ true → {after : List ℕ} {k : ℕ} → page after k ≡ write (page room 0) text → Answers (Ok k) after
     taken-whole f w =
         let r = then-room f in
-        let p = w.is ∙ write-from text room 0 (let l = leb-true (length text) (length room) f in omega arith) in (
+        let p = w ∙ write-from text room 0 (let l = leb-true (length text) (length room) f in omega arith) in (
           ap (λ (p : Page). Ok p.at) p ∙ ap (λ (k : ℕ). Ok k) (zero-add (length text)) ∙ r,
           ap (λ (p : Page). p.room) p ∙ ap (λ (b : Bool). cond b (sets room 0 text) room) (ap is_ok r),
         )

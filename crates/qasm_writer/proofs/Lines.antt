@@ -1,79 +1,41 @@
 -- The lines of a text in the parts that are written one after the other.
+use Rattle.std.specs.Prelude.{Option, Some, None, MatchOption, is_some}
+use Rattle.std.proofs.Common.{Bor}
 use mathlib.Core.Path.{◌≡◌, refl, sym, ap, ◌∙◌}
-use mathlib.Core.Bool.{Bool, true, false, cond, ◌&&◌}
+use mathlib.Core.Bool.{Bool, true, false, cond}
 use mathlib.Core.List.{List, [], ◌∷◌, ◌++◌, append_assoc, append-nil}
-use Prim.Native.Nat.{ℕ, suc, ◌+◌, ◌-◌, ◌≤◌, ◌<◌}
+use Prim.Native.Nat.{ℕ, suc, ◌≤◌}
 use native.Mathlib.Omega.{arith}
 use lib.Dec.{eqb, leb}
-use lib.ListN.{length, get_or, take, drop, length-append, length-take, length-drop}
-use borrow.Author.Tests.{leb-true, eqb-true, ne_eqb, le-leb}
-use Rattle.algebra.specs.Lists.{All, filter_by, concat_map}
-use Rattle.algebra.proofs.Lists.{filter_all, filter_true, every-all}
-use Rattle.algebra.proofs.Tests.{and_split, holds-true, exhaust}
-use Rattle.gate.specs.Gate.{Gate, gate, last_kind, measure, reset, arity}
+use lib.ListN.{length}
+use borrow.Author.Tests.{eqb-true, le-leb}
+use Rattle.algebra.specs.Lists.{All, concat_map}
+use Rattle.algebra.proofs.Lists.{filter_all, filter_true}
+use Rattle.gate.specs.Gate.{Gate, gate, measure, reset, arity, bit_of}
 use Rattle.text.specs.Ascii.{ascii}
-use Rattle.qasm.specs.declared.bytes.Span.{Span}
-use Rattle.qasm.specs.Tokens.{same}
 use Rattle.qasm.specs.Forms.{Piece, one, two, three, measured, Entry, table}
 use Rattle.qasm.specs.Writing.{words, line, of_kind, gate_line, gate_text, written}
 use Rattle.qasm.specs.Claims.{is_named}
-use Rattle.qasm.proofs.Same.{same_true}
-use Rattle.qasm_writer.specs.Inner.Print.{opening_in, opening, openings, Opens, indexed, qubit_if, others, head}
-
--- ---- the name of a kind
-abbrev span : ℕ → ℕ → Span
-span s e = record { start = s; end = e }
-
--- where the openings begin, in the order of the kinds, and where the last one ends
-abbrev starts : List ℕ
-starts =
-    0 ∷ 2 ∷ 4 ∷ 6 ∷ 8 ∷ 12 ∷ 14 ∷ 18 ∷ 18 ∷ 21 ∷ 24 ∷ 28 ∷ 28 ∷ 36 ∷ 42 ∷ 42 ∷ 44 ∷ 44 ∷ 44 ∷ 44 ∷ 49 ∷ 52 ∷ 52 ∷ 52 ∷ 52 ∷ 52 ∷ 55 ∷ 61 ∷ []
-
-abbrev opens_at : ℕ → ℕ → ℕ → Bool
-opens_at kind s e = (leb s e && leb e (length openings)) && same (take (e - s) (drop s openings)) (opening kind)
-
-pub opens : (kind : ℕ) → kind ≤ last_kind → Opens kind (span (get_or starts kind 0) (get_or starts (kind + 1) 0))
-opens kind h =
-    let s = get_or starts kind 0 in
-    let e = get_or starts (kind + 1) 0 in
-    let a = and_split (leb s e && leb e (length openings)) _ (holds-true (exhaust (λ (k : ℕ). opens_at k (get_or starts k 0) (get_or starts (k + 1) 0)) (suc last_kind) tt kind (omega arith))) in
-    let b = and_split (leb s e) (leb e (length openings)) a.0 in
-    record { order = leb-true s e b.0; inside = leb-true e (length openings) b.1; is = same_true (take (e - s) (drop s openings)) (opening kind) a.1 }
-
-filter_none : {A : Type 0} (p : A → Bool) (xs : List A) → All (λ (x : A). p x ≡ false) xs → filter_by p xs ≡ []
-filter_none p [] h = refl
-filter_none p (x ∷ xs) h = ap (λ (b : Bool). cond b (x ∷ filter_by p xs) (filter_by p xs)) h.0 ∙ filter_none p xs h.1
-
-pub opens-none : (kind : ℕ) → last_kind < kind → Opens kind (span 0 0)
-opens-none kind h = record {
-  order = omega arith;
-  inside = omega arith;
-  is = ap opening_in (sym (filter_none (λ (e : Entry). eqb e.kind kind) table (every-all (λ (e : Entry). leb e.kind last_kind) _ other table refl)));
-}
-  where
-    other : (e : Entry) → leb e.kind last_kind ≡ true → eqb e.kind kind ≡ false
-    other e t = ne_eqb e.kind kind (λ q. omega (arith, leb-true e.kind last_kind t))
-
-pub opening-length : {kind : ℕ} {s : Span} → Opens kind s → length (opening kind) ≡ s.end - s.start
-opening-length {kind} {s} o =
-    sym (ap length o.is) ∙ length-take (s.end - s.start) (drop s.start openings)
-    ∙ omega (arith, length-drop s.start openings, o.order, o.inside)
-
-module _ {n a b : ℕ} (e : n ≡ b - a) where
-  positive : a < b → 1 ≤ n
-  positive h = omega arith
-
-  empty : b ≤ a → n ≤ 0
-  empty h = omega arith
+use Rattle.qasm_writer.specs.Inner.Print.{name_in, name_of, indexed, qubit_if, others, head}
 
 -- ---- the line of a gate
-pub others-bit : (g : Gate) → g.kind ≡ measure → indexed (ascii "->c[") g.b ≡ others g
-others-bit g e = rw e
+module _ (g : Gate) where
+  abbrev qubits_of : ℕ → List ℕ
+  qubits_of count = qubit_if (leb 2 count) g.b ++ qubit_if (leb 3 count) g.c
 
-pub others-qubits : (g : Gate) (count : ℕ) → (g.kind ≡ measure → ⊥) → count ≡ arity g.kind → qubit_if (leb 2 count) g.b ++ qubit_if (leb 3 count) g.c ≡ others g
-others-qubits g count n e =
-    ap (λ (k : ℕ). qubit_if (leb 2 k) g.b ++ qubit_if (leb 3 k) g.c) e
-    ∙ ap (λ (t : Bool). cond t (indexed (ascii "->c[") g.b) (qubit_if (leb 2 (arity g.kind)) g.b ++ qubit_if (leb 3 (arity g.kind)) g.c)) (sym (ne_eqb g.kind measure n))
+  pub others-bit : {bit : ℕ} → bit_of g ≡ Some bit → indexed (ascii "->c[") bit ≡ others g
+  others-bit {bit} = by (eqb g.kind measure)
+    where
+      by : (t : Bool) → cond t (Some g.b) None ≡ Some bit → indexed (ascii "->c[") bit ≡ cond t (indexed (ascii "->c[") g.b) (qubits_of (arity g.kind))
+      by true e = let same : g.b ≡ bit = cc in ap (indexed (ascii "->c[")) (sym same)
+      by false e = absurd cc
+
+  pub others-qubits : {count : ℕ} → bit_of g ≡ None → count ≡ arity g.kind → qubits_of count ≡ others g
+  others-qubits {count} h e = ap qubits_of e ∙ by (eqb g.kind measure) h
+    where
+      by : (t : Bool) → cond t (Some g.b) None ≡ None → qubits_of (arity g.kind) ≡ cond t (indexed (ascii "->c[") g.b) (qubits_of (arity g.kind))
+      by true e = absurd cc
+      by false e = refl
 
 -- what follows its opening, with the operands behind the first
 abbrev pub follows : ℕ → List ℕ → List ℕ
@@ -146,52 +108,48 @@ parts_all = (
   ),
 )
 
--- a gate by the opening of its kind
-module _ (g : Gate) {s : Span} (o : Opens g.kind s) where
+-- a gate by the name of its kind
+module _ (g : Gate) where
   abbrev of : ℕ → Gate
   of kind = gate kind g.a g.b g.c g.k
 
-  -- there is one
-  module _ (h : s.start < s.end) where
-    some : 1 ≤ length (opening g.kind)
-    some = positive (opening-length o) h
+  pub gate-shown : {name : List ℕ} → name_of g.kind ≡ Some name → name ++ follows g.a (others g) ≡ gate_text g
+  gate-shown {name} = by (of_kind g.kind) (filter_all InParts is_kind table parts_all) (filter_true is_kind table)
+    where
+      is_kind : Entry → Bool
+      is_kind e = eqb e.kind g.kind
 
-    pub gate-shown : take (s.end - s.start) (drop s.start openings) ++ follows g.a (others g) ≡ gate_text g
-    gate-shown =
-        ap (λ (bs : List ℕ). bs ++ follows g.a (others g)) o.is
-        ∙ sym (by (of_kind g.kind) (filter_all InParts is_kind table parts_all) (filter_true is_kind table) some)
-      where
-        is_kind : Entry → Bool
-        is_kind e = eqb e.kind g.kind
+      by : (es : List Entry) → All InParts es → All (λ (e : Entry). is_kind e ≡ true) es → name_in es ≡ Some name → name ++ follows g.a (others g) ≡ gate_line g es
+      by [] p q h = absurd cc
+      by (e ∷ es) p q h =
+          let same : e.kind ≡ g.kind = eqb-true e.kind g.kind q.0 in
+          let named : e.name ++ ascii " " ≡ name = cc in
+          ap (λ (bs : List ℕ). bs ++ follows g.a (others g)) (sym named) ∙ ap (λ (kind : ℕ). (e.name ++ ascii " ") ++ follows g.a (others (of kind))) (sym same)
+          ∙ sym (p.0 g.a g.b g.c g.k) ∙ ap (λ (kind : ℕ). line [] (words (of kind)) e.name e.form) same
 
-        by : (es : List Entry) → All InParts es → All (λ (e : Entry). is_kind e ≡ true) es → 1 ≤ length (opening_in es) → gate_line g es ≡ opening_in es ++ follows g.a (others g)
-        by [] p q h = absurd (omega arith)
-        by (e ∷ es) p q h =
-            let same : e.kind ≡ g.kind = eqb-true e.kind g.kind q.0 in
-            ap (λ (kind : ℕ). line [] (words (of kind)) e.name e.form) (sym same) ∙ p.0 g.a g.b g.c g.k
-            ∙ ap (λ (kind : ℕ). (e.name ++ ascii " ") ++ follows g.a (others (of kind))) same
+  abbrev Named : List Entry → Bor (List ℕ) → Type 0
+  Named es name = (name_in es ≡ Some name.now) × (length name.now ≤ 8)
 
-    pub named : is_named g ≡ true
-    named = by (of_kind g.kind) some
-      where
-        by : (es : List Entry) → 1 ≤ length (opening_in es) → leb 1 (length es) ≡ true
-        by [] h = absurd (omega arith)
-        by (e ∷ es) h = le-leb 1 (suc (length es)) (omega arith)
+  pub named : (o : Option (Bor (List ℕ))) → MatchOption o (name_of g.kind ≡ None) (Named (of_kind g.kind)) → is_named g ≡ is_some o
+  named o = by o (of_kind g.kind)
+    where
+      by : (o : Option (Bor (List ℕ))) (es : List Entry) → MatchOption o (name_in es ≡ None) (Named es) → leb 1 (length es) ≡ is_some o
+      by None [] h = refl
+      by None (e ∷ es) h = absurd cc
+      by (Some name) [] h = absurd (let e = h.0 in cc)
+      by (Some name) (e ∷ es) h = le-leb 1 (suc (length es)) (omega arith)
 
   -- there is none
-  module _ (h : s.end ≤ s.start) where
+  module _ (h : name_of g.kind ≡ None) where
     no_entry : of_kind g.kind ≡ []
-    no_entry = by (of_kind g.kind) (empty (opening-length o) h)
+    no_entry = by (of_kind g.kind) h
       where
-        by : (es : List Entry) → length (opening_in es) ≤ 0 → es ≡ []
-        by [] l = refl
-        by (e ∷ es) l = absurd (omega (arith, length-append e.name (ascii " ")))
+        by : (es : List Entry) → name_in es ≡ None → es ≡ []
+        by [] h = refl
+        by (e ∷ es) h = absurd cc
 
     pub gate_hidden : [] ≡ gate_text g
     gate_hidden = ap (gate_line g) (sym no_entry)
-
-    pub nameless : is_named g ≡ false
-    nameless = ap (λ (es : List Entry). leb 1 (length es)) no_entry
 
 -- ---- the whole text
 pub head-then : (n m : ℕ) (gs : List Gate) → head n m ++ concat_map gate_text gs ≡ written n m gs

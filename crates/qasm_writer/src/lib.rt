@@ -9,10 +9,11 @@ ghost use Rattle.verdict.specs.Questions.{first_no};
 ghost use Rattle.gate.specs.Gate.{gates_of};
 ghost use Rattle.qasm_writer.specs.Call.{along, formed_at, named_at, word_questions, write_reply, room_after};
 
-use crate::printer::{name_span, put_text};
+use crate::printer::{name, put_text};
 use crate::room::is_within;
 use gate::GATE;
 use gate::judge::read_gate;
+use text::page::Writer;
 use verdict::{Refusal, Verdict};
 
 fn judge_formed(words: &[u32]) -> Verdict
@@ -32,8 +33,7 @@ fn judge_named(words: &[u32]) -> Verdict
 {
     for i in 0..words.len() / GATE {
         let g = read_gate(words, i * GATE);
-        let name = name_span(g.kind);
-        if name.end <= name.start {
+        if name(g).is_none() {
             return Err(Refusal::UnknownNameAt(i));
         }
     }
@@ -52,6 +52,7 @@ fn judge_words(words: &[u32]) -> Verdict
 }
 
 // Writes the text of a circuit into `out`: how many bytes it has. A refusal leaves `out` as it was.
+// Kept (together): the two counts and the words go on to `is_within` and `put_text` alone; a struct for them, with no store, would be built by each caller of this one function to be taken apart here.
 pub fn write_qasm(qubits: u32, bits: u32, gates: &[u32], out: &mut [u8]) -> Result<usize, Refusal>
     ensures value { result ≡ write_reply qubits bits gates.now out.old }
     ensures out_after { out.new ≡ room_after qubits bits gates.now out.old }
@@ -60,5 +61,7 @@ pub fn write_qasm(qubits: u32, bits: u32, gates: &[u32], out: &mut [u8]) -> Resu
     if !is_within(qubits, bits, gates, out.len()) {
         return Err(Refusal::ShortBuffer);
     }
-    Ok(put_text(out, qubits, bits, gates))
+    let mut w = Writer::new(out);
+    put_text(&mut w, qubits, bits, gates);
+    Ok(w.at)
 }

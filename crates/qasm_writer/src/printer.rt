@@ -1,144 +1,126 @@
 // The bytes of a text, put one after the other into lent room.
+// Kept (buffers): the number beside the bytes that open a bracket is put behind them: it is no length of them, and no place in them.
+// Kept (together): a writer, or the words, with both counts; a struct of two counts would serve these functions alone.
+ghost use Rattle.std.specs.Prelude.{◌≡◌, ◌≤◌, length, MatchOption, Some, None};
 ghost use Rattle.algebra.specs.Lists.{concat_map};
 ghost use Rattle.gate.specs.Gate.{gates_of};
+ghost use Rattle.gate.specs.Kinds.{number_of};
 ghost use Rattle.gate.specs.Inner.Words.{gate_of};
-ghost use Rattle.text.specs.Page.{page};
-ghost use Rattle.text.specs.Inner.Written.{Written};
+ghost use Rattle.text.specs.Inner.Puts.{Puts};
 ghost use Rattle.qasm.specs.Writing.{gate_text, written};
-ghost use Rattle.qasm_writer.specs.Inner.Print.{Opens, indexed, qubit_if, others, head};
+ghost use Rattle.qasm_writer.specs.Inner.Print.{name_of, indexed, qubit_if, others, head};
 
-use gate::judge::{GateWords, qubit_count, read_gate};
-use gate::{GATE, LAST_KIND, MEASURE};
-use qasm::bytes::Span;
-use text::page::{put, put_all, put_decimal};
+use gate::GATE;
+use gate::judge::{GateWords, read_gate};
+use gate::kinds::Kind;
+use text::page::Writer;
 
-// The names in the order of their kinds, each with the blank behind it.
-const NAMES: [u8; 61] = *b"h x z s sdg t tdg cx cz ccx measure reset y swap cy ch cswap ";
-
-// Where the name of each kind begins among them, and where the last one ends; a kind that has no name begins where the next one does.
-const STARTS: [usize; 28] = [
-    0, // h
-    2, // x
-    4, // z
-    6, // s
-    8, // sdg
-    12, // t
-    14, // tdg
-    18, // rz
-    18, // cx
-    21, // cz
-    24, // ccx
-    28, // ccz
-    28, // measure
-    36, // reset
-    42, // p
-    42, // y
-    44, // sx
-    44, // rx
-    44, // ry
-    44, // swap
-    49, // cy
-    52, // cp
-    52, // crx
-    52, // cry
-    52, // crz
-    52, // ch
-    55, // cswap
-    61,
-];
-
-// Where the name of a kind stands; an empty part for a kind that has none.
-pub fn name_span(kind: u32) -> Span
-    ensures { Opens kind result }
+// The name of a kind and the blank behind it; a kind may have none.
+fn name_of(kind: Kind) -> Option<&'static [u8]>
+    ensures { MatchOption result (name_of (number_of kind) ≡ None) (λ name. (name_of (number_of kind) ≡ Some name.now) × (length name.now ≤ 8)) }
 {
-    if LAST_KIND < kind {
-        return Span { start: 0, end: 0 };
+    match kind {
+        Kind::H => Some(b"h "),
+        Kind::X => Some(b"x "),
+        Kind::Z => Some(b"z "),
+        Kind::S => Some(b"s "),
+        Kind::Sdg => Some(b"sdg "),
+        Kind::T => Some(b"t "),
+        Kind::Tdg => Some(b"tdg "),
+        Kind::Cnot => Some(b"cx "),
+        Kind::Cz => Some(b"cz "),
+        Kind::Ccx => Some(b"ccx "),
+        Kind::Measure => Some(b"measure "),
+        Kind::Reset => Some(b"reset "),
+        Kind::Y => Some(b"y "),
+        Kind::Swap => Some(b"swap "),
+        Kind::Cy => Some(b"cy "),
+        Kind::Ch => Some(b"ch "),
+        Kind::Cswap => Some(b"cswap "),
+        _ => None,
     }
-    let starts = &STARTS;
-    let k = kind as usize;
-    Span {
-        start: starts[k],
-        end: starts[k + 1],
+}
+
+// The name of a gate's kind and the blank behind it, where its kind has a name.
+pub fn name(g: GateWords) -> Option<&'static [u8]>
+    ensures { MatchOption result (name_of g.kind ≡ None) (λ name. (name_of g.kind ≡ Some name.now) × (length name.now ≤ 8)) }
+{
+    match g.known_kind() {
+        Some(kind) => name_of(kind),
+        None => None,
     }
 }
 
 // A number in brackets, behind the bytes that open it.
-fn put_indexed(out: &mut [u8], at: usize, opening: &[u8], n: u32) -> usize
-    ensures { Written (page out.old at) (indexed opening.now n) (page out.new result) }
+fn put_indexed(out: &mut Writer<'_>, opening: &[u8], n: u32)
+    ensures { Puts out.old (indexed opening.now n) out.new }
 {
-    let a = put_all(out, at, opening);
-    let b = put_decimal(out, a, n as u64);
-    put(out, b, b']')
+    out.put_all(opening);
+    out.put_decimal(n as u64);
+    out.put(b']');
 }
 
 // One more qubit, if there is one.
-fn put_qubit(out: &mut [u8], at: usize, used: bool, n: u32) -> usize
-    ensures { Written (page out.old at) (qubit_if used n) (page out.new result) }
+fn put_qubit(out: &mut Writer<'_>, used: bool, n: u32)
+    ensures { Puts out.old (qubit_if used n) out.new }
 {
     if used {
-        return put_indexed(out, at, b",q[", n);
+        put_indexed(out, b",q[", n);
     }
-    at
 }
 
 // The operands of a gate behind the first.
-fn put_others(out: &mut [u8], at: usize, g: GateWords) -> usize
-    ensures { Written (page out.old at) (others (gate_of g)) (page out.new result) }
+fn put_others(out: &mut Writer<'_>, g: GateWords)
+    ensures { Puts out.old (others (gate_of g)) out.new }
 {
-    if g.kind == MEASURE {
-        return put_indexed(out, at, b"->c[", g.b);
+    match g.bit() {
+        Some(bit) => put_indexed(out, b"->c[", bit),
+        None => {
+            let count = g.qubit_count();
+            put_qubit(out, 2 <= count, g.b);
+            put_qubit(out, 3 <= count, g.c);
+        }
     }
-    let count = qubit_count(g.kind);
-    let a = put_qubit(out, at, 2 <= count, g.b);
-    put_qubit(out, a, 3 <= count, g.c)
 }
 
 // The line of a gate; nothing where its kind has no name.
-fn put_gate(out: &mut [u8], at: usize, g: GateWords) -> usize
-    ensures { Written (page out.old at) (gate_text (gate_of g)) (page out.new result) }
+fn put_gate(out: &mut Writer<'_>, g: GateWords)
+    ensures { Puts out.old (gate_text (gate_of g)) out.new }
 {
-    let name = name_span(g.kind);
-    let start = name.start;
-    let end = name.end;
-    if start < end {
-        let names: &[u8] = &NAMES;
-        let a = put_all(out, at, &names[start..end]);
-        let b = put_indexed(out, a, b"q[", g.a);
-        let c = put_others(out, b, g);
-        return put_all(out, c, b";\n");
+    if let Some(name) = name(g) {
+        out.put_all(name);
+        put_indexed(out, b"q[", g.a);
+        put_others(out, g);
+        out.put_all(b";\n");
     }
-    at
 }
 
-pub fn put_gates(out: &mut [u8], at: usize, words: &[u32]) -> usize
-    ensures { Written (page out.old at) (concat_map gate_text (gates_of words.now)) (page out.new result) }
+pub fn put_gates(out: &mut Writer<'_>, words: &[u32])
+    ensures { Puts out.old (concat_map gate_text (gates_of words.now)) out.new }
 {
-    let mut p = at;
     for i in 0..words.len() / GATE {
-        let g = read_gate(words, i * GATE);
-        p = put_gate(out, p, g);
+        put_gate(out, read_gate(words, i * GATE));
     }
-    p
 }
 
+// Kept (together): a writer with both counts; a struct of two counts would serve these two functions alone.
 // The header and both declarations.
-fn put_head(out: &mut [u8], qubits: u32, bits: u32) -> usize
-    ensures { Written (page out.old 0) (head qubits bits) (page out.new result) }
+fn put_head(out: &mut Writer<'_>, qubits: u32, bits: u32)
+    ensures { Puts out.old (head qubits bits) out.new }
 {
-    let a = put_indexed(
+    put_indexed(
         out,
-        0,
         b"OPENQASM 2.0;\ninclude \"qelib1.inc\";\nqreg q[",
         qubits,
     );
-    let b = put_indexed(out, a, b";\ncreg c[", bits);
-    put_all(out, b, b";\n")
+    put_indexed(out, b";\ncreg c[", bits);
+    out.put_all(b";\n");
 }
 
-// The text of a circuit, from the room's start on.
-pub fn put_text(out: &mut [u8], qubits: u32, bits: u32, words: &[u32]) -> usize
-    ensures { Written (page out.old 0) (written qubits bits (gates_of words.now)) (page out.new result) }
+// The text of a circuit.
+pub fn put_text(out: &mut Writer<'_>, qubits: u32, bits: u32, words: &[u32])
+    ensures { Puts out.old (written qubits bits (gates_of words.now)) out.new }
 {
-    let a = put_head(out, qubits, bits);
-    put_gates(out, a, words)
+    put_head(out, qubits, bits);
+    put_gates(out, words);
 }

@@ -1,14 +1,15 @@
 // How many bytes a text needs.
-ghost use Rattle.std.specs.Prelude.{◌≡◌, leb, length};
+// Kept (together): the counts and the words, as `write_qasm` takes them.
+ghost use Rattle.std.specs.Prelude.{◌≡◌, ◌≤◌, leb, length};
 ghost use Rattle.gate.specs.Gate.{gates_of};
 ghost use Rattle.gate.specs.Inner.Words.{gate_of};
-ghost use Rattle.text.specs.Decimal.{decimal};
+ghost use Rattle.text.specs.Decimal.{word_digits, decimal};
 ghost use Rattle.qasm.specs.Writing.{gate_text, written};
 ghost use Rattle.qasm_writer.specs.Inner.Print.{qubit_if, others};
 
-use crate::printer::name_span;
-use gate::judge::{GateWords, qubit_count, read_gate};
-use gate::{GATE, MEASURE};
+use crate::printer::name;
+use gate::GATE;
+use gate::judge::{GateWords, read_gate};
 
 // The bytes of the header and of both declarations, but for the numbers.
 const HEAD: usize = 56;
@@ -21,21 +22,20 @@ const QUBIT: usize = 4;
 const BIT: usize = 5;
 
 fn decimal_length(n: u32) -> usize
-    ensures { result ≡ length (decimal n) }
+    ensures value { result ≡ length (decimal n) }
+    ensures few { result ≤ word_digits }
 {
-    let mut k = 1;
-    let mut rest = n;
-    // Kept: it follows the digits that are left, and counts them.
-    while 10 <= rest {
-        rest /= 10;
-        k += 1;
+    if n < 10 {
+        1
+    } else {
+        decimal_length(n / 10) + 1
     }
-    k
 }
 
 // The bytes of one more qubit, if there is one.
 fn qubit_length(used: bool, n: u32) -> usize
-    ensures { result ≡ length (qubit_if used n) }
+    ensures value { result ≡ length (qubit_if used n) }
+    ensures few { result ≤ 24 }
 {
     if used {
         return QUBIT + decimal_length(n);
@@ -45,24 +45,26 @@ fn qubit_length(used: bool, n: u32) -> usize
 
 // The bytes of the operands of a gate behind the first.
 fn others_length(g: GateWords) -> usize
-    ensures { result ≡ length (others (gate_of g)) }
+    ensures value { result ≡ length (others (gate_of g)) }
+    ensures few { result ≤ 48 }
 {
-    if g.kind == MEASURE {
-        return BIT + decimal_length(g.b);
+    match g.bit() {
+        Some(bit) => BIT + decimal_length(bit),
+        None => {
+            let count = g.qubit_count();
+            qubit_length(2 <= count, g.b) + qubit_length(3 <= count, g.c)
+        }
     }
-    let count = qubit_count(g.kind);
-    qubit_length(2 <= count, g.b) + qubit_length(3 <= count, g.c)
 }
 
 // The bytes of a gate's line; 0 where its kind has no name.
 fn line_length(g: GateWords) -> usize
     ensures { result ≡ length (gate_text (gate_of g)) }
 {
-    let name = name_span(g.kind);
-    if name.start < name.end {
-        return (name.end - name.start) + FIRST + decimal_length(g.a) + others_length(g);
+    match name(g) {
+        Some(name) => name.len() + FIRST + decimal_length(g.a) + others_length(g),
+        None => 0,
     }
-    0
 }
 
 // Whether the text of a circuit has at most so many bytes.

@@ -4,17 +4,16 @@ use mathlib.Core.Bool.{Bool, true, false, cond}
 use mathlib.Core.List.{List, [], ◌∷◌, ◌++◌}
 use Prim.Native.Nat.{ℕ, zero, suc, ◌+◌, ◌/◌, ◌%◌, ◌^◌, ◌<◌, ◌≤◌}
 use Prim.Native.Char.{code}
-use native.Mathlib.Nat.{pow-suc}
+use native.Mathlib.Nat.{pow-suc, mod-eq_of_lt}
 use native.Mathlib.Omega.{arith}
-use lib.Dec.{T, ltb}
-use lib.IntN.{ℤ, pos, negsuc, neg_ℤ, ◌+ℤ◌, ◌-ℤ◌, nat_abs, neg_ℤ-neg_ℤ, +ℤ_one}
-use lib.Signed.{lt_z, mag, non_neg}
-use mir.Syntax.{Width, w64}
-use mir.Val.{Fits, SFits, to_z, of_z}
+use lib.Dec.{ltb}
+use lib.IntN.{ℤ, pos, negsuc, nat_abs}
+use lib.Signed.{lt_z, mag}
+use mir.Syntax.{w64}
+use mir.Val.{SFits, to_z, of_z}
 use mir.Facts.{to_z-of_z}
 use borrow.Author.Tests.{lt-ltb, le-ltb, ltb-false}
-use Rattle.algebra.proofs.Parts.{sfits_abs}
-use Rattle.algebra.proofs.Signed.{neg_fits, neg_back, is_neg, not_neg}
+use Rattle.algebra.proofs.Signed.{is_neg, not_neg}
 use Rattle.text.specs.Decimal.{digits, decimal, signed}
 
 -- ---- digits
@@ -35,9 +34,9 @@ unfolding digits
 digits_more zero n h = joins-same n (ltb n 10) (digits 1 (n / 10)) [] (λ f. absurd (omega (arith, ltb-false n 10 f)))
 digits_more (suc k) n h = joins-same n (ltb n 10) (digits (suc (suc k)) (n / 10)) (digits (suc k) (n / 10)) (λ f. digits_more k (n / 10) (omega (arith, pow-suc 10 (suc k))))
 
-pub decimal-one : (n : ℕ) → n < 10 → decimal n ≡ (48 + n) ∷ []
+pub decimal-one : (n : ℕ) → n < 10 → decimal n ≡ (48 + n % 10) ∷ []
 unfolding digits
-decimal-one n h = ap (joins n (digits 19 (n / 10))) (lt-ltb n 10 h)
+decimal-one n h = ap (joins n (digits 19 (n / 10))) (lt-ltb n 10 h) ∙ ap (λ (k : ℕ). (48 + k) ∷ []) (sym (mod-eq_of_lt h))
 
 -- all digits but the last, then the last
 pub decimal-more : (n : ℕ) → 10 ≤ n → n < 2 ^ 64 → decimal n ≡ decimal (n / 10) ++ last n
@@ -45,53 +44,12 @@ unfolding digits
 decimal-more n g h = ap (joins n (digits 19 (n / 10))) (le-ltb n 10 g) ∙ ap (λ (xs : List ℕ). xs ++ last n) (sym (digits_more 18 (n / 10) (omega arith)))
 
 -- ---- numbers below zero
--- what a cast of a word asks
-abbrev Casts : Width → ℤ → Type 0
-Casts w z = T (non_neg z) × Fits w (nat_abs z)
-
-after : (m : ℕ) → negsuc m +ℤ pos 1 ≡ neg_ℤ (pos m)
-after zero = refl
-after (suc m) = +ℤ_one (negsuc (suc m))
-
-abs_back : (m : ℕ) → nat_abs (neg_ℤ (pos m)) ≡ m
-abs_back zero = refl
-abs_back (suc m) = refl
-
 module _ (z : ℤ) (f : SFits w64 z) (e : lt_z (to_z w64 (of_z w64 z)) (pos 0) ≡ true) where
   below : z ≡ negsuc (mag z)
   below = is_neg z (subst (λ (x : ℤ). lt_z x (pos 0) ≡ true) (to_z-of_z f) e)
-
-  next : to_z w64 (of_z w64 z) +ℤ pos 1 ≡ neg_ℤ (pos (mag z))
-  next = ap (λ (x : ℤ). x +ℤ pos 1) (to_z-of_z f ∙ below) ∙ after (mag z)
-
-  small : nat_abs (to_z w64 (of_z w64 z) +ℤ pos 1) < 2 ^ 63
-  small = omega (arith, f.sfits, ap nat_abs next ∙ abs_back (mag z))
-
-  pub next_fits : SFits w64 (to_z w64 (of_z w64 z) +ℤ pos 1)
-  next_fits = sfits_abs {w = w64} small
-
-  pub turned-fits : SFits w64 (pos 0 -ℤ to_z w64 (of_z w64 (to_z w64 (of_z w64 z) +ℤ pos 1)))
-  turned-fits = neg_fits (to_z w64 (of_z w64 z) +ℤ pos 1) small
-
-  turned : to_z w64 (of_z w64 (pos 0 -ℤ to_z w64 (of_z w64 (to_z w64 (of_z w64 z) +ℤ pos 1)))) ≡ pos (mag z)
-  turned = neg_back (to_z w64 (of_z w64 z) +ℤ pos 1) small ∙ ap neg_ℤ next ∙ neg_ℤ-neg_ℤ (pos (mag z))
-
-  pub turned_casts : Casts w64 (to_z w64 (of_z w64 (pos 0 -ℤ to_z w64 (of_z w64 (to_z w64 (of_z w64 z) +ℤ pos 1)))))
-  turned_casts = subst (Casts w64) (sym turned) (tt, record { fits = omega (arith, f.sfits) })
-
-  pub size_fits : Fits w64 (nat_abs (to_z w64 (of_z w64 (pos 0 -ℤ to_z w64 (of_z w64 (to_z w64 (of_z w64 z) +ℤ pos 1))))) + 1)
-  size_fits = record { fits = omega (arith, f.sfits, ap nat_abs turned) }
-
-  pub size_is : nat_abs (to_z w64 (of_z w64 (pos 0 -ℤ to_z w64 (of_z w64 (to_z w64 (of_z w64 z) +ℤ pos 1))))) + 1 ≡ nat_abs z
-  size_is = omega (arith, ap nat_abs turned, ap nat_abs below)
 
   pub signed_below : code "-" ∷ decimal (nat_abs z) ≡ signed z
   signed_below = ap (λ (x : ℤ). code "-" ∷ decimal (nat_abs x)) below ∙ ap signed (sym below)
 
 pub signed_natural : (z : ℤ) → SFits w64 z → lt_z (to_z w64 (of_z w64 z)) (pos 0) ≡ false → decimal (nat_abs z) ≡ signed z
 signed_natural z f e = ap signed (sym (not_neg z (subst (λ (x : ℤ). lt_z x (pos 0) ≡ false) (to_z-of_z f) e)))
-
-pub natural_casts : (z : ℤ) → SFits w64 z → lt_z (to_z w64 (of_z w64 z)) (pos 0) ≡ false → Casts w64 (to_z w64 (of_z w64 z))
-natural_casts z f e =
-    let n = not_neg z (subst (λ (x : ℤ). lt_z x (pos 0) ≡ false) (to_z-of_z f) e) in
-    subst (Casts w64) (sym (to_z-of_z f ∙ n)) (tt, record { fits = omega (arith, f.sfits, ap mag n) })

@@ -9,48 +9,53 @@ use lib.Dec.{ltb}
 use lib.ListN.{length, set, length-set}
 use lib.Seq.{sets}
 use borrow.Author.Tests.{lt-ltb, le-ltb, ltb-true}
+use Rattle.text.specs.declared.page.Writer.{Writer}
 use Rattle.text.specs.Page.{Page, page, put, write}
-use Rattle.text.specs.Inner.Written.{Written}
+use Rattle.text.specs.Inner.Puts.{Puts}
+
+-- the room of a writer, and where its next byte goes
+abbrev page_of : Writer → Page
+page_of w = page w.room.now w.at
 
 -- ---- one byte
 module _ (l : List ℕ) (at b : ℕ) where
-  pub put_in : at < length l → Written (page l at) (b ∷ []) (page (set l at b) (at + 1))
+  pub put_in : at < length l → page (set l at b) (at + 1) ≡ write (page l at) (b ∷ [])
   unfolding put write
-  put_in h = record { is = ap (λ (t : Bool). cond t (page (set l at b) (at + 1)) (page l at)) (sym (lt-ltb at (length l) h)) }
+  put_in h = ap (λ (t : Bool). cond t (page (set l at b) (at + 1)) (page l at)) (sym (lt-ltb at (length l) h))
 
-  pub put_out : length l ≤ at → Written (page l at) (b ∷ []) (page l at)
+  pub put_out : length l ≤ at → page l at ≡ write (page l at) (b ∷ [])
   unfolding put write
-  put_out h = record { is = ap (λ (t : Bool). cond t (page (set l at b) (at + 1)) (page l at)) (sym (le-ltb at (length l) h)) }
+  put_out h = ap (λ (t : Bool). cond t (page (set l at b) (at + 1)) (page l at)) (sym (le-ltb at (length l) h))
 
 -- ---- one text after another
-pub none : (p : Page) → Written p [] p
+pub none : (w : Writer) → Puts w [] w
 unfolding write
-none p = record { is = refl }
+none w = record { same = refl; is = refl }
 
-pub then : {p q r : Page} {xs ys : List ℕ} → Written p xs q → Written q ys r → Written p (xs ++ ys) r
+pub then : {u v w : Writer} {xs ys : List ℕ} → Puts u xs v → Puts v ys w → Puts u (xs ++ ys) w
 unfolding write
-then {p} {xs = xs} {ys} e f = record { is = f.is ∙ ap (λ (q : Page). write q ys) e.is ∙ sym (foldl-append put p xs ys) }
+then {u} {xs = xs} {ys} e f = record { same = f.same ∙ e.same; is = f.is ∙ ap (λ (q : Page). write q ys) e.is ∙ sym (foldl-append put (page_of u) xs ys) }
 
 -- the same text
-pub text : {p q : Page} {xs ys : List ℕ} → xs ≡ ys → Written p xs q → Written p ys q
-text {p} {q} e w = subst (λ (bs : List ℕ). Written p bs q) e w
+pub text : {u v : Writer} {xs ys : List ℕ} → xs ≡ ys → Puts u xs v → Puts u ys v
+text {u} {v} e w = subst (λ (bs : List ℕ). Puts u bs v) e w
 
--- the room stays as long as it was
-put_long : (p : Page) (b : ℕ) → length (put p b).room ≡ length p.room
-unfolding put
-put_long p b = by (ltb p.at (length p.room))
-  where
-    by : (t : Bool) → length (cond t (page (set p.room p.at b) (p.at + 1)) p).room ≡ length p.room
-    by true = length-set p.room p.at b
-    by false = refl
+-- a writer by another name, as after the branches of an `if`
+pub onto : {u v w : Writer} {xs : List ℕ} → w ≡ v → Puts u xs v → Puts u xs w
+onto {u} {xs = xs} e p = subst (λ (w : Writer). Puts u xs w) (sym e) p
 
-write_long : (p : Page) (bs : List ℕ) → length (write p bs).room ≡ length p.room
+-- a page on which nothing is put
+pub nothing : (p : Page) {bs : List ℕ} → [] ≡ bs → p ≡ write p bs
 unfolding write
-write_long p [] = refl
-write_long p (b ∷ bs) = write_long (put p b) bs ∙ put_long p b
+nothing p e = ap (write p) e
 
-pub long : {p q : Page} {bs : List ℕ} → Written p bs q → length q.room ≡ length p.room
-long {p} {bs = bs} w = ap (λ (q : Page). length q.room) w.is ∙ write_long p bs
+-- what a room that was lent to a writer holds, once the writer is gone
+pub lent : {o bs after : List ℕ} {u v : Writer} → u.room.now ≡ o → u.at ≡ 0 → Puts u bs v → after ≡ v.room.now → page after v.at ≡ write (page o 0) bs
+lent {bs = bs} {v = v} e f w a = ap (λ (l : List ℕ). page l v.at) a ∙ w.is ∙ (λ i. write (page (e i) (f i)) bs)
+
+-- what it holds by another name
+pub lent_is : {after l m : List ℕ} → l ≡ m → after ≡ l → after ≡ m
+lent_is e a = a ∙ e
 
 -- the next byte's place is inside the room, or its end
 put-inside : (p : Page) (b : ℕ) → p.at ≤ length p.room → (put p b).at ≤ length (put p b).room
@@ -75,28 +80,28 @@ unfolding write
 write-from [] l at h = let e : at ≡ at + 0 = omega arith in ap (page l) e
 write-from (b ∷ bs) l at h =
     let e : at + 1 + length bs ≡ at + suc (length bs) = omega arith in
-    ap (λ p. write p bs) (sym (put_in l at b (omega arith)).is)
+    ap (λ p. write p bs) (sym (put_in l at b (omega arith)))
     ∙ write-from bs (set l at b) (at + 1) (omega (arith, length-set l at b))
     ∙ (λ i. page (sets (set l at b) (add-one at i) bs) (e i))
 
--- q is p after a part of zs, of which ys is left
-pub record Left (p : Page) (zs : List ℕ) (q : Page) (ys : List ℕ) : Type 0 where
-  pub is : write p zs ≡ write q ys
-  pub same : length q.room ≡ length p.room
+-- v is u after a part of zs, of which ys is left
+pub record Left (u : Writer) (zs : List ℕ) (v : Writer) (ys : List ℕ) : Type 0 where
+  pub same : v.room.ghost_name ≡ u.room.ghost_name
+  pub is : write (page_of u) zs ≡ write (page_of v) ys
 
-pub left-all : (p : Page) (zs : List ℕ) → Left p zs p zs
-left-all p zs = record { is = refl; same = refl }
+pub left-all : (w : Writer) (zs : List ℕ) → Left w zs w zs
+left-all w zs = record { same = refl; is = refl }
 
-pub left_less : {p q r : Page} {xs ys zs : List ℕ} → Left p zs q (xs ++ ys) → Written q xs r → Left p zs r ys
+pub left_less : {u v w : Writer} {xs ys zs : List ℕ} → Left u zs v (xs ++ ys) → Puts v xs w → Left u zs w ys
 unfolding write
-left_less {q = q} {xs = xs} {ys} l w = record {
-  is = l.is ∙ foldl-append put q xs ys ∙ ap (λ (r : Page). write r ys) (sym w.is);
-  same = long w ∙ l.same;
+left_less {v = v} {xs = xs} {ys} l w = record {
+  same = w.same ∙ l.same;
+  is = l.is ∙ foldl-append put (page_of v) xs ys ∙ ap (λ (r : Page). write r ys) (sym w.is);
 }
 
-pub left-none : {p q : Page} {zs : List ℕ} → Left p zs q [] → Written p zs q
+pub left-none : {u v : Writer} {zs : List ℕ} → Left u zs v [] → Puts u zs v
 unfolding write
-left-none l = record { is = sym l.is }
+left-none l = record { same = l.same; is = sym l.is }
 
-pub left_is : {p q : Page} {zs xs ys : List ℕ} → xs ≡ ys → Left p zs q xs → Left p zs q ys
-left_is {p} {q} {zs} e l = subst (Left p zs q) e l
+pub left_is : {u v : Writer} {zs xs ys : List ℕ} → xs ≡ ys → Left u zs v xs → Left u zs v ys
+left_is {u} {v} {zs} e l = subst (Left u zs v) e l

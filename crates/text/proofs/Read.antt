@@ -2,8 +2,7 @@
 use mathlib.Core.Path.{◌≡◌, refl, sym, ap, ◌∙◌}
 use mathlib.Core.Bool.{Bool, true, false, cond, ◌&&◌}
 use mathlib.Core.List.{List, ◌∷◌, foldl}
-use Prim.Native.Nat.{ℕ, ◌+◌, ◌*◌, ◌-◌, ◌^◌, ◌<◌, ◌≤◌}
-use native.Mathlib.Nat.{pow-suc, pow-le-pow_right, lt_of_lt_of_le}
+use Prim.Native.Nat.{ℕ, ◌+◌, ◌^◌, ◌<◌, ◌≤◌}
 use native.Mathlib.Numerals.{add-one}
 use native.Mathlib.Omega.{arith}
 use lib.Dec.{leb}
@@ -39,19 +38,8 @@ module _ (p : List ℕ) where
       rest : drop i p ≡ b ∷ drop (i + 1) p
       rest = drop-cons p i 0 h ∙ ap (λ (k : ℕ). b ∷ drop k p) (sym (add-one i))
 
-      pub read_more : is_digit b ≡ true → Reading p (v * 10 + (b - 48)) (i + 1)
-      read_more e = record {
-        count = omega arith;
-        digits = r.digits ∙ ap (every is_digit) rest ∙ ap (λ (c : Bool). c && every is_digit (drop (i + 1) p)) e;
-        is = r.is ∙ ap (foldl digit v) rest;
-        small = let t = digit-range b e in rw (add-one i) (omega (arith, pow-suc 10 i, r.small));
-      }
-
       pub read_bad : is_digit b ≡ false → every is_digit p ≡ false
       read_bad e = r.digits ∙ ap (every is_digit) rest ∙ ap (λ (c : Bool). c && every is_digit (drop (i + 1) p)) e
-
-    pub read_fits : i < 10 → v < 1000000000
-    read_fits h = let q : i ≤ 9 = omega arith in lt_of_lt_of_le r.small (pow-le-pow_right {n = 10} (omega arith) q)
 
     module _ (h : length p ≤ i) where
       pub read-digits : every is_digit p ≡ true

@@ -1,3 +1,3 @@
 -- What contracts of inner functions need.
-pub mod Written
+pub mod Puts
 pub mod Number

@@ -1,47 +1,60 @@
-// Bytes put one after the other into lent room. Each call takes where the next byte goes, and answers where the next one goes then;
-// a byte for which there is no room is left out.
+// Bytes put one after the other into lent room.
 ghost use Rattle.std.specs.Prelude.{◌≡◌, ◌∷◌, []};
 ghost use Rattle.text.specs.Decimal.{decimal, signed};
-ghost use Rattle.text.specs.Page.{page};
-ghost use Rattle.text.specs.Inner.Written.{Written};
+ghost use Rattle.text.specs.Inner.Puts.{Puts};
 
-pub fn put(out: &mut [u8], at: usize, b: u8) -> usize
-    ensures { Written (page out.old at) (b ∷ []) (page out.new result) }
-{
-    if at < out.len() {
-        out[at] = b;
-        return at + 1;
-    }
-    at
+// Lent room, and where its next byte goes. A byte for which there is no room is left out.
+// Kept: no Display and write!: the library promises their text only where they answer Ok, and no clause says when that is; these calls always write.
+#[derive(Drop)]
+pub struct Writer<'a> {
+    pub room: &'a mut [u8],
+    pub at: usize,
 }
 
-pub fn put_all(out: &mut [u8], at: usize, bytes: &[u8]) -> usize
-    ensures { Written (page out.old at) bytes.now (page out.new result) }
-{
-    let mut p = at;
-    for &b in bytes {
-        p = put(out, p, b);
+impl<'a> Writer<'a> {
+    // From the room's start on.
+    pub fn new(room: &'a mut [u8]) -> Writer<'a>
+        ensures same { result.room.ghost_name ≡ room.entry.ghost_name }
+        ensures room { result.room.now ≡ room.old }
+        ensures at { result.at ≡ 0 }
+    {
+        Writer { room, at: 0 }
     }
-    p
-}
 
-// A number, in decimal digits.
-pub fn put_decimal(out: &mut [u8], at: usize, n: u64) -> usize
-    ensures { Written (page out.old at) (decimal n) (page out.new result) }
-{
-    if n < 10 {
-        return put(out, at, b'0' + n as u8);
+    pub fn put(&mut self, b: u8)
+        ensures { Puts self.old (b ∷ []) self.new }
+    {
+        let at = self.at;
+        if at < self.room.len() {
+            self.room[at] = b;
+            self.at = at + 1;
+        }
     }
-    let p = put_decimal(out, at, n / 10);
-    put(out, p, b'0' + (n % 10) as u8)
-}
 
-pub fn put_signed(out: &mut [u8], at: usize, z: i64) -> usize
-    ensures { Written (page out.old at) (signed z) (page out.new result) }
-{
-    if z < 0 {
-        let p = put(out, at, b'-');
-        return put_decimal(out, p, z.unsigned_abs());
+    pub fn put_all(&mut self, bytes: &[u8])
+        ensures { Puts self.old bytes.now self.new }
+    {
+        for b in bytes {
+            self.put(*b);
+        }
     }
-    put_decimal(out, at, z.unsigned_abs())
+
+    // A number, in decimal digits.
+    pub fn put_decimal(&mut self, n: u64)
+        ensures { Puts self.old (decimal n) self.new }
+    {
+        if 10 <= n {
+            self.put_decimal(n / 10);
+        }
+        self.put(b'0' + (n % 10) as u8);
+    }
+
+    pub fn put_signed(&mut self, z: i64)
+        ensures { Puts self.old (signed z) self.new }
+    {
+        if z < 0 {
+            self.put(b'-');
+        }
+        self.put_decimal(z.unsigned_abs());
+    }
 }

@@ -1,25 +1,15 @@
 -- A text has no more gates than bytes.
 use mathlib.Core.Bool.{Bool, true, false, cond, not}
 use mathlib.Core.List.{List, [], ◌∷◌}
-use Prim.Native.Nat.{ℕ, zero, suc, ◌+◌, ◌≤◌}
+use Prim.Native.Nat.{ℕ, suc, ◌+◌, ◌≤◌}
 use native.Mathlib.Omega.{arith}
-use lib.ListN.{length, drop, take, length-drop}
+use lib.ListN.{length}
 use Rattle.algebra.specs.Lists.{filter_by}
 use Rattle.text.specs.Ascii.{ascii}
-use Rattle.qasm.specs.Tokens.{same, is_blank, run, is_gap, more, Token, token, tokens}
+use Rattle.qasm.specs.Tokens.{same, is_blank, run, Token}
 use Rattle.qasm.specs.Forms.{header}
+use Rattle.qasm.proofs.Scanning.{from-few}
 use Rattle.statements.specs.Statements.{body, opens, declares, gate_count}
-
-tokens-few : (at k : ℕ) (bs : List ℕ) → length (tokens at k bs) ≤ length bs
-unfolding tokens
-tokens-few at k [] = omega arith
-tokens-few at (suc k) (b ∷ bs) = let h = tokens-few (suc at) k bs in omega arith
-tokens-few at zero (b ∷ bs) = by (is_gap b bs) (tokens-few (suc at) (more b bs) bs)
-  where
-    by : (c : Bool) → length (tokens (suc at) (more b bs) bs) ≤ length bs
-        → length (cond c (tokens (suc at) (more b bs) bs) (token at (b ∷ take (more b bs) bs) ∷ tokens (suc at) (more b bs) bs)) ≤ suc (length bs)
-    by true h = omega arith
-    by false h = omega arith
 
 opens-few : (now : Bool) (ts : List Token) → length (opens now ts) ≤ length ts
 unfolding opens
@@ -46,6 +36,5 @@ gates-few t =
     let after = run is_blank t + length header in
     let a : gate_count t ≤ length (opens true (body t)) = filter_few (λ (k : Token). not (declares k.bytes)) (opens true (body t)) in
     let b : length (opens true (body t)) ≤ length (body t) = opens-few true (body t) in
-    let c : length (body t) ≤ length (drop after t) = tokens-few after 0 (drop after t) in
-    let d = length-drop after t in
+    let c : length (body t) ≤ length t = from-few t after in
     omega arith

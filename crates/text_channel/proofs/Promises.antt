@@ -9,7 +9,7 @@ use lib.IntN.{ℤ}
 use borrow.Author.Tests.{le-leb, lt-leb}
 use Rattle.circuit.specs.declared.limits.Limits.{Limits}
 use Rattle.text.specs.Page.{page, write}
-use Rattle.text.proofs.Put.{none}
+use Rattle.text.proofs.Put.{nothing}
 use Rattle.qasm.specs.declared.reader.Reading.{Reading}
 use Rattle.qasm.specs.Reading.{read_of, filled}
 use Rattle.answer_lines.specs.declared.Which.TheVariants.{Only}
@@ -30,11 +30,11 @@ module _ (t σ : List ℕ) (l : Limits) (g : List ℕ) (r w : List ℤ) (o : Lis
   words x = said t σ l g r w o (only_gates t σ l g r w o) x
 
   pub short : length o < max_answer → page o 0 ≡ write (page o 0) (only_text t σ l g r w o)
-  short h = (none (page o 0)).is ∙ ap (write (page o 0)) (out_of_room h (words (only t σ l g r w o)) [])
+  short h = nothing (page o 0) (out_of_room h (words (only t σ l g r w o)) [])
 
   module _ (h : max_answer ≤ length o) where
     pub fine : {x : Reading} → Ok x ≡ side_by σ l g r w (read_of t) → page o 0 ≡ write (page o 0) (only_text t σ l g r w o)
-    fine e = (none (page o 0)).is ∙ ap (write (page o 0)) (ap words e ∙ in_room h (words (only t σ l g r w o)) [])
+    fine e = nothing (page o 0) (ap words e ∙ in_room h (words (only t σ l g r w o)) [])
 
     pub told : {why : NoChannel} → Err why ≡ side_by σ l g r w (read_of t) → {g' : List ℕ} → g' ≡ filled g (read_of t)
         → {n : ℕ} {o' : List ℕ} → page o' n ≡ write (page o 0) (refusal_text Only t g' why) → page o' n ≡ write (page o 0) (only_text t σ l g r w o)

@@ -1,5 +1,5 @@
 -- Why a text has no channel, for people.
-use Rattle.std.specs.Prelude.{cond, ◌||◌, List, [], ℕ, ◌*◌, ◌/◌, eqb, ltb, length, take, drop, Option, Some, None, Err}
+use Rattle.std.specs.Prelude.{cond, ◌||◌, List, [], ℕ, ◌*◌, ◌/◌, eqb, ltb, length, take, drop, Option, Some, None}
 use Rattle.verdict.specs.declared.Refusal.{Refusal}
 use Rattle.verdict.specs.Verdict.{refusal_number, refusal_index}
 use Rattle.gate.specs.Gate.{gate_size}
@@ -17,7 +17,7 @@ abbrev pub gate_of : Refusal → Option ℕ
 gate_of r = let k = refusal_number r in cond ((eqb k 2 || eqb k 3) || eqb k 5) (Some (refusal_index r)) None
 
 abbrev pub fault : Refusal → ℕ → Place → ℕ → Fault
-fault r at p gates = record { verdict = Err r; position = at; line = p.line; column = p.column; gates = gates }
+fault r at p gates = record { refusal = r; position = at; line = p.line; column = p.column; gates = gates }
 
 abbrev pub no_place : Place
 no_place = record { line = 0; column = 0 }

@@ -1,4 +1,5 @@
 // The channel of the circuit in a text of OpenQASM 2, or why there is none, in words.
+// Kept (together): the lent buffers. In one struct they would be lent anew for each text, and each contract would say of each buffer that it is the same one, beside what it holds.
 #![tactic(auto)]
 
 pub mod refusals;

@@ -2,7 +2,6 @@
 ghost use Rattle.std.specs.Prelude.{◌≡◌, ◌≤◌, ◌/◌, length};
 ghost use Rattle.gate.specs.Gate.{gate_size};
 ghost use Rattle.text.specs.Page.{page, write};
-ghost use Rattle.text.specs.Inner.Written.{Written};
 ghost use Rattle.answer_lines.specs.Lines.{refused_text};
 ghost use Rattle.statements.specs.Statements.{gate_count};
 ghost use Rattle.text_sides.specs.Sides.{words_read};
@@ -13,6 +12,7 @@ use answer_lines::{Fault, Which, put_refused};
 use answers::places::place_of;
 use gate::GATE;
 use statements::find_gate;
+use text::page::Writer;
 use text_sides::NoChannel;
 use verdict::Refusal;
 
@@ -33,7 +33,7 @@ pub fn no_place(refusal: Refusal, gates: usize) -> Fault
     ensures { result ≡ fault refusal 0 no_place gates }
 {
     Fault {
-        verdict: Err(refusal),
+        refusal,
         position: 0,
         line: 0,
         column: 0,
@@ -47,7 +47,7 @@ fn fault_at(text: &[u8], refusal: Refusal, position: usize) -> Fault
 {
     let p = place_of(text, position);
     Fault {
-        verdict: Err(refusal),
+        refusal,
         position,
         line: p.line,
         column: p.column,
@@ -103,6 +103,7 @@ pub fn refuse(out: &mut [u8], which: Which, text: &[u8], gates: &[u32], why: NoC
 {
     let fault = fault_of(text, why);
     let room = gates.len() / GATE;
-    let bytes = put_refused(out, which, fault, faulty_gate(gates, why), room);
-    Refused { fault, bytes }
+    let mut w = Writer::new(out);
+    put_refused(&mut w, which, fault, faulty_gate(gates, why), room);
+    Refused { fault, bytes: w.at }
 }

@@ -1,5 +1,5 @@
 -- What is read of a text, from the reader's reply: a circuit that is run, or a fault.
-use Rattle.std.specs.Prelude.{Ok, Err}
+use Rattle.std.specs.Prelude.{Result, Ok, Err}
 use Rattle.std.specs.Result.{result_map_both}
 use mathlib.Core.Path.{◌≡◌, refl, sym, ap, ◌∙◌}
 use mathlib.Core.Bool.{Bool, true, false, cond}
@@ -18,6 +18,7 @@ use Rattle.judge.specs.Call.{verdict_of, result_after, work_after}
 use Rattle.qasm.specs.declared.reader.Reading.{Reading}
 use Rattle.qasm.specs.declared.reader.Fault.{Fault}
 use Rattle.qasm.specs.Reading.{Outcome, circuit, refused, fault_at, reply, filled}
+use Rattle.text_sides.specs.declared.NoChannel.{NoChannel}
 use Rattle.text_sides.specs.declared.NoChannel.TheVariants.{Faulty, Refused}
 use Rattle.text_sides.specs.Sides.{store_for, side_by, result_by, work_by}
 use Rattle.text_sides.proofs.Padding.{at-start}
@@ -44,6 +45,12 @@ module _ (g : List ℕ) (r : Reading) where
       by true f h = read_circuit n m ws f (cc)
       by false f h = absurd (cc)
 
+-- what is answered, and what both buffers have
+pub record Run (σ : List ℕ) (l : Limits) (g : List ℕ) (r w : List ℤ) (o : Outcome) (a : Result Reading NoChannel) (x y : List ℤ) : Type 0 where
+  pub side : a ≡ side_by σ l g r w o
+  pub res : x ≡ result_by σ l g r w o
+  pub work : y ≡ work_by σ l g r w o
+
 -- ---- a circuit that is run, on the words that were read
 module _ {g : List ℕ} {o : Outcome} {r : Reading} (k : Taken g o r) {g' : List ℕ} (f : g' ≡ filled g o) where
   gates_are : g' ≡ sets g 0 k.ws
@@ -59,38 +66,46 @@ module _ (σ : List ℕ) (l : Limits) {g : List ℕ} (res w : List ℤ) {o : Out
   abbrev store : List ℕ
   store = store_for r.bits σ
 
-  pub side-run : (v : Verdict) → v ≡ verdict_of r.qubits r.bits store l gs res w → result_map_both (λ _. r) (Refused r) v ≡ side_by σ l g res w o
-  side-run v q =
-      (λ i. result_map_both (λ _. record { qubits = r.qubits; bits = r.bits; words = k.words i }) (Refused (record { qubits = r.qubits; bits = r.bits; words = k.words i })) ((q ∙ ap (λ (x : List ℕ). verdict_of r.qubits r.bits store l x res w) e) i))
-      ∙ sym (ap (side_by σ l g res w) k.is
-      ∙ ap (λ (b : Bool). cond b (result_map_both (λ _. record { qubits = r.qubits; bits = r.bits; words = length k.ws }) (Refused (record { qubits = r.qubits; bits = r.bits; words = length k.ws })) (verdict_of r.qubits r.bits store l k.ws res w)) (Err (Faulty (fault_at ShortBuffer 0)))) k.fits)
+  abbrev whole : Reading
+  whole = record { qubits = r.qubits; bits = r.bits; words = length k.ws }
 
-  pub result_run : {x : List ℤ} → x ≡ result_after r.qubits r.bits store l gs res w → x ≡ result_by σ l g res w o
+  side-run : (v : Verdict) → v ≡ verdict_of r.qubits r.bits store l gs res w → result_map_both (λ _. r) (Refused r) v ≡ side_by σ l g res w o
+  side-run v q =
+      (λ i. result_map_both (λ _. record { qubits = r.qubits; bits = r.bits; words = k.words i }) (Refused (record { qubits = r.qubits; bits = r.bits; words = k.words i }))
+      ((q ∙ ap (λ (x : List ℕ). verdict_of r.qubits r.bits store l x res w) e) i))
+      ∙ sym (ap (side_by σ l g res w) k.is
+      ∙ ap (λ (b : Bool). cond b (result_map_both (λ _. whole) (Refused whole) (verdict_of r.qubits r.bits store l k.ws res w)) (Err (Faulty (fault_at ShortBuffer 0)))) k.fits)
+
+  result_run : {x : List ℤ} → x ≡ result_after r.qubits r.bits store l gs res w → x ≡ result_by σ l g res w o
   result_run q =
       q ∙ ap (λ (x : List ℕ). result_after r.qubits r.bits store l x res w) e
       ∙ sym (ap (result_by σ l g res w) k.is ∙ ap (λ (b : Bool). cond b (result_after r.qubits r.bits store l k.ws res w) res) k.fits)
 
-  pub work_run : {x : List ℤ} → x ≡ work_after r.qubits r.bits store l gs res w → x ≡ work_by σ l g res w o
+  work_run : {x : List ℤ} → x ≡ work_after r.qubits r.bits store l gs res w → x ≡ work_by σ l g res w o
   work_run q =
       q ∙ ap (λ (x : List ℕ). work_after r.qubits r.bits store l x res w) e
       ∙ sym (ap (work_by σ l g res w) k.is ∙ ap (λ (b : Bool). cond b (work_after r.qubits r.bits store l k.ws res w) w) k.fits)
+
+  -- all that the run of the circuit leaves
+  pub run : {v : Verdict} {x y : List ℤ} → v ≡ verdict_of r.qubits r.bits store l gs res w → x ≡ result_after r.qubits r.bits store l gs res w → y ≡ work_after r.qubits r.bits store l gs res w
+      → Run σ l g res w o (result_map_both (λ _. r) (Refused r) v) x y
+  run {v} p q s = record { side = side-run v p; res = result_run q; work = work_run s }
 
 -- ---- a text that is faulty leaves both buffers as they were
 abbrev read_as : ℕ → ℕ → List ℕ → Reading
 read_as n m ws = record { qubits = n; bits = m; words = length ws }
 
 module _ (σ : List ℕ) (l : Limits) (g : List ℕ) (res w : List ℤ) {f : Fault} where
-  untouched : (o : Outcome) → Err f ≡ reply (length g) o → (res ≡ result_by σ l g res w o) × (w ≡ work_by σ l g res w o)
-  untouched (refused x at) e = (refl, refl)
-  untouched (circuit n m ws) e = by (leb (length ws) (length g)) e
+  pub untouched : (o : Outcome) → Err f ≡ reply (length g) o → Run σ l g res w o (Err (Faulty f)) res w
+  untouched (refused x at) e = let q : f ≡ fault_at x at = (cc) in record { side = ap (λ (f : Fault). Err (Faulty f)) q; res = refl; work = refl }
+  untouched (circuit n m ws) e = by (leb (length ws) (length g)) refl e
     where
-      by : (b : Bool) → Err f ≡ cond b (Ok (read_as n m ws)) (Err (fault_at ShortBuffer 0))
-          → (res ≡ cond b (result_after n m (store_for m σ) l ws res w) res) × (w ≡ cond b (work_after n m (store_for m σ) l ws res w) w)
-      by true e = absurd (cc)
-      by false e = (refl, refl)
-
-  pub result_stays : (o : Outcome) → Err f ≡ reply (length g) o → res ≡ result_by σ l g res w o
-  result_stays o e = (untouched o e).0
-
-  pub work_stays : (o : Outcome) → Err f ≡ reply (length g) o → w ≡ work_by σ l g res w o
-  work_stays o e = (untouched o e).1
+      by : (b : Bool) → leb (length ws) (length g) ≡ b → Err f ≡ cond b (Ok (read_as n m ws)) (Err (fault_at ShortBuffer 0)) → Run σ l g res w (circuit n m ws) (Err (Faulty f)) res w
+      by true k e = absurd (cc)
+      by false k e =
+          let q : f ≡ fault_at ShortBuffer 0 = (cc) in
+          record {
+            side = ap (λ (f : Fault). Err (Faulty f)) q ∙ ap (λ (b : Bool). cond b (result_map_both (λ _. read_as n m ws) (Refused (read_as n m ws)) (verdict_of n m (store_for m σ) l ws res w)) (Err (Faulty (fault_at ShortBuffer 0)))) (sym k);
+            res = ap (λ (b : Bool). cond b (result_after n m (store_for m σ) l ws res w) res) (sym k);
+            work = ap (λ (b : Bool). cond b (work_after n m (store_for m σ) l ws res w) w) (sym k);
+          }

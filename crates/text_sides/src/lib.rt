@@ -1,4 +1,5 @@
 // A text of OpenQASM 2: its circuit read, judged and run.
+// Kept (together): the lent buffers. In one struct they would be lent anew for each text, and each contract would say of each buffer that it is the same one, beside what it holds.
 #![tactic(auto)]
 
 ghost use Rattle.std.specs.Prelude.{◌≡◌, ◌≤◌, length};
@@ -6,6 +7,7 @@ ghost use Rattle.judge.specs.Call.{verdict_of, result_after, work_after};
 ghost use Rattle.qasm.specs.Reading.{read_of, filled};
 ghost use Rattle.text_sides.specs.Sides.{store_for, words_of, side_by, result_by, work_by};
 
+use circuit::Circuit;
 use circuit::limits::Limits;
 use judge::call::circuit_channel;
 use qasm::reader::{Fault, Reading, read_qasm};
@@ -23,28 +25,26 @@ pub enum NoChannel {
 // The most classical bits.
 const MAX_BITS: usize = 64;
 
-// The channel of a circuit whose first bits start as `store`, and the others as 0.
-fn run_circuit(
-    qubits: u32,
-    bits: u32,
-    store: &[u8],
-    gates: &[u32],
-    limits: Limits,
-    res: &mut [i64],
-    work: &mut [i64],
-) -> Verdict
-    ensures value { result ≡ verdict_of qubits bits (store_for bits store.now) limits gates.now res.old work.old }
-    ensures res_after { res.new ≡ result_after qubits bits (store_for bits store.now) limits gates.now res.old work.old }
-    ensures work_after { work.new ≡ work_after qubits bits (store_for bits store.now) limits gates.now res.old work.old }
+// The channel of a circuit whose first bits start as its store says, and the others as 0.
+fn run_circuit(circuit: Circuit, limits: Limits, res: &mut [i64], work: &mut [i64]) -> Verdict
+    ensures value { let c = circuit.entry in result ≡ verdict_of c.qubits c.bits (store_for c.bits c.store.now) limits c.gates.now res.old work.old }
+    ensures res_after { let c = circuit.entry in res.new ≡ result_after c.qubits c.bits (store_for c.bits c.store.now) limits c.gates.now res.old work.old }
+    ensures work_after { let c = circuit.entry in work.new ≡ work_after c.qubits c.bits (store_for c.bits c.store.now) limits c.gates.now res.old work.old }
 {
-    let given = store.len();
-    let all = (bits as usize).min(MAX_BITS);
+    let given = circuit.store.len();
+    let all = (circuit.bits as usize).min(MAX_BITS);
     if all <= given {
-        return circuit_channel(qubits, bits, store, gates, limits, res, work);
+        return circuit_channel(circuit, limits, res, work);
     }
     let mut padded = [0u8; MAX_BITS];
-    padded[..given].copy_from_slice(store);
-    circuit_channel(qubits, bits, &padded[..all], gates, limits, res, work)
+    padded[..given].copy_from_slice(circuit.store);
+    let filled = Circuit {
+        qubits: circuit.qubits,
+        bits: circuit.bits,
+        store: &padded[..all],
+        gates: circuit.gates,
+    };
+    circuit_channel(filled, limits, res, work)
 }
 
 // Reads a text, and runs its circuit where it is accepted.
@@ -66,15 +66,13 @@ pub fn run_side(
         Ok(reading) => reading,
         Err(fault) => return Err(NoChannel::Faulty(fault)),
     };
-    match run_circuit(
-        reading.qubits,
-        reading.bits,
+    let circuit = Circuit {
+        qubits: reading.qubits,
+        bits: reading.bits,
         store,
-        &gates[..reading.words],
-        limits,
-        res,
-        work,
-    ) {
+        gates: &gates[..reading.words],
+    };
+    match run_circuit(circuit, limits, res, work) {
         Ok(()) => Ok(reading),
         Err(refusal) => Err(NoChannel::Refused(reading, refusal)),
     }

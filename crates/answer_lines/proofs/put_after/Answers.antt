@@ -3,9 +3,9 @@ use Rattle.text.proofs.Put.{none, then}
 use Rattle.answer_lines.proofs.Choices.{if_zero, if_some}
 use Rattle.answer_lines.proofs.put_after.Goals as goal
 
-pub returns-then-m-eq0 : goal.returns-then-m-eq0
-returns-then-m-eq0 c = if_zero c.args.m _ c.if-m-eq0.true (none _)
+pub returns-else-m-ne0 : goal.returns-else-m-ne0
+returns-else-m-ne0 c = if_zero c.args.m _ c.if-m-ne0.false (none _)
 
-pub returns : goal.returns
-returns c =
-    if_some c.args.m _ c.if-m-eq0.false (then (then c.put_all-a.ensures c.put_store-b.ensures) c.put_all.ensures)
+pub returns-then-m-ne0 : goal.returns-then-m-ne0
+returns-then-m-ne0 c =
+    if_some c.args.m _ c.if-m-ne0.true (then (then c.put_all.ensures c.put_store.ensures) c.put_all-then-m-ne0.ensures)

@@ -8,6 +8,5 @@ use Rattle.answer_lines.proofs.put_first.Goals as goal
 
 pub returns : goal.returns
 returns c =
-    let k = c in
-    then (then (then (then k.put_opening-a.ensures (text (ap decimal k.number.ensures) k.put_decimal-b.ensures)) (text (ap (λ (k : ℕ). labelled " " k) k.index.ensures) k.put_labelled-c.ensures))
-    c.put_labelled-d.ensures) c.put.ensures
+    then (then (then (then (text c.opening.ensures c.put_all.ensures) (text (ap decimal c.number.ensures) c.put_decimal.ensures)) (text (ap (λ (k : ℕ). labelled " " k) c.index.ensures) c.put_labelled.ensures))
+    c.put_labelled-2.ensures) c.put.ensures

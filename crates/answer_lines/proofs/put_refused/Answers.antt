@@ -4,4 +4,4 @@ use Rattle.answer_lines.proofs.put_refused.Goals as goal
 
 pub returns : goal.returns
 returns c =
-    then (then (then (then c.put_first-a.ensures c.put_place-b.ensures) c.put_room-c.ensures) c.put_reason-d.ensures) c.put.ensures
+    then (then (then (then c.put_first.ensures c.put_place.ensures) c.put_room.ensures) c.put_reason.ensures) c.put.ensures

@@ -3,9 +3,9 @@ use Rattle.text.proofs.Put.{none, then}
 use Rattle.answer_lines.proofs.Choices.{if_zero, if_some}
 use Rattle.answer_lines.proofs.put_room.Goals as goal
 
-pub returns-then-gates-eq0 : goal.returns-then-gates-eq0
-returns-then-gates-eq0 c = if_zero c.args.gates _ c.if-gates-eq0.true (none _)
+pub returns-else-gates-ne0 : goal.returns-else-gates-ne0
+returns-else-gates-ne0 c = if_zero c.args.gates _ c.if-gates-ne0.false (none _)
 
-pub returns : goal.returns
-returns c =
-    if_some c.args.gates _ c.if-gates-eq0.false (then (then c.put_decimal-a.ensures c.put_labelled-b.ensures) c.put.ensures)
+pub returns-then-gates-ne0 : goal.returns-then-gates-ne0
+returns-then-gates-ne0 c =
+    if_some c.args.gates _ c.if-gates-ne0.true (then (then c.put_decimal.ensures c.put_labelled.ensures) c.put.ensures)

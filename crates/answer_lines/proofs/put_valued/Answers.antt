@@ -3,4 +3,4 @@ use Rattle.text.proofs.Put.{then}
 use Rattle.answer_lines.proofs.put_valued.Goals as goal
 
 pub returns : goal.returns
-returns c = then c.put_all-a.ensures c.put_number.ensures
+returns c = then c.put_all.ensures c.put_number.ensures

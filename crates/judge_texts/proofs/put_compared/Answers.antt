@@ -1,7 +1,6 @@
 -- `put_compared` meets its contract.
-use Rattle.text.specs.Page.{page}
 use Rattle.text.proofs.Put.{none}
 use Rattle.judge_texts.proofs.put_compared.Goals as goal
 
 pub returns-in-Err : goal.returns-in-Err
-returns-in-Err c = rw c.in-Err.is (none (page c.args.out.now 0))
+returns-in-Err c = rw c.in-Err.is (none c.args.out.now)

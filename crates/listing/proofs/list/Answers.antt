@@ -62,12 +62,12 @@ pub slice_bounds-store-end : goal.slice_bounds-store-end
 slice_bounds-store-end c =
     omega (arith, bits-few c.args.text.now c.read_input.ensures.answer c.in-Some.is, ap length c.read_input.ensures.store ∙ stored_long c.args.text.now _)
 
-pub slice_bounds-list_circuit-end : goal.slice_bounds-list_circuit-end
-slice_bounds-list_circuit-end c =
+pub slice_bounds-circuit-end : goal.slice_bounds-circuit-end
+slice_bounds-circuit-end c =
     sym (length-take-le _ _ (omega (arith, bits-few c.args.text.now c.read_input.ensures.answer c.in-Some.is, ap length c.read_input.ensures.store ∙ stored_long c.args.text.now _)))
 
-pub slice_bounds-list_circuit-end-2 : goal.slice_bounds-list_circuit-end-2
-slice_bounds-list_circuit-end-2 c =
+pub slice_bounds-circuit-end-2 : goal.slice_bounds-circuit-end-2
+slice_bounds-circuit-end-2 c =
     let b = bits-few c.args.text.now c.read_input.ensures.answer c.in-Some.is in
     let g = gates-few c.args.text.now c.read_input.ensures.answer c.in-Some.is in
     let n = ap length c.read_input.ensures.numbers ∙ filled_long c.args.text.now _ in search rules
@@ -78,7 +78,7 @@ returns c =
     let t = a.text.now in
     let r = a.res.now in
     let w = a.work.now in
-    let k = c.in-Some.circuit in
+    let k = c.in-Some.read in
     let p = c.read_input.ensures in
     let y = yes t p.answer c.in-Some.is in
     let d = is t p.answer c.in-Some.is in

@@ -1,6 +1,7 @@
 -- `list_circuit` meets its contract.
 use Rattle.std.specs.Prelude.{is_ok}
 use Prim.Native.Nat.{ℕ}
+use borrow.Author.Rules.{rules}
 use mathlib.Core.Path.{◌≡◌, sym, ap, ◌∙◌, subst}
 use mathlib.Core.Bool.{true}
 use mathlib.Core.List.{List}
@@ -11,6 +12,7 @@ use Rattle.channel.specs.WellFormed.{well_formed}
 use Rattle.demands.proofs.Demands.{demand2}
 use Rattle.judge.specs.Call.{result_after, work_after}
 use Rattle.text.specs.Page.{page, write}
+use Rattle.text.proofs.Put.{lent}
 use Rattle.listing.specs.Listing.{refusal_line}
 use Rattle.listing.proofs.Answers.{lines_is}
 use Rattle.listing.proofs.list_circuit.Goals as goal
@@ -28,18 +30,19 @@ pub put_channel-requires : goal.put_channel-requires
 put_channel-requires c =
     let a = c.args in
     subst (λ (q : List ℤ). well_formed q ≡ true) (sym c.circuit_channel.ensures.res_after)
-    (demand2 a.qubits a.bits a.store.now c.defaults.result a.gates.now a.res.now a.work.now (ap is_ok (sym c.in-Ok.ensures.value))).formed
+    (demand2 a.circuit.qubits a.circuit.bits a.circuit.store.now c.defaults.result a.circuit.gates.now a.res.now a.work.now (ap is_ok (sym c.in-Ok.ensures.value))).formed
 
 pub returns-in-Ok : goal.returns-in-Ok
 returns-in-Ok c =
     let a = c.args in
     let d = c.defaults.ensures in
     let v = c.circuit_channel.ensures in
-    let is = lines_is a.qubits a.bits a.store.now a.gates.now a.res.now a.work.now d c.in-Ok.ensures.value v.res_after in
+    let is = lines_is a.circuit.qubits a.circuit.bits a.circuit.store.now a.circuit.gates.now a.res.now a.work.now d c.in-Ok.ensures.value v.res_after in
+    let same = c.put_channel.ensures.same ∙ c.new-w.ensures.same in
     record {
-      lines = c.put_channel.ensures.is ∙ ap (write (page a.out.now 0)) is;
-      res = result_is a.qubits a.bits a.store.now a.gates.now a.res.now a.work.now d v.res_after;
-      work = work_is a.qubits a.bits a.store.now a.gates.now a.res.now a.work.now d v.work_after;
+      lines = lent c.new-w.ensures.room c.new-w.ensures.at c.put_channel.ensures (search rules) ∙ ap (write (page a.out.now 0)) is;
+      res = result_is a.circuit.qubits a.circuit.bits a.circuit.store.now a.circuit.gates.now a.res.now a.work.now d v.res_after;
+      work = work_is a.circuit.qubits a.circuit.bits a.circuit.store.now a.circuit.gates.now a.res.now a.work.now d v.work_after;
     }
 
 pub returns-in-Err : goal.returns-in-Err
@@ -47,9 +50,9 @@ returns-in-Err c =
     let a = c.args in
     let d = c.defaults.ensures in
     let v = c.circuit_channel.ensures in
-    let is = lines_is a.qubits a.bits a.store.now a.gates.now a.res.now a.work.now d c.in-Err.ensures.value v.res_after in
+    let is = lines_is a.circuit.qubits a.circuit.bits a.circuit.store.now a.circuit.gates.now a.res.now a.work.now d c.in-Err.ensures.value v.res_after in
     record {
       lines = c.write_refusal.ensures ∙ (λ k. write (page a.out.now 0) (refusal_line (c.number.ensures k) (c.index.ensures k))) ∙ ap (write (page a.out.now 0)) is;
-      res = result_is a.qubits a.bits a.store.now a.gates.now a.res.now a.work.now d v.res_after;
-      work = work_is a.qubits a.bits a.store.now a.gates.now a.res.now a.work.now d v.work_after;
+      res = result_is a.circuit.qubits a.circuit.bits a.circuit.store.now a.circuit.gates.now a.res.now a.work.now d v.res_after;
+      work = work_is a.circuit.qubits a.circuit.bits a.circuit.store.now a.circuit.gates.now a.res.now a.work.now d v.work_after;
     }

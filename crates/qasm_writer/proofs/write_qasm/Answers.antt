@@ -1,6 +1,8 @@
 -- `write_qasm` meets its contract.
-use mathlib.Core.Path.{sym, ◌∙◌}
+use mathlib.Core.Path.{refl, sym, ◌∙◌}
 use Rattle.verdict.proofs.Questions.{returned}
+use borrow.Author.Rules.{rules}
+use Rattle.text.proofs.Put.{lent, lent_is}
 use Rattle.qasm_writer.proofs.Asked.{refused-words, refused-room, taken-whole}
 use Rattle.qasm_writer.proofs.write_qasm.Goals as goal
 
@@ -19,5 +21,7 @@ returns-then-not-is_within c =
 pub returns : goal.returns
 returns c =
     let a = c.args in
-    let all = taken-whole a.qubits a.bits a.gates.now a.out.now c.in_ok-judge_words.ensures (sym c.if-not-is_within.ensures) c.put_text.ensures in
-    record { value = all.0; out_after = all.1 }
+    let same = c.put_text.ensures.same ∙ c.new-w.ensures.same in
+    let puts = lent c.new-w.ensures.room c.new-w.ensures.at c.put_text.ensures refl in
+    let all = taken-whole a.qubits a.bits a.gates.now a.out.now c.in_ok-judge_words.ensures (sym c.if-not-is_within.ensures) puts in
+    record { value = all.0; out_after = lent_is all.1 (search rules) }

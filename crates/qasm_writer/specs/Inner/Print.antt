@@ -1,29 +1,18 @@
 -- The lines of a text in the parts that are written one after the other.
-use Rattle.std.specs.Prelude.{◌≡◌, Bool, cond, List, [], ◌∷◌, ◌++◌, ℕ, ◌-◌, ◌≤◌, eqb, leb, length, take, drop}
+use Rattle.std.specs.Prelude.{Bool, cond, List, [], ◌∷◌, ◌++◌, ℕ, eqb, leb, Option, Some, None}
 use Rattle.gate.specs.Gate.{Gate, measure, arity}
 use Rattle.text.specs.Ascii.{ascii}
 use Rattle.text.specs.Decimal.{decimal}
-use Rattle.qasm.specs.declared.bytes.Span.{Span}
 use Rattle.qasm.specs.Forms.{Entry}
 use Rattle.qasm.specs.Writing.{of_kind}
 
--- what opens the line of a gate: its name and a blank; nothing where its kind has no name
-abbrev pub opening_in : List Entry → List ℕ
-opening_in [] = []
-opening_in (e ∷ es) = e.name ++ ascii " "
+-- the name of a kind and the blank behind it, which open the line of a gate, where the kind has a name
+abbrev pub name_in : List Entry → Option (List ℕ)
+name_in [] = None
+name_in (e ∷ es) = Some (e.name ++ ascii " ")
 
-abbrev pub opening : ℕ → List ℕ
-opening kind = opening_in (of_kind kind)
-
--- the openings of all kinds, in the order of the kinds
-abbrev pub openings : List ℕ
-openings = ascii "h x z s sdg t tdg cx cz ccx measure reset y swap cy ch cswap "
-
--- where the opening of a kind stands among these
-pub record Opens (kind : ℕ) (s : Span) : Type 0 where
-  pub order : s.start ≤ s.end
-  pub inside : s.end ≤ length openings
-  pub is : take (s.end - s.start) (drop s.start openings) ≡ opening kind
+abbrev pub name_of : ℕ → Option (List ℕ)
+name_of kind = name_in (of_kind kind)
 
 -- a number in brackets, behind the bytes before it
 abbrev pub indexed : List ℕ → ℕ → List ℕ

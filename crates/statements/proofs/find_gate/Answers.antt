@@ -1,47 +1,29 @@
 -- `find_gate` meets its contract.
-use native.Mathlib.Omega.{arith}
-use lib.ListN.{drop}
-use Rattle.qasm.specs.Tokens.{is_blank}
-use Rattle.qasm.proofs.Scanning.{run-most, token-inside}
-use Rattle.statements.proofs.Counting.{counting_none, counting_top, counting_end, counting_found, counting_more, counting_same}
+use Rattle.std.proofs.Common.{◌≡◌, ap, ◌∙◌, rules}
+use Rattle.text.specs.Ascii.{ascii}
+use Rattle.qasm.specs.Tokens.{same}
+use Rattle.qasm.specs.Inner.Left.{tokens_left}
+use Rattle.statements.proofs.Counting.{counting_top, counting_end, counting_found, counting_more, counting_same}
 use Rattle.statements.proofs.find_gate.Goals as goal
 use Rattle.statements.proofs.find_gate.Goals.{then-opening-is_declaration+else-before-index, else-opening-is_declaration}
 
-pub overflow_sub-size : goal.overflow_sub-size
-overflow_sub-size c = omega (arith, c.blanks_end-blanks.ensures, run-most is_blank (drop 0 c.args.text.now))
-
-pub returns-then-size-blanks-lt-HEADER : goal.returns-then-size-blanks-lt-HEADER
-returns-then-size-blanks-lt-HEADER c =
-    let a = c.args in
-    let all = counting_none a.text.now a.index c.blanks_end-blanks.ensures (omega (arith, c.if-size-blanks-lt-HEADER.true)) in
-    record { position = all.0; before = all.1 }
-
-pub loop-begin-init : goal.loop-begin-init
-loop-begin-init c =
-    let a = c.args in
-    counting_top a.text.now a.index c.blanks_end-blanks.ensures c.gap_end-begin.ensures
-
-pub slice_bounds-is_declaration-end : goal.slice_bounds-is_declaration-end
-slice_bounds-is_declaration-end c = (token-inside c.args.text.now c.loop-begin.begin c.loop-begin-test.true c.token_end-end.ensures).within
+pub loop-token-init : goal.loop-token-init
+loop-token-init c = counting_top c.args.text.now c.args.index (ap tokens_left c.into_iter-token-iterator.ensures.into_iter_gives ∙ c.behind_header-token-items.ensures)
 
 pub returns-then-before-index : goal.returns-then-before-index
 returns-then-before-index c =
-    let a = c.args in
-    let all = counting_found a.text.now a.index c.loop-begin.invariant c.loop-begin-test.true c.token_end-end.ensures c.is_declaration.ensures c.if-opening-is_declaration.true c.if-before-index.true in
-    record { position = all.0; before = all.1 }
+    let q = counting_found c.args.text.now c.args.index c.loop-token.invariant c.in-Some.ensures.steps c.is_declaration.ensures c.if-opening-is_declaration.true c.if-before-index.true in
+    record { position = q.position; before = q.count }
 
-pub loop-begin-preserved : goal.loop-begin-preserved
-loop-begin-preserved c =
+pub loop-token-preserved : goal.loop-token-preserved
+loop-token-preserved c =
     let a = c.args in
+    let q : c.eq-opening.result ≡ same (ascii ";") c.in-Some.token.bytes.now = search rules in
     elim c.if-opening-is_declaration.branch [
       | then-opening-is_declaration+else-before-index w ↦
-          counting_more a.text.now a.index c.loop-begin.invariant c.loop-begin-test.true c.token_end-end.ensures c.is_declaration.ensures c.gap_end-begin-in-loop-begin.ensures c.is_same-opening.ensures w.if-opening-is_declaration.true w.if-before-index.false w.before-is
-      | else-opening-is_declaration w ↦
-          counting_same a.text.now a.index c.loop-begin.invariant c.loop-begin-test.true c.token_end-end.ensures c.is_declaration.ensures c.gap_end-begin-in-loop-begin.ensures c.is_same-opening.ensures w.if-opening-is_declaration.false w.before-is
+          counting_more a.text.now a.index c.loop-token.invariant c.in-Some.ensures.steps c.is_declaration.ensures q w.if-opening-is_declaration.true w.if-before-index.false w.before-is
+      | else-opening-is_declaration w ↦ counting_same a.text.now a.index c.loop-token.invariant c.in-Some.ensures.steps c.is_declaration.ensures q w.if-opening-is_declaration.false w.before-is
     ]
 
 pub returns : goal.returns
-returns c =
-    let a = c.args in
-    let all = counting_end a.text.now a.index c.loop-begin.invariant c.loop-begin-test.false in
-    record { position = all.0; before = all.1 }
+returns c = let q = counting_end c.args.text.now c.args.index c.loop-token.invariant c.in-None.ensures.steps.0 in record { position = q.position; before = q.count }

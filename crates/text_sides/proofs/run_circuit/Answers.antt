@@ -10,12 +10,16 @@ use Rattle.text_sides.proofs.run_circuit.Goals as goal
 pub returns-then-all-given : goal.returns-then-all-given
 returns-then-all-given c =
     let a = c.args in
-    let all = ran a.qubits a.bits a.limits a.gates.now a.res.now a.work.now (as_given a.store.now a.bits c.min-all.ensures c.if-all-given.true) _ _ _ (c.circuit_channel.ensures.value, (c.circuit_channel.ensures.res_after, c.circuit_channel.ensures.work_after))
-    in record { value = all.0; res_after = all.1.0; work_after = all.1.1 }
+    let k = a.circuit in
+    let e = c.circuit_channel.ensures in
+    let all = ran k.qubits k.bits a.limits k.gates.now a.res.now a.work.now (as_given k.store.now k.bits c.min-all.ensures c.if-all-given.true) _ _ _ (e.value, (e.res_after, e.work_after)) in
+    record { value = all.0; res_after = all.1.0; work_after = all.1.1 }
 
 pub returns : goal.returns
 returns c =
     let a = c.args in
-    let z = ap (λ (l : List ℕ). l ++ drop (length a.store.now) (replicate max_bits 0)) c.copy_from_slice.ensures.after in
-    let all = ran a.qubits a.bits a.limits a.gates.now a.res.now a.work.now (filled-up a.store.now a.bits c.min-all.ensures c.if-all-given.false z) _ _ _ (c.circuit_channel-2.ensures.value, (c.circuit_channel-2.ensures.res_after, c.circuit_channel-2.ensures.work_after))
-    in record { value = all.0; res_after = all.1.0; work_after = all.1.1 }
+    let k = a.circuit in
+    let z = ap (λ (l : List ℕ). l ++ drop (length k.store.now) (replicate max_bits 0)) c.copy_from_slice.ensures.after in
+    let e = c.circuit_channel-2.ensures in
+    let all = ran k.qubits k.bits a.limits k.gates.now a.res.now a.work.now (filled-up k.store.now k.bits c.min-all.ensures c.if-all-given.false z) _ _ _ (e.value, (e.res_after, e.work_after)) in
+    record { value = all.0; res_after = all.1.0; work_after = all.1.1 }

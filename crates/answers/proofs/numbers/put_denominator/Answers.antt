@@ -5,8 +5,8 @@ use Rattle.answers.proofs.numbers.put_denominator.Goals as goal
 
 pub returns-then-e-le-MAX_EXPONENT : goal.returns-then-e-le-MAX_EXPONENT
 returns-then-e-le-MAX_EXPONENT c =
-    text (denominator-small c.args.e c.if-e-le-MAX_EXPONENT.true) (then c.put-a.ensures c.put_decimal.ensures)
+    text (denominator-small c.args.e c.if-e-le-MAX_EXPONENT.true) (then c.put.ensures c.put_decimal.ensures)
 
-pub returns : goal.returns
-returns c =
-    text (denominator_large c.args.e c.if-e-le-MAX_EXPONENT.false) (then c.put_all-b.ensures c.put_decimal-2.ensures)
+pub returns-else-e-le-MAX_EXPONENT : goal.returns-else-e-le-MAX_EXPONENT
+returns-else-e-le-MAX_EXPONENT c =
+    text (denominator_large c.args.e c.if-e-le-MAX_EXPONENT.false) (then c.put_all.ensures c.put_decimal-else-e-le-MAX_EXPONENT.ensures)

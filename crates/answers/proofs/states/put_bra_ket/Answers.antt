@@ -7,5 +7,5 @@ pub returns : goal.returns
 returns c =
     let n = c.args.n in
     then
-    (then (then c.put_all-a.ensures (text (λ j. outer n (c.low.ensures j) (c.low-2.ensures j)) c.put_outer-b.ensures)) c.put_all-c.ensures)
-    (text (λ j. outer n (c.high.ensures j) (c.high-2.ensures j)) c.put_outer.ensures)
+    (then (then c.put_all.ensures (text (λ j. outer n (c.low.ensures j) (c.low-2.ensures j)) c.put_outer.ensures)) c.put_all-2.ensures)
+    (text (λ j. outer n (c.high.ensures j) (c.high-2.ensures j)) c.put_outer-2.ensures)

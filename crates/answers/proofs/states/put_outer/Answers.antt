@@ -4,4 +4,4 @@ use Rattle.answers.proofs.states.put_outer.Goals as goal
 
 pub returns : goal.returns
 returns c =
-    then (then (then (then c.put-a.ensures c.put_binary-b.ensures) c.put_all-c.ensures) c.put_binary-d.ensures) c.put.ensures
+    then (then (then (then c.put.ensures c.put_binary.ensures) c.put_all.ensures) c.put_binary-2.ensures) c.put-2.ensures

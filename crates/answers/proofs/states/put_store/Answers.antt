@@ -13,7 +13,7 @@ pub loop-preserved : goal.loop-preserved
 loop-preserved c =
     let e : c.args.m - c.loop.counter - 1 ≡ c.args.m - (c.loop.counter + 1) = omega arith in
     left_is (ap (λ (k : ℕ). bit_bytes k (c.loop.rest / 2)) e)
-    (left_less (left_is (bits-more (c.args.m - c.loop.counter) c.loop.rest (omega arith)) c.loop.invariant) c.put-p.ensures)
+    (left_less (left_is (bits-more (c.args.m - c.loop.counter) c.loop.rest (omega arith)) c.loop.invariant) c.put-in-loop.ensures)
 
 pub returns : goal.returns
 returns c =

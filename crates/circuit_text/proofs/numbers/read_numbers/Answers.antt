@@ -1,28 +1,39 @@
 -- `numbers::read_numbers` meets its contract.
-use mathlib.Core.Path.{sym, ap, ◌∙◌}
-use native.Mathlib.Omega.{arith}
+use Rattle.std.proofs.Common.{◌+◌, sym, ap, ◌∙◌, rules, tests, arith}
+use Rattle.std.proofs.lemmas.List.{length_push}
+use Rattle.std.proofs.lemmas.Iterator.Splits.{YieldsList-from_slice_split}
+use Rattle.std.proofs.lemmas.Iterator.Consumers.{YieldsList-turn, YieldsList-end}
+use Rattle.text.specs.Decimal.{is_blank}
 use Rattle.std.specs.Prelude.{is_some}
 use Rattle.text.proofs.Read.{some_number, number_some}
-use Rattle.circuit_text.proofs.Pieces.{piece, along-sound, along-inside, taken_more}
+use Rattle.circuit_text.specs.Text.{pieces}
+use Rattle.circuit_text.proofs.Pieces.{piece_at, pieces_end, along-sound, taken-all, taken_more}
 use Rattle.circuit_text.proofs.numbers.read_numbers.Goals as goal
 
 pub unwrap-requires : goal.unwrap-requires
 unwrap-requires c =
-    let t = c.args.text.now in
-    let step = piece t c.loop-at.at c.next_blank-e.result c.loop-at-test.true c.next_blank-e.ensures.end in
-    let good = along-sound t c.loop-at.invariant.along _ _ step.next c.requires.1.0 in
+    let h = piece_at c.args.text.now (YieldsList-turn (YieldsList-from_slice_split _ is_blank c.args.text.now (cc) (cc) (cc) (λ x b q k. search (rules, tests))) c.loop-piece.yielded _ c.loop-piece.yielded_by _ _ c.in-Some.piece c.in-Some.is c.next.ensures.steps) in
+    let i = c.loop-piece.invariant in
+    let good = along-sound (pieces c.args.text.now) i.taken.along (rw i.count h.0) (rw i.count h.1) c.requires.1.0 in
     ap is_some (c.number_in.ensures ∙ some_number _ good)
 
 pub bounds-numbers-count : goal.bounds-numbers-count
 bounds-numbers-count c =
-    let t = c.args.text.now in
-    let step = piece t c.loop-at.at c.next_blank-e.result c.loop-at-test.true c.next_blank-e.ensures.end in
-    let count = along-inside t c.loop-at.invariant.along _ _ step.next in
-    omega (arith, c.loop-at.invariant.same, c.requires.1.1)
+    let h = piece_at c.args.text.now (YieldsList-turn (YieldsList-from_slice_split _ is_blank c.args.text.now (cc) (cc) (cc) (λ x b q k. search (rules, tests))) c.loop-piece.yielded _ c.loop-piece.yielded_by _ _ c.in-Some.piece c.in-Some.is c.next.ensures.steps) in
+    omega (arith, h.0, c.loop-piece.invariant.count, c.loop-piece.invariant.taken.same, c.requires.1.1)
 
-pub loop-at-preserved : goal.loop-at-preserved
-loop-at-preserved c =
-    let t = c.args.text.now in
-    let step = piece t c.loop-at.at c.next_blank-e.result c.loop-at-test.true c.next_blank-e.ensures.end in
+pub loop-piece-preserved : goal.loop-piece-preserved
+loop-piece-preserved c =
+    let h = piece_at c.args.text.now (YieldsList-turn (YieldsList-from_slice_split _ is_blank c.args.text.now (cc) (cc) (cc) (λ x b q k. search (rules, tests))) c.loop-piece.yielded _ c.loop-piece.yielded_by _ _ c.in-Some.piece c.in-Some.is c.next.ensures.steps) in
+    let i = c.loop-piece.invariant in
     let is = number_some _ (sym c.unwrap.ensures ∙ c.number_in.ensures) in
-    rw (is.1) (taken_more t c.args.numbers.now c.loop-at.numbers c.loop-at.invariant _ _ step.next (omega arith) is.0)
+    record {
+      count = ap (λ n. n + 1) i.count ∙ sym (length_push c.loop-piece.yielded c.in-Some.piece);
+      taken = rw (is.1) (taken_more (pieces c.args.text.now) c.args.numbers.now c.loop-piece.numbers i.taken (rw i.count h.0) (rw i.count h.1) is.0);
+    }
+
+pub returns : goal.returns
+returns c =
+    let h = YieldsList-end (YieldsList-from_slice_split _ is_blank c.args.text.now (cc) (cc) (cc) (λ x b q k. search (rules, tests))) c.loop-piece.yielded _ c.loop-piece.yielded_by _ _ c.in-None.is c.next.ensures.steps in
+    let e = c.loop-piece.invariant.count ∙ pieces_end c.args.text.now h.1 in
+    record { count = e; room = taken-all (pieces c.args.text.now) c.args.numbers.now c.loop-piece.numbers c.loop-piece.invariant.taken e }

@@ -12,4 +12,4 @@ read_store-requires c =
 
 pub returns : goal.returns
 returns c =
-    then (text (ap (store_line c.args.m) c.read_store.ensures) c.put_store_line-a.ensures) c.put_entries.ensures
+    then (text (ap (store_line c.args.m) c.read_store.ensures) c.put_store_line.ensures) c.put_entries.ensures

@@ -1,24 +1,20 @@
 -- `blocks::put_entries` meets its contract.
 use mathlib.Core.Path.{◌≡◌, ap}
 use Prim.Native.Nat.{ℕ, ◌*◌, ◌/◌, ◌%◌}
-use native.Mathlib.Nat.{mul-le-mul}
 use native.Mathlib.Omega.{arith}
 use Rattle.scalar.specs.Calls.{value}
 use Rattle.scalar.specs.declared.Scalar.{Scalar}
 use Rattle.channel.specs.Layout.{channels, entry_at, dim_at}
 use Rattle.listing.specs.Listing.{entry_line, entry_lines}
-use Rattle.text.proofs.Put.{then, text, none, long}
+use Rattle.text.proofs.Put.{then, text, none}
 use Rattle.listing.proofs.Listing.{entries_none, entries-more, side-some}
 use Rattle.listing.proofs.blocks.put_entries.Goals as goal
-
-pub overflow_mul-n : goal.overflow_mul-n
-overflow_mul-n c = let q = c.requires.0 in let r = mul-le-mul q q in omega arith
 
 pub loop-k-init : goal.loop-k-init
 loop-k-init c = text (entries_none c.args.w (entry_at (channels (dim_at c.args.s.now)) c.args.s.now c.args.place)) (none _)
 
-pub read_entry-x-requires : goal.read_entry-x-requires
-read_entry-x-requires c =
+pub read_entry-requires : goal.read_entry-requires
+read_entry-requires c =
     record { inside = omega (arith, c.requires.1.inside, c.loop-k-test.true); exponent = c.requires.1.exponent }
 
 pub nonzero_div-k : goal.nonzero_div-k
@@ -29,11 +25,8 @@ nonzero_rem-k c = let q = side-some c.args.w c.loop-k.k c.loop-k-test.true in om
 
 pub loop-k-preserved : goal.loop-k-preserved
 loop-k-preserved c =
-    let line = ap (λ (x : Scalar). entry_line (c.loop-k.k / c.args.w) (c.loop-k.k % c.args.w) (value x)) c.read_entry-x.ensures in
-    text (entries-more c.args.w c.loop-k.k (entry_at (channels (dim_at c.args.s.now)) c.args.s.now c.args.place)) (then c.loop-k.invariant (text line c.put_entry-p.ensures))
-
-pub shape_of-out : goal.shape_of-out
-shape_of-out c = long c.loop-k.invariant
+    let line = ap (λ (x : Scalar). entry_line (c.loop-k.k / c.args.w) (c.loop-k.k % c.args.w) (value x)) c.read_entry.ensures in
+    text (entries-more c.args.w c.loop-k.k (entry_at (channels (dim_at c.args.s.now)) c.args.s.now c.args.place)) (then c.loop-k.invariant (text line c.put_entry.ensures))
 
 pub returns : goal.returns
 returns c =

@@ -4,4 +4,4 @@ use Rattle.listing.proofs.blocks.put_first.Goals as goal
 
 pub returns : goal.returns
 returns c =
-    then (then (then (then (then (then c.put_all-a.ensures c.put_natural-b.ensures) c.put_all-c.ensures) c.put_natural-d.ensures) c.put_all-e.ensures) c.put_natural-f.ensures) c.put.ensures
+    then (then (then (then (then (then c.put_all.ensures c.put_natural.ensures) c.put_all-2.ensures) c.put_natural-2.ensures) c.put_all-3.ensures) c.put_natural-3.ensures) c.put.ensures

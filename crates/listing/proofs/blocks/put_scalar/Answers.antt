@@ -1,4 +1,5 @@
 -- `blocks::put_scalar` meets its contract.
+use native.Mathlib.Omega.{arith}
 use lib.ListN.{get_or}
 use lib.IntN.{pos}
 use Rattle.text.proofs.Put.{then, none}
@@ -8,7 +9,7 @@ use Rattle.listing.proofs.blocks.put_scalar.Goals as goal
 pub returns : goal.returns
 returns c =
     let n = c.args.x.n in
-    then (spaced-word (get_or n 0 (pos 0)) c.put_spaced-arg-2-1.given c.put_spaced-a.ensures)
-    (then (spaced-word (get_or n 1 (pos 0)) c.put_spaced-arg-4-1.given c.put_spaced-b.ensures)
-    (then (spaced-word (get_or n 2 (pos 0)) c.put_spaced-arg-6-1.given c.put_spaced-c.ensures)
-    (then (spaced-word (get_or n 3 (pos 0)) c.put_spaced-arg-8-1.given c.put_spaced-d.ensures) (then c.put_natural.ensures (none _)))))
+    then (spaced-word (get_or n 0 (pos 0)) (omega arith) c.put_spaced.ensures)
+    (then (spaced-word (get_or n 1 (pos 0)) (omega arith) c.put_spaced-2.ensures)
+    (then (spaced-word (get_or n 2 (pos 0)) (omega arith) c.put_spaced-3.ensures)
+    (then (spaced-word (get_or n 3 (pos 0)) (omega arith) c.put_spaced-4.ensures) (then c.put_natural.ensures (none _)))))

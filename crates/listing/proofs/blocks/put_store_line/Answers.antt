@@ -4,4 +4,4 @@ use Rattle.listing.proofs.blocks.put_store_line.Goals as goal
 
 pub returns : goal.returns
 returns c =
-    then c.put_all-a.ensures (then c.put_store-b.ensures c.put.ensures)
+    then c.put_all.ensures (then c.put_store.ensures c.put.ensures)

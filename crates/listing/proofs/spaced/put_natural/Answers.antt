@@ -3,4 +3,4 @@ use Rattle.text.proofs.Put.{then}
 use Rattle.listing.proofs.spaced.put_natural.Goals as goal
 
 pub returns : goal.returns
-returns c = then c.put-p.ensures c.put_decimal.ensures
+returns c = then c.put.ensures c.put_decimal.ensures

@@ -7,4 +7,4 @@ use Rattle.listing.proofs.spaced.put_spaced.Goals as goal
 
 pub returns : goal.returns
 returns c =
-    text (ap spaced (to_z-of_z c.ranges.z)) (then c.put-p.ensures c.put_signed.ensures)
+    text (ap spaced (to_z-of_z c.ranges.z)) (then c.put.ensures c.put_signed.ensures)

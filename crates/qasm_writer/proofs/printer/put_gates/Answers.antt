@@ -17,7 +17,7 @@ pub loop-i-preserved : goal.loop-i-preserved
 loop-i-preserved c =
     let ws = c.args.words.now in
     left_less (left_is (ap (concat_map gate_text) (gates-more ws (length ws / gate_size) c.loop-i.i c.loop-i-test.true)) c.loop-i.invariant)
-    (text (ap gate_text c.read_gate-g.ensures) c.put_gate-p.ensures)
+    (text (ap gate_text c.read_gate.ensures) c.put_gate.ensures)
 
 pub returns : goal.returns
 returns c =

@@ -4,4 +4,4 @@ use Rattle.qasm_writer.proofs.printer.put_head.Goals as goal
 
 pub returns : goal.returns
 returns c =
-    then c.put_indexed-a.ensures (then c.put_indexed-b.ensures c.put_all.ensures)
+    then c.put_indexed.ensures (then c.put_indexed-2.ensures c.put_all.ensures)

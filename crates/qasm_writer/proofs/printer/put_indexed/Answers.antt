@@ -4,4 +4,4 @@ use Rattle.qasm_writer.proofs.printer.put_indexed.Goals as goal
 
 pub returns : goal.returns
 returns c =
-    then c.put_all-a.ensures (then c.put_decimal-b.ensures c.put.ensures)
+    then c.put_all.ensures (then c.put_decimal.ensures c.put.ensures)

@@ -1,13 +1,13 @@
 -- `printer::put_others` meets its contract.
+use mathlib.Core.Path.{sym, ◌∙◌}
 use Rattle.gate.specs.Inner.Words.{gate_of}
 use Rattle.text.proofs.Put.{then, text}
 use Rattle.qasm_writer.proofs.Lines.{others-bit, others-qubits}
 use Rattle.qasm_writer.proofs.printer.put_others.Goals as goal
 
-pub returns-then-g-eq-MEASURE : goal.returns-then-g-eq-MEASURE
-returns-then-g-eq-MEASURE c =
-    text (others-bit (gate_of c.args.g) c.if-g-eq-MEASURE.true) c.put_indexed.ensures
+pub returns-in-Some : goal.returns-in-Some
+returns-in-Some c = text (others-bit (gate_of c.args.g) (sym c.bit.ensures ∙ c.in-Some.is)) c.put_indexed.ensures
 
-pub returns : goal.returns
-returns c =
-    text (others-qubits (gate_of c.args.g) c.qubit_count-count.result c.if-g-eq-MEASURE.false c.qubit_count-count.ensures) (then c.put_qubit-a.ensures c.put_qubit.ensures)
+pub returns-in-None : goal.returns-in-None
+returns-in-None c =
+    text (others-qubits (gate_of c.args.g) (sym c.bit.ensures ∙ c.in-None.is) c.qubit_count-count.ensures.value) (then c.put_qubit.ensures c.put_qubit-in-None.ensures)

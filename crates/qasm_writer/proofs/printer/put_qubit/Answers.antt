@@ -9,5 +9,5 @@ pub returns-then-used : goal.returns-then-used
 returns-then-used c =
     text (ap (λ (u : Bool). qubit_if u c.args.n) (sym c.if-used.true)) c.put_indexed.ensures
 
-pub returns : goal.returns
-returns c = text (ap (λ (u : Bool). qubit_if u c.args.n) (sym c.if-used.false)) (none _)
+pub returns-else-used : goal.returns-else-used
+returns-else-used c = text (ap (λ (u : Bool). qubit_if u c.args.n) (sym c.if-used.false)) (none _)

@@ -7,4 +7,4 @@ use Rattle.qasm_writer.proofs.printer.put_text.Goals as goal
 pub returns : goal.returns
 returns c =
     let a = c.args in
-    text (head-then a.qubits a.bits (gates_of a.words.now)) (then c.put_head-a.ensures c.put_gates.ensures)
+    text (head-then a.qubits a.bits (gates_of a.words.now)) (then c.put_head.ensures c.put_gates.ensures)

@@ -1,28 +1,17 @@
 -- `room::is_within` meets its contract.
 use mathlib.Core.Path.{sym, ◌∙◌}
-use native.Mathlib.Omega.{arith}
-use Rattle.qasm_writer.proofs.Lengths.{decimal-most, no_room, room-left, head-before, line_before, none_left}
+use Rattle.qasm_writer.proofs.Lengths.{no_room, room-left, head-before, line_before, none_left}
 use Rattle.qasm_writer.proofs.room.is_within.Goals as goal
-
-pub overflow_add-head : goal.overflow_add-head
-overflow_add-head c =
-    let a = c.args in
-    omega (arith, c.decimal_length.ensures, decimal-most a.qubits, c.decimal_length-2.ensures, decimal-most a.bits)
-
-pub overflow_add-head-2 : goal.overflow_add-head-2
-overflow_add-head-2 c =
-    let a = c.args in
-    omega (arith, c.decimal_length.ensures, decimal-most a.qubits, c.decimal_length-2.ensures, decimal-most a.bits)
 
 pub returns-then-bytes-head : goal.returns-then-bytes-head
 returns-then-bytes-head c =
     let a = c.args in
-    no_room _ _ (head-before a.qubits a.bits a.words.now c.decimal_length.ensures c.decimal_length-2.ensures) c.if-bytes-head.true
+    no_room _ _ (head-before a.qubits a.bits a.words.now c.decimal_length.ensures.value c.decimal_length-2.ensures.value) c.if-bytes-head.true
 
 pub loop-i-init : goal.loop-i-init
 loop-i-init c =
     let a = c.args in
-    room-left _ _ (head-before a.qubits a.bits a.words.now c.decimal_length.ensures c.decimal_length-2.ensures) c.if-bytes-head.false
+    room-left _ _ (head-before a.qubits a.bits a.words.now c.decimal_length.ensures.value c.decimal_length-2.ensures.value) c.if-bytes-head.false
 
 pub returns-then-left-n : goal.returns-then-left-n
 returns-then-left-n c =
