@@ -1,4 +1,5 @@
 // The call of the C interface on lists of pairs.
+// Kept (together): C lends the buffers one by one.
 #![tactic(auto)]
 
 ghost use Rattle.std.specs.Prelude.{◌≡◌};
@@ -9,6 +10,7 @@ ghost use Rattle.compare_list.specs.Call.{reply_of, answers_after, scalars_after
 
 use c_circuits::read_limits;
 use c_words::report;
+use pair_list::PairList;
 
 // Compares the pairs of a list under one allowance: the verdict's number, its index in `index`, and the sum of what is spent in `total`, 0 where the list is refused.
 pub fn compare_list(
@@ -42,10 +44,13 @@ pub fn compare_list(
     ensures work_after { work.new ≡
         cleared count words.now stores.now (limits_of limits.now) allowance left.old right.old work.old answers.old scalars.old work.old }
 {
+    let list = PairList {
+        count,
+        words,
+        stores,
+    };
     let l = read_limits(limits);
-    let reply = compare_list::compare_list(
-        count, words, stores, l, allowance, left, right, work, answers, scalars,
-    );
+    let reply = compare_list::compare_list(list, l, allowance, left, right, work, answers, scalars);
     *total = reply.unwrap_or(0);
     report(&reply, index)
 }

@@ -3,7 +3,7 @@ use Rattle.std.specs.Prelude.{is_ok, Err, Option, Some, None}
 use mathlib.Core.Path.{◌≡◌, refl, sym, ap, ◌∙◌, subst}
 use mathlib.Core.Bool.{Bool, true, false, cond, true≢false}
 use mathlib.Core.List.{List, [], ◌∷◌, ◌++◌}
-use Prim.Native.Nat.{ℕ, zero, suc, ◌+◌, ◌*◌, ◌-◌, ◌<◌, ◌≤◌}
+use Prim.Native.Nat.{ℕ, suc, ◌+◌, ◌*◌, ◌-◌, ◌<◌, ◌≤◌}
 use native.Mathlib.Nat.{add_assoc, add-zero, zero-add}
 use native.Mathlib.Numerals.{add-one}
 use native.Mathlib.Omega.{arith}
@@ -87,7 +87,7 @@ module _ (ws bs : List ℕ) (t : Lent) (count : ℕ) where
     pub scalars_long : length z ≡ length z₀
 
   module _ (o₀ : List ℕ) (z₀ : List ℤ) where
-    pub along-none : is_ok (framing ws bs count) ≡ true → Along o₀ z₀ 0 0 0 0 o₀ z₀
+    along-none : is_ok (framing ws bs count) ≡ true → Along o₀ z₀ 0 0 0 0 o₀ z₀
     along-none h =
         let e : count ≡ count - 0 = omega arith in record {
           passed = omega arith;
@@ -99,6 +99,9 @@ module _ (ws bs : List ℕ) (t : Lent) (count : ℕ) where
           answers_long = refl;
           scalars_long = refl;
         }
+
+    pub along-start : {at from : ℕ} → at ≡ 0 → from ≡ 0 → is_ok (framing ws bs count) ≡ true → Along o₀ z₀ 0 at from 0 o₀ z₀
+    along-start {at} p q h = subst (λ (k : ℕ). Along o₀ z₀ 0 at k 0 o₀ z₀) (sym q) (subst (λ (k : ℕ). Along o₀ z₀ 0 k 0 0 o₀ z₀) (sym p) (along-none h))
 
     module _ {i at from spent : ℕ} {o : List ℕ} {z : List ℤ} (g : Along o₀ z₀ i at from spent o z) where
       module _ (h : i < count) where
@@ -125,18 +128,18 @@ module _ (ws bs : List ℕ) (t : Lent) (count : ℕ) where
         within-next e = subst (λ (a : Answer). spent + charge a ≤ t.allowance) (sym e) (charge-within t spent (pair_at ws bs at from) g.within)
 
         pub along-more : {a : Answer} → a ≡ answer_to t spent (pair_at ws bs at from) → {o' : List ℕ} → o' ≡ sets o (i * answer_size) (answer_words a) → {z' : List ℤ} → z' ≡ sets z (i * scalars_size) (entry_words a)
-            → {c n m : ℕ} → c ≡ charge a → n ≡ pair_words ws at → m ≡ pair_bytes ws at → Along o₀ z₀ (i + 1) (at + n) (from + m) (spent + c) o' z'
+            → {c n m : ℕ} → c ≡ charge a → n ≡ at + pair_words ws at → m ≡ from + pair_bytes ws at → Along o₀ z₀ (i + 1) n m (spent + c) o' z'
         along-more {a} e {o'} p {z'} q {c} {n} {m} u v w =
             let c-is : c ≡ charge x = u ∙ ap charge e in
             let o_is : o' ≡ sets o (i * answer_size) (answer_words x) = p ∙ ap (λ (y : Answer). sets o (i * answer_size) (answer_words y)) e in
             let z-is : z' ≡ sets z (i * scalars_size) (entry_words x) = q ∙ ap (λ (y : Answer). sets z (i * scalars_size) (entry_words y)) e in
             let o-next : i * answer_size + answer_size ≡ (i + 1) * answer_size = omega arith in
             let z-next : i * scalars_size + scalars_size ≡ (i + 1) * scalars_size = omega arith in
-            let same : behind ≡ answers_from t (spent + c) (pairs_from ws bs (count - (i + 1)) (at + n) (from + m)) =
-            λ j. answers_from t (spent + sym c-is j) (pairs_from ws bs (count - (i + 1)) (at + sym v j) (from + sym w j)) in
+            let same : behind ≡ answers_from t (spent + c) (pairs_from ws bs (count - (i + 1)) n m) =
+            λ j. answers_from t (spent + sym c-is j) (pairs_from ws bs (count - (i + 1)) (sym v j) (sym w j)) in
             record {
               passed = omega arith;
-              pairs = (λ j. is_ok (framing_from ws bs (count - (i + 1)) (i + 1) (at + v j) (from + w j))) ∙ both.1;
+              pairs = (λ j. is_ok (framing_from ws bs (count - (i + 1)) (i + 1) (v j) (w j))) ∙ both.1;
               within = subst (λ (k : ℕ). spent + k ≤ t.allowance) (sym c-is) (charge-within t spent (pair_at ws bs at from) g.within);
               answers = g.answers ∙ ap (λ (r : List Answer). sets o (i * answer_size) (concat_map answer_words r)) step ∙ put_step answer_words answer_size answer_long o i x behind
                   ∙ (λ j. sets (sym o_is j) (o-next j) (concat_map answer_words (same j)));

@@ -1,4 +1,3 @@
 pub mod Along
 pub mod Claims
-pub mod Taken
 pub mod Copying

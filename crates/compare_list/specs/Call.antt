@@ -7,7 +7,7 @@ use Rattle.verdict.specs.Questions.{Verdict}
 use Rattle.verdict.specs.declared.Refusal.{Refusal}
 use Rattle.verdict.specs.declared.Refusal.TheVariants.{ShortBuffer, TooManyPairs}
 use Rattle.circuit.specs.declared.limits.Limits.{Limits}
-use Rattle.pair_list.specs.Pairs.{Pair, pairs_of, framing}
+use Rattle.pair_list.specs.Pairs.{pairs_of, framing}
 use Rattle.work_list.specs.declared.Answer.{Answer}
 use Rattle.work_list.specs.Serving.{max_pairs, charge, zeros, lent, answers_to}
 use Rattle.compare_list.specs.Words.{answer_size, scalars_size, answer_words, entry_words}

@@ -1,4 +1,5 @@
 // compare_list: pairs of circuits compared in list order, under one allowance of multiply terms.
+// Kept (together): the buffers are lent to be written; of a struct of such loans each clause would name the last values by their nesting, `lent.exit.1.1.0.now`, in place of `work.new`.
 #![tactic(auto)]
 
 pub mod words;
@@ -14,7 +15,7 @@ ghost use Rattle.compare_list.specs.Inner.Due.{Listed};
 
 use self::words::{ANSWER, SCALARS, put};
 use circuit::limits::Limits;
-use pair_list::{judge_pairs, pair_at, pair_bytes, pair_words};
+use pair_list::{PairList, Place};
 use verdict::{Refusal, Verdict};
 use work_list::serving::serve;
 
@@ -22,14 +23,14 @@ use work_list::serving::serve;
 pub const MAX_PAIRS: usize = 32;
 
 // Whether there are few enough pairs, all of them are there, and their answers have places.
-fn judge_list(count: usize, words: &[u32], stores: &[u8], answers: usize, scalars: usize) -> Verdict
-    ensures { result ≡ list_verdict count words.now stores.now answers scalars }
+fn judge_list(list: PairList, answers: usize, scalars: usize) -> Verdict
+    ensures { let l = list.entry in result ≡ list_verdict l.count l.words.now l.stores.now answers scalars }
 {
-    if MAX_PAIRS < count {
+    if MAX_PAIRS < list.count {
         return Err(Refusal::TooManyPairs);
     }
-    judge_pairs(count, words, stores)?;
-    if !((count * ANSWER <= answers) & (count * SCALARS <= scalars)) {
+    list.judge()?;
+    if !((list.count * ANSWER <= answers) & (list.count * SCALARS <= scalars)) {
         return Err(Refusal::ShortBuffer);
     }
     Ok(())
@@ -37,9 +38,7 @@ fn judge_list(count: usize, words: &[u32], stores: &[u8], answers: usize, scalar
 
 // Answers all pairs in their order, in buffers that are zero before and after: how much is spent.
 fn serve_all(
-    count: usize,
-    words: &[u32],
-    stores: &[u8],
+    list: PairList,
     limits: Limits,
     allowance: u64,
     left: &mut [i64],
@@ -48,26 +47,24 @@ fn serve_all(
     answers: &mut [u64],
     scalars: &mut [i64],
 ) -> u64
-    requires { Listed count words.now stores.now (length answers.old) (length scalars.old) left.old right.old work.old }
-    ensures value { result ≡ total charge (answers_to (lent limits left.old right.old work.old allowance) (pairs_of words.now stores.now count)) }
-    ensures answers_after { answers.new ≡ sets answers.old 0
-        (concat_map answer_words (answers_to (lent limits left.old right.old work.old allowance) (pairs_of words.now stores.now count))) }
-    ensures scalars_after { scalars.new ≡ sets scalars.old 0
-        (concat_map entry_words (answers_to (lent limits left.old right.old work.old allowance) (pairs_of words.now stores.now count))) }
+    requires { Listed list.count list.words.now list.stores.now (length answers.old) (length scalars.old) left.old right.old work.old }
+    ensures value { let l = list.entry in result ≡ total charge (answers_to (lent limits left.old right.old work.old allowance) (pairs_of l.words.now l.stores.now l.count)) }
+    ensures answers_after { let l = list.entry in answers.new ≡ sets answers.old 0
+        (concat_map answer_words (answers_to (lent limits left.old right.old work.old allowance) (pairs_of l.words.now l.stores.now l.count))) }
+    ensures scalars_after { let l = list.entry in scalars.new ≡ sets scalars.old 0
+        (concat_map entry_words (answers_to (lent limits left.old right.old work.old allowance) (pairs_of l.words.now l.stores.now l.count))) }
     ensures left_unchanged { left.new ≡ left.old }
     ensures right_unchanged { right.new ≡ right.old }
     ensures work_unchanged { work.new ≡ work.old }
 {
-    let mut at = 0;
-    let mut from = 0;
+    let mut place = Place::default();
     let mut spent: u64 = 0;
-    for i in 0..count {
-        let pair = pair_at(words, stores, at, from);
+    for i in 0..list.count {
+        let pair = list.pair_at(place);
         let answer = serve(pair, limits, allowance, spent, left, right, work);
         put(answers, scalars, i, answer);
         spent += answer.charge();
-        from += pair_bytes(words, at);
-        at += pair_words(words, at);
+        place = list.behind(place);
     }
     spent
 }
@@ -75,9 +72,7 @@ fn serve_all(
 // Compares the pairs of a list in their order: a pair whose circuit is refused keeps that refusal, the left circuit's first, and costs nothing; any other is passed over exactly when its cost added to what is spent exceeds the
 // allowance; else it has compare's answer. A list that is refused leaves every buffer as it was; else the lent words of both channels and of the work end as zero.
 pub fn compare_list(
-    count: usize,
-    words: &[u32],
-    stores: &[u8],
+    list: PairList,
     limits: Limits,
     allowance: u64,
     left: &mut [i64],
@@ -86,19 +81,22 @@ pub fn compare_list(
     answers: &mut [u64],
     scalars: &mut [i64],
 ) -> Result<u64, Refusal>
-    ensures reply { result ≡ reply_of count words.now stores.now limits allowance left.old right.old work.old answers.old scalars.old }
-    ensures answers { answers.new ≡ answers_after count words.now stores.now limits allowance left.old right.old work.old answers.old scalars.old }
-    ensures scalars { scalars.new ≡ scalars_after count words.now stores.now limits allowance left.old right.old work.old answers.old scalars.old }
-    ensures left { left.new ≡ cleared count words.now stores.now limits allowance left.old right.old work.old answers.old scalars.old left.old }
-    ensures right { right.new ≡
-        cleared count words.now stores.now limits allowance left.old right.old work.old answers.old scalars.old right.old }
-    ensures work { work.new ≡ cleared count words.now stores.now limits allowance left.old right.old work.old answers.old scalars.old work.old }
+    ensures reply { let l = list.entry in result ≡
+        reply_of l.count l.words.now l.stores.now limits allowance left.old right.old work.old answers.old scalars.old }
+    ensures answers { let l = list.entry in answers.new ≡
+        answers_after l.count l.words.now l.stores.now limits allowance left.old right.old work.old answers.old scalars.old }
+    ensures scalars { let l = list.entry in scalars.new ≡
+        scalars_after l.count l.words.now l.stores.now limits allowance left.old right.old work.old answers.old scalars.old }
+    ensures left { let l = list.entry in left.new ≡
+        cleared l.count l.words.now l.stores.now limits allowance left.old right.old work.old answers.old scalars.old left.old }
+    ensures right { let l = list.entry in right.new ≡
+        cleared l.count l.words.now l.stores.now limits allowance left.old right.old work.old answers.old scalars.old right.old }
+    ensures work { let l = list.entry in work.new ≡
+        cleared l.count l.words.now l.stores.now limits allowance left.old right.old work.old answers.old scalars.old work.old }
 {
-    judge_list(count, words, stores, answers.len(), scalars.len())?;
+    judge_list(list, answers.len(), scalars.len())?;
     left.fill(0);
     right.fill(0);
     work.fill(0);
-    Ok(serve_all(
-        count, words, stores, limits, allowance, left, right, work, answers, scalars,
-    ))
+    Ok(serve_all(list, limits, allowance, left, right, work, answers, scalars))
 }

@@ -1,4 +1,5 @@
 // The words of an answer to a pair.
+// Kept (buffers): answer i stands among the others, and its scalars among theirs; the places of both are found by its number.
 ghost use Rattle.std.specs.Prelude.{◌≡◌, ◌+◌, ◌*◌, ◌≤◌, length};
 ghost use Rattle.std.proofs.lemmas.List.Edits.{sets};
 ghost use Rattle.compare_list.specs.Words.{reply_number, cost_of, entry_of, refusal_of, refusal_words, answer_size, scalars_size, answer_words, entry_words};

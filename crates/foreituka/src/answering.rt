@@ -1,4 +1,5 @@
 // Two texts judged, the channel of one, the words of an answer, and the listing of a circuit given by numbers.
+// Kept (twins, together): the names and the parameters are those of include/foreituka.h.
 ghost use Rattle.std.specs.Prelude.{◌≡◌};
 ghost use Rattle.text.specs.Page.{page, write};
 ghost use Rattle.answers.specs.Numbers.{number_text};

@@ -1,4 +1,5 @@
 // circuit_channel, the calls on layered circuits, and circuit_unitary.
+// Kept (twins, together): the names and the parameters are those of include/foreituka.h.
 ghost use Rattle.std.specs.Prelude.{◌≡◌};
 ghost use Rattle.verdict.specs.Verdict.{verdict_number, verdict_index};
 ghost use Rattle.circuit.specs.Layers.{layered_verdict};

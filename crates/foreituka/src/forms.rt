@@ -1,4 +1,5 @@
 // The calls on channels in forms that keep less: packed, and without √2 parts.
+// Kept (twins, together): the names and the parameters are those of include/foreituka.h.
 ghost use Rattle.std.specs.Prelude.{◌≡◌};
 ghost use Rattle.verdict.specs.Verdict.{verdict_number, verdict_index};
 ghost use Rattle.packed.specs.Packed.{pack_verdict, pack_result, unpack_verdict, unpack_result};

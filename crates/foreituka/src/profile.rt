@@ -1,4 +1,5 @@
 // The calls on circuits of the plain-gate profile.
+// Kept (twins, together): the names and the parameters are those of include/foreituka.h.
 ghost use Rattle.std.specs.Prelude.{◌≡◌};
 ghost use Rattle.verdict.specs.Verdict.{verdict_number, verdict_index};
 ghost use Rattle.plain.specs.Questions.{plain_verdict};

@@ -1,4 +1,5 @@
 // The scalar calls: a scalar is five words, n0 to n3 and e.
+// Kept (twins, together): the names and the parameters are those of include/foreituka.h.
 ghost use Rattle.std.specs.Prelude.{◌≡◌};
 ghost use Rattle.exact.specs.Exact.{exact, imaginary, inv_sqrt_two, omega};
 ghost use Rattle.verdict.specs.Verdict.{verdict_number};

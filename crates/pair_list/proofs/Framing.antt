@@ -55,9 +55,6 @@ pub record Walk (ws bs : List ℕ) (count i at from : ℕ) : Type 0 where
   pub is : framing ws bs count ≡ framing_from ws bs (count - i) i at from
 
 module _ (ws bs : List ℕ) where
-  pub walk_none : (count : ℕ) → Walk ws bs count 0 0 0
-  walk_none count = let e : count ≡ count - 0 = omega arith in record { passed = omega arith; words = omega arith; bytes = omega arith; is = ap (λ (k : ℕ). framing_from ws bs k 0 0 0) e }
-
   framing-step : (k i at from : ℕ) → framed ws bs at from ≡ true → framing_from ws bs (suc k) i at from ≡ framing_from ws bs k (i + 1) (at + pair_words ws at) (from + pair_bytes ws at)
   unfolding framing_from
   framing-step k i at from e =
@@ -78,14 +75,14 @@ module _ (ws bs : List ℕ) where
       rest : count - i ≡ suc (count - (i + 1))
       rest = omega arith
 
-      pub walk_more : framed ws bs at from ≡ true → {n m : ℕ} → n ≡ pair_words ws at → m ≡ pair_bytes ws at → Walk ws bs count (i + 1) (at + n) (from + m)
+      pub walk_more : framed ws bs at from ≡ true → {n m : ℕ} → n ≡ at + pair_words ws at → m ≡ from + pair_bytes ws at → Walk ws bs count (i + 1) n m
       walk_more e p q =
           let r = framed-room ws bs at from e in record {
             passed = omega arith;
-            words = subst (λ (k : ℕ). at + k ≤ length ws) (sym p) r.words;
-            bytes = subst (λ (k : ℕ). from + k ≤ length bs) (sym q) r.bytes;
+            words = subst (λ (k : ℕ). k ≤ length ws) (sym p) r.words;
+            bytes = subst (λ (k : ℕ). k ≤ length bs) (sym q) r.bytes;
             is = w.is ∙ ap (λ (k : ℕ). framing_from ws bs k i at from) rest ∙ framing-step (count - (i + 1)) i at from e
-                ∙ (λ j. framing_from ws bs (count - (i + 1)) (i + 1) (at + sym p j) (from + sym q j));
+                ∙ (λ j. framing_from ws bs (count - (i + 1)) (i + 1) (sym p j) (sym q j));
           }
 
       pub walk_stop : framed ws bs at from ≡ false → framing ws bs count ≡ Err (MalformedAt i)

@@ -8,7 +8,7 @@ use lib.IntN.{ℤ}
 use Rattle.std.proofs.lemmas.List.{take_more_set}
 use Rattle.replay.specs.declared.numeral.Word.{Word}
 use Rattle.replay.specs.Numerals.{word_at, word_no}
-use Rattle.replay.specs.Words.{Filled, filled, placed, numbers}
+use Rattle.replay.specs.Words.{filled, placed, numbers}
 use Rattle.replay.proofs.Reading.{following}
 
 module _ (t : List ℕ) where

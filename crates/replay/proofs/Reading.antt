@@ -3,28 +3,20 @@ use mathlib.Core.Path.{◌≡◌, refl, sym, ap, ◌∙◌, subst}
 use mathlib.Core.Bool.{Bool, true, false, cond}
 use mathlib.Core.List.{List, [], ◌∷◌}
 use Prim.Native.Nat.{ℕ, suc, ◌+◌, ◌≤◌, ◌<◌}
-use Prim.Native.Char.{code}
 use native.Mathlib.Numerals.{add-one}
-use lib.Dec.{eqb, ltb}
 use lib.ListN.{length, get_or, drop, drop_of_length-le}
 use lib.Seq.{drop-cons}
 use mir.Syntax.{w64}
 use mir.Val.{SFits, to_z, of_z}
 use mir.Facts.{to_z-of_z}
-use Rattle.text.specs.Decimal.{is_blank, is_digit, digit}
-use Rattle.text.specs.Inner.Number.{max_tenth}
+use Rattle.text.specs.Decimal.{is_blank}
 use Rattle.replay.specs.declared.numeral.Digits.{Digits}
 use Rattle.replay.specs.declared.numeral.Word.{Word}
 use Rattle.replay.specs.Numerals.{digits, with_byte, word_of, word_from, word_at, word_no}
 use Rattle.replay.proofs.Signs.{signed-fits}
 
-pub byte_is : (d : Digits) (b : ℕ) {minus ten full : Bool} → eqb b (code "-") ≡ minus → is_digit b ≡ ten → ltb max_tenth d.size ≡ full
-    → with_byte d b ≡ cond minus (digits d.size true) (cond ten (cond full d (digits (digit d.size b) d.negative)) d)
-unfolding with_byte
-byte_is d b m t f = λ i. cond (m i) (digits d.size true) (cond (t i) (cond (f i) d (digits (digit d.size b) d.negative)) d)
-
 -- the rest of a list, from a place before its end
-pub next-drop : {A : Type 0} (l : List A) (i : ℕ) (z : A) → i < length l → drop i l ≡ get_or l i z ∷ drop (i + 1) l
+next-drop : {A : Type 0} (l : List A) (i : ℕ) (z : A) → i < length l → drop i l ≡ get_or l i z ∷ drop (i + 1) l
 next-drop l i z h = drop-cons l i z h ∙ ap (λ (k : ℕ). get_or l i z ∷ drop k l) (sym (add-one i))
 
 from-fits : (bs : List ℕ) (d : Digits) (at : ℕ) → SFits w64 (word_from d at bs).value

@@ -1,16 +1,17 @@
 -- A replay under way: cases one after the other, counted by kind.
-use Rattle.std.specs.Prelude.{Bool, cond, List, [], ◌++◌, ℕ, zero, suc, eqb, ◌==◌, if◌then◌else◌, codes}
+use Rattle.std.specs.Prelude.{cond, List, [], ◌++◌, ℕ, zero, suc, eqb, ◌==◌, if◌then◌else◌, codes}
 use Rattle.std.specs.Fmt.{decimal}
 use Rattle.replay.specs.declared.record.Record.{Record}
 use Rattle.replay.specs.declared.tally.Tally.{Tally}
 use Rattle.replay.specs.declared.progress.Heading.{Heading}
 use Rattle.replay.specs.declared.progress.Progress.{Progress}
 use Rattle.replay.specs.Numerals.{word_at, word_no}
+use Rattle.replay.specs.Record.{source_of}
 use Rattle.replay.specs.Tally.{none, with_case, tally_text}
 
--- how a case begins: its kind, then 0 for a record of the Rust's
+-- how a case begins: its kind, then where its record comes from
 abbrev pub heading_at : List ℕ → ℕ → Heading
-heading_at t at = record { kind = (word_no t at 0).size; rust = eqb (word_no t at 1).size 0; next = (word_no t at 1).next }
+heading_at t at = record { kind = (word_no t at 0).size; source = source_of (word_no t at 1).size; next = (word_no t at 1).next }
 
 -- the kind of the last case, what was counted of it, and where the next case begins
 abbrev pub progress_of : ℕ → Tally → ℕ → Progress
@@ -21,7 +22,7 @@ abbrev pub tally_for : Progress → ℕ → Tally
 tally_for p kind = cond (eqb kind p.kind) p.tally none
 
 abbrev pub with_turn : Progress → Heading → Record → Progress
-with_turn p h r = progress_of h.kind (with_case (tally_for p h.kind) r h.rust) r.next
+with_turn p h r = progress_of h.kind (with_case (tally_for p h.kind) r h.source) r.next
 
 -- what is printed of the last kind
 abbrev pub lines_of : Progress → List ℕ

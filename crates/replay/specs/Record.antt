@@ -5,9 +5,15 @@ use Rattle.cells.specs.Cells.{cell_size}
 use Rattle.scalar.specs.declared.Scalar.{Scalar}
 use Rattle.scalar.specs.Calls.{value}
 use Rattle.replay.specs.declared.record.Record.{Record}
+use Rattle.replay.specs.declared.record.Source.{Source}
+use Rattle.replay.specs.declared.record.Source.TheVariants.{Rust, Document}
 use Rattle.replay.specs.declared.scalars.ScalarRead.{ScalarRead}
 use Rattle.replay.specs.Counts.{added}
 use Rattle.replay.specs.Numerals.{word_at, word_no}
+
+-- where a record comes from: 0 the Rust, else a document
+abbrev pub source_of : ℕ → Source
+source_of n = cond (eqb n 0) Rust Document
 
 -- n0 to n3 and e
 abbrev pub scalar_at : List ℕ → ℕ → ScalarRead

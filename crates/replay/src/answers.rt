@@ -1,4 +1,5 @@
 // What each call answered, held against the record.
+// Kept (together): a record that held its text would borrow it, and what is counted of a record, which outlives the text, would be a second struct.
 ghost use Rattle.std.specs.Prelude.{◌≡◌};
 ghost use Rattle.replay.specs.Answers.{with_answer, phase_number, with_phase, with_verdict, with_call, with_effects, finding_numbers, found_left, found_right, with_comparison, with_part};
 

@@ -1,4 +1,6 @@
 // Decimal numbers in a text, each ended by a space, a newline or the text's end.
+// Kept (buffers): a place in the text, as in words.rt.
+// Kept (twins): `low` and `size` turn a number of each type both ways; each body is the one expression of its type.
 ghost use Rattle.std.specs.Prelude.{◌≡◌, ℕ};
 ghost use Rattle.replay.specs.Numerals.{with_byte, signed, word_of, word_at, low_byte, low_word};
 
@@ -15,6 +17,7 @@ pub struct Word {
 }
 
 // What is read of a number: its digits' value, and whether a minus sign came.
+// Kept: a minus sign comes before the first digit, where a signed number is 0 and cannot hold it; an enum of two signs would have the size in both.
 #[derive(Clone, Copy)]
 struct Digits {
     pub size: u64,

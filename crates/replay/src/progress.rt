@@ -1,32 +1,40 @@
 // A replay under way: cases one after the other, counted by kind.
-ghost use Rattle.std.specs.Prelude.{◌≡◌, List, ℕ, Some};
+// Kept (kinds): a kind is printed as the text has it, also where no case has that number; `Cases::of` turns it into the program's own enum, once for each case.
+// Kept (buffers): a place in the text, as in words.rt.
+// Kept (twins): `of` and `replay` of `Cases` are heads alone, whose bodies are the programs'.
+ghost use Rattle.std.specs.Prelude.{◌≡◌, List, ℕ, Some, length, take, IfOk, IfSome};
 ghost use Rattle.replay.specs.declared.record.Record.{Record};
 ghost use Rattle.replay.specs.Tally.{none};
 ghost use Rattle.replay.specs.Progress.{heading_at, progress_of, tally_for, with_turn, with_next, replay_of, lines_of};
 
 use crate::input::read_full;
 use crate::numeral::read;
-use crate::record::Record;
+use crate::record::{Record, Source};
 use crate::tally::Tally;
 use std::fmt;
 use std::io::{self, Read};
 
 // The cases of a program.
 pub trait Cases {
-    // What a case of this kind, at this place of the text, records.
-    ghost case_of: { ℕ → List ℕ → ℕ → Record };
+    // The case of a kind.
+    ghost case_of: { ℕ → Self };
 
-    // A case of this kind, behind its heading.
-    fn case(kind: u64, text: &[u8], at: usize) -> Record
-        ensures { result ≡ case_of kind text.now at };
+    // What a case records that is given what stands at this place of the text.
+    ghost record_of: { Self → List ℕ → ℕ → Record };
+
+    fn of(kind: u64) -> Self
+        ensures { result ≡ case_of kind };
+
+    // Makes the case's calls on what stands behind its heading, and holds their answers against the record.
+    fn replay(self, text: &[u8], at: usize) -> Record
+        ensures { result ≡ record_of self text.now at };
 }
 
-// How a case begins: its kind, whether its record is the Rust's, and where what it is given begins.
-// Kept: a kind is the number that the text has and that is printed again; each program says by `Cases` what its numbers stand for.
+// How a case begins: its kind, where its record comes from, and where what it is given begins.
 #[derive(Clone, Copy)]
 pub struct Heading {
     pub kind: u64,
-    pub rust: bool,
+    pub source: Source,
     pub next: usize,
 }
 
@@ -37,7 +45,7 @@ pub fn read_heading(text: &[u8], at: usize) -> Heading
     let source = read(text, kind.next);
     Heading {
         kind: kind.size,
-        rust: source.size == 0,
+        source: Source::of(source.size),
         next: source.next,
     }
 }
@@ -54,7 +62,7 @@ impl Progress {
     pub fn begin(at: usize) -> Progress
         ensures { result ≡ progress_of 0 none at }
     {
-        let tally = Tally::empty();
+        let tally = Tally::default();
         Progress {
             kind: 0,
             tally,
@@ -83,14 +91,14 @@ impl Progress {
         if kind == self.kind {
             return self.tally;
         }
-        Tally::empty()
+        Tally::default()
     }
 
     // With one more case.
     pub fn with(self, h: Heading, seen: Record) -> Progress
         ensures { result ≡ with_turn self h seen }
     {
-        let tally = self.tally_for(h.kind).with(seen, h.rust);
+        let tally = self.tally_for(h.kind).with(seen, h.source);
         Progress {
             kind: h.kind,
             tally,
@@ -100,10 +108,10 @@ impl Progress {
 
     // With the case that comes next.
     fn turn<C: Cases>(self, text: &[u8]) -> Progress
-        ensures { result ≡ with_next C.case_of text.now self }
+        ensures { result ≡ with_next (λ kind. C.record_of (C.case_of kind)) text.now self }
     {
         let h = read_heading(text, self.next);
-        let seen = C::case(h.kind, text, h.next);
+        let seen = C::of(h.kind).replay(text, h.next);
         self.with(h, seen)
     }
 }
@@ -124,7 +132,7 @@ impl fmt::Display for Progress {
 
 // All cases, and whether each line could be written. A line that could not be keeps none of the others back.
 pub fn replayed<C: Cases>(rt: &impl Print, text: &[u8]) -> (Progress, io::Result<()>)
-    ensures { result.0 ≡ replay_of C.case_of text.now }
+    ensures { result.0 ≡ replay_of (λ kind. C.record_of (C.case_of kind)) text.now }
 {
     let count = read(text, 0);
     let mut progress = Progress::begin(count.next);
@@ -137,13 +145,16 @@ pub fn replayed<C: Cases>(rt: &impl Print, text: &[u8]) -> (Progress, io::Result
     (progress, written)
 }
 
-// Reads a text for which there is this room, to its end, replays it, and prints what was counted.
-pub fn replay_input<C: Cases>(
+// Reads a text for which there is this room, to its end, replays it, and prints what was counted. Answers where the replay ended.
+pub fn replay_input<C: Cases, R: Read>(
     rt: &impl Print,
-    input: &mut impl Read,
+    input: &mut R,
     text: &mut [u8],
-) -> io::Result<()> {
+) -> io::Result<Progress>
+    ensures { IfOk result (λ p. IfSome (R.remaining input.old) (λ xs. p ≡ replay_of (λ kind. C.record_of (C.case_of kind)) (take (length text.old) xs))) }
+{
     let n = read_full(input, text)?;
     let (progress, written) = replayed::<C>(rt, &text[..n]);
-    written.and(rt.print(progress))
+    written.and(rt.print(progress))?;
+    Ok(progress)
 }

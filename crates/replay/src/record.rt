@@ -1,6 +1,8 @@
 // The record of a case's answers, read number by number and held against what the calls answered.
+// Kept (buffers): a place in the text, as in words.rt.
+// Kept (kinds): a source's number is read here and nowhere else.
 ghost use Rattle.std.specs.Prelude.{◌≡◌};
-ghost use Rattle.replay.specs.Record.{begun, with_number, with_sizes, with_scalar, with_byte, with_bytes};
+ghost use Rattle.replay.specs.Record.{source_of, begun, with_number, with_sizes, with_scalar, with_byte, with_bytes};
 
 use crate::count::added;
 use crate::numeral::{Number, read};
@@ -8,8 +10,28 @@ use crate::scalars::read_scalar;
 use cells::CELL;
 use scalar::Scalar;
 
+// Where a record comes from.
+#[derive(Clone, Copy, Debug, PartialEq, Eq)]
+pub enum Source {
+    Rust,
+    Document,
+}
+
+impl Source {
+    // The source of this number.
+    pub fn of(number: u64) -> Source
+        ensures { result ≡ source_of number }
+    {
+        match number {
+            0 => Source::Rust,
+            _ => Source::Document,
+        }
+    }
+}
+
 // Whether all that was compared so far agrees, where the rest of the record begins, and how many numbers were compared. Only the comparisons below
 // change it.
+// Kept: an enum of what agrees and what does not would have the other two fields in both variants, and each comparison would match on it only to write them again.
 #[derive(Clone, Copy)]
 pub struct Record {
     agrees: bool,

@@ -1,4 +1,5 @@
 // Scalars of a text.
+// Kept (buffers): a place in the text, as in words.rt.
 ghost use Rattle.std.specs.Prelude.{◌≡◌};
 ghost use Rattle.replay.specs.Record.{scalar_at};
 

@@ -1,14 +1,14 @@
 // What a replay counts and prints.
 ghost use Rattle.std.specs.Prelude.{◌≡◌, ◌↔◌, IsTrue, Some};
-ghost use Rattle.replay.specs.Tally.{first_of, none, with_case, counts_text, first_text, tally_text};
+ghost use Rattle.replay.specs.Tally.{first_of, with_case, counts_text, first_text, tally_text};
 ghost use Rattle.std.specs.Fmt.{DisplaysOnOk};
 
 use crate::count::{added, counted};
-use crate::record::Record;
+use crate::record::{Record, Source};
 use std::fmt;
 
 // All cases; those that agree, by where the record comes from; those that do not, and the number of the first of these, from 1; the numbers compared.
-#[derive(Clone, Copy)]
+#[derive(Clone, Copy, Default)]
 pub struct Tally {
     cases: u64,
     of_rust: u64,
@@ -26,19 +26,6 @@ fn first_of(before: u64, case: u64, agrees: bool) -> u64
 }
 
 impl Tally {
-    pub fn empty() -> Tally
-        ensures { result ≡ none }
-    {
-        Tally {
-            cases: 0,
-            of_rust: 0,
-            of_document: 0,
-            disagree: 0,
-            first: 0,
-            compared: 0,
-        }
-    }
-
     // No case was counted.
     pub fn is_empty(self) -> bool
         ensures { IsTrue result ↔ (self.cases ≡ 0) }
@@ -46,11 +33,12 @@ impl Tally {
         self.cases == 0
     }
 
-    // With one more case, whose record is the Rust's or document 01's.
-    pub fn with(self, seen: Record, rust: bool) -> Tally
-        ensures { result ≡ with_case self seen rust }
+    // With one more case, whose record comes from this source.
+    pub fn with(self, seen: Record, source: Source) -> Tally
+        ensures { result ≡ with_case self seen source }
     {
         let agrees = seen.agrees();
+        let rust = source == Source::Rust;
         let cases = counted(self.cases, true);
         Tally {
             cases,

@@ -1,4 +1,5 @@
 // Words and bytes read into lent slices, and the contents that lent words have before a call.
+// Kept (buffers): a place in the text is what each reader hands to the next one; with the part of the text that is left in its place, each answer would borrow the text, and all that is said by places would have to be said of parts.
 ghost use Rattle.std.specs.Prelude.{◌≡◌, min, length, set};
 ghost use Rattle.replay.specs.Words.{marked, placed_at, numbers_at};
 

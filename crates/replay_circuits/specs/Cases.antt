@@ -1,5 +1,5 @@
 -- Cases of circuits: what a case gives to its calls, and their answers held against what the case records.
-use Rattle.std.specs.Prelude.{cond, List, ℕ, eqb, take, replicate, ℤ, pos}
+use Rattle.std.specs.Prelude.{List, ℕ, take, replicate, ℤ, pos}
 use Rattle.verdict.specs.Questions.{Verdict}
 use Rattle.channel.specs.Compare.{compare_of}
 use Rattle.unitary.specs.Unitary as unitary
@@ -16,7 +16,9 @@ use Rattle.replay.specs.Words.{Filled, marked}
 use Rattle.replay.specs.Lines.{line_bytes, behind_line}
 use Rattle.replay_circuits.specs.declared.kinds.Call.{Call}
 use Rattle.replay_circuits.specs.declared.kinds.Call.TheVariants.{Unitary, Layered, Plain, Channel}
-use Rattle.replay_circuits.specs.Kinds.{call_of}
+use Rattle.replay_circuits.specs.declared.kinds.CircuitCase.{CircuitCase}
+use Rattle.replay_circuits.specs.declared.kinds.CircuitCase.TheVariants.{One, Compared, Listed}
+use Rattle.replay_circuits.specs.Kinds.{kind_of}
 use Rattle.replay_circuits.specs.Given.{Given, ends_at, given}
 
 abbrev pub room : ℕ → List ℤ
@@ -97,6 +99,11 @@ with_said t s p = with_bytes t (with_number t s p.at) (take p.at p.room)
 unfoldable pub listing_case : List ℕ → ℕ → Record
 listing_case t at = with_said t (begun (behind_line t at)) (write (page (replicate 202727 0) 0) (answer_of (line_bytes t at) (room 5200) (room 2000)))
 
--- ---- by the kind: 4 two circuits, 6 a listing, else one circuit
+-- ---- by the kind
+abbrev pub record_of : CircuitCase → List ℕ → ℕ → Record
+record_of (One call) t at = circuit_case call t at
+record_of Compared t at = compare_case t at
+record_of Listed t at = listing_case t at
+
 abbrev pub case_of : ℕ → List ℕ → ℕ → Record
-case_of kind t at = cond (eqb kind 4) (compare_case t at) (cond (eqb kind 6) (listing_case t at) (circuit_case (call_of kind) t at))
+case_of kind t at = record_of (kind_of kind) t at

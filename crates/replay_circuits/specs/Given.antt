@@ -5,7 +5,7 @@ use Rattle.circuit.specs.Limits.{ceilings}
 use Rattle.replay.specs.Numerals.{word_at, word_no, low_byte, low_word}
 use Rattle.replay.specs.Words.{Filled, filled, numbers_at}
 use Rattle.replay_circuits.specs.declared.reading.Bounds.{Bounds}
-use Rattle.replay_circuits.specs.declared.reading.Circuit.{Circuit}
+use Rattle.replay_circuits.specs.declared.reading.CircuitRead.{CircuitRead}
 use Rattle.replay_circuits.specs.declared.kinds.Call.{Call}
 use Rattle.replay_circuits.specs.declared.kinds.Call.TheVariants.{Unitary, Layered, Plain, Channel}
 
@@ -38,8 +38,8 @@ pub record Given : Type 0 where
   pub gates : List ℕ
   pub next : ℕ
 
-abbrev pub circuit_of : Circuit → Given
-circuit_of c = record { limits = c.limits; n = c.n; bits = c.bits; store = c.store.now; gates = c.gates.now; next = c.next }
+abbrev pub circuit_of : CircuitRead → Given
+circuit_of c = record { limits = c.limits; n = c.circuit.qubits; bits = c.circuit.bits; store = c.circuit.store.now; gates = c.circuit.gates.now; next = c.next }
 
 -- limits, n, bits, the bytes of the store and the words of the gates, of which so many are kept as there is room for
 abbrev pub circuit_at : List ℕ → ℕ → ℕ → ℕ → Given

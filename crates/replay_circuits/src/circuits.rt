@@ -1,4 +1,7 @@
 // Cases of one circuit: circuit_unitary, circuit_channel with classical_blocks of its result, layered_channel and plain_channel.
+// Kept (buffers): the places in the text are those of crate replay, which says why.
+// Kept (switches): the four calls have parameters of their own; closures for them would be built by the same match.
+// Kept (together): a text and a place are what each reader takes; the buffers are lent to be written, and a struct of them would have its last values named by their nesting.
 ghost use Rattle.std.specs.Prelude.{◌≡◌, take};
 ghost use Rattle.replay.specs.Answers.{with_blocks};
 ghost use Rattle.replay.specs.Words.{marked};
@@ -6,7 +9,7 @@ ghost use Rattle.replay_circuits.specs.Given.{circuit_of};
 ghost use Rattle.replay_circuits.specs.Cases.{room, asked_verdict, asked_result, asked_work, called, called_result, traced, answered, circuit_case};
 
 use crate::kinds::Call;
-use crate::reading::{Circuit, ENDS, GATES, STORE, read_circuit, read_ends};
+use crate::reading::{CircuitRead, ENDS, GATES, STORE, read_circuit, read_ends};
 use judge::call::{circuit_channel, layered_channel};
 use plain::plain_channel;
 use replay::answers::check_call;
@@ -25,17 +28,17 @@ const WORK: usize = 167000;
 const EFFECTS: usize = 2600;
 
 // The call on a circuit and the ends of its layers.
-fn asked(call: Call, c: Circuit, ends: &[u32], res: &mut [i64], work: &mut [i64]) -> Verdict
+fn asked(call: Call, c: CircuitRead, ends: &[u32], res: &mut [i64], work: &mut [i64]) -> Verdict
     ensures verdict { result ≡ asked_verdict call (circuit_of c.entry) ends.now res.old work.old }
     ensures res { res.new ≡ asked_result call (circuit_of c.entry) ends.now res.old work.old }
     ensures work { work.new ≡ asked_work call (circuit_of c.entry) ends.now res.old work.old }
 {
-    let limits = c.limits;
+    let (circuit, limits) = (c.circuit, c.limits);
     match call {
-        Call::Unitary => circuit_unitary(c.n, c.gates, limits, res, work),
-        Call::Layered => { layered_channel(c.n, c.bits, c.store, c.gates, ends, limits, res, work) }
-        Call::Plain => plain_channel(c.n, c.bits, c.store, c.gates, limits, res, work),
-        Call::Channel => circuit_channel(c.n, c.bits, c.store, c.gates, limits, res, work),
+        Call::Unitary => circuit_unitary(circuit.qubits, circuit.gates, limits, res, work),
+        Call::Layered => layered_channel(circuit, ends, limits, res, work),
+        Call::Plain => plain_channel(circuit, limits, res, work),
+        Call::Channel => circuit_channel(circuit, limits, res, work),
     }
 }
 

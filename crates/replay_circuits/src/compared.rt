@@ -1,4 +1,6 @@
 // Cases of two circuits, whose channels are compared.
+// Kept (buffers): the places in the text are those of crate replay, which says why.
+// Kept (together): a text and a place are what each reader takes; the buffers are lent to be written, and a struct of them would have its last values named by their nesting.
 ghost use Rattle.std.specs.Prelude.{◌≡◌};
 ghost use Rattle.replay_circuits.specs.Given.{given};
 ghost use Rattle.replay_circuits.specs.Cases.{channel_of, work_of, compare_case};
@@ -22,7 +24,7 @@ fn channel_of(text: &[u8], at: usize, res: &mut [i64], work: &mut [i64]) -> usiz
     let mut store = [0u8; STORE];
     let mut words = [0u32; GATES];
     let c = read_circuit(text, at, &mut store, &mut words);
-    let _ = circuit_channel(c.n, c.bits, c.store, c.gates, c.limits, res, work);
+    let _ = circuit_channel(c.circuit, c.limits, res, work);
     c.next
 }
 

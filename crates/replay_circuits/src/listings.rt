@@ -1,4 +1,5 @@
 // Cases of the program that lists a channel.
+// Kept (buffers): the places in the text are those of crate replay, which says why.
 ghost use Rattle.std.specs.Prelude.{◌≡◌};
 ghost use Rattle.text.specs.Page.{page};
 ghost use Rattle.replay.specs.Record.{begun};

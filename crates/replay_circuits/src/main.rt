@@ -9,35 +9,15 @@ mod kinds;
 mod listings;
 mod reading;
 
-ghost use Rattle.replay_circuits.specs.Cases as cases;
-
-use crate::circuits::circuit_case;
-use crate::compared::compare_case;
-use crate::kinds::Call;
-use crate::listings::listing_case;
-use replay::progress::{Cases, replay_input};
-use replay::record::Record;
+use crate::kinds::CircuitCase;
+use replay::progress::replay_input;
 use std::io;
 
 // Room for the text.
 const TEXT: usize = 560000;
 
-// The program's cases.
-struct CircuitCases;
-
-impl Cases for CircuitCases {
-    ghost case_of = { cases.case_of };
-
-    fn case(kind: u64, text: &[u8], at: usize) -> Record {
-        match kind {
-            4 => compare_case(text, at),
-            6 => listing_case(text, at),
-            _ => circuit_case(Call::from(kind), text, at),
-        }
-    }
-}
-
 fn main(rt: HostRuntime) -> io::Result<()> {
     let mut text = [0u8; TEXT];
-    replay_input::<CircuitCases>(&rt, &mut rt.stdin(), &mut text)
+    replay_input::<CircuitCase, _>(&rt, &mut rt.stdin(), &mut text)?;
+    Ok(())
 }

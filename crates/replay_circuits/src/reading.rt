@@ -1,8 +1,11 @@
 // A circuit of the text.
+// Kept (buffers): the places in the text are those of crate replay, which says why.
+// Kept (together): a text and a place are what each reader takes; the buffers are lent to be written, and a struct of them would have its last values named by their nesting.
 ghost use Rattle.std.specs.Prelude.{◌≡◌, length};
 ghost use Rattle.replay_circuits.specs.Given.{bounds_at, circuit_of, circuit_at, ends_at};
 
 use crate::kinds::Call;
+use circuit::Circuit;
 use circuit::limits::Limits;
 use replay::numeral::{low, read};
 use replay::words::{Part, read_numbers};
@@ -52,14 +55,11 @@ fn read_limits(text: &[u8], at: usize) -> Bounds
     }
 }
 
-// A circuit, and where the next number begins.
+// A circuit with its limits, and where the next number begins.
 #[derive(Clone, Copy)]
-pub struct Circuit<'a> {
+pub struct CircuitRead<'a> {
+    pub circuit: Circuit<'a>,
     pub limits: Limits,
-    pub n: u32,
-    pub bits: u32,
-    pub store: &'a [u8],
-    pub gates: &'a [u32],
     pub next: usize,
 }
 
@@ -69,7 +69,7 @@ pub fn read_circuit<'a>(
     at: usize,
     store: &'a mut [u8],
     words: &'a mut [u32],
-) -> Circuit<'a>
+) -> CircuitRead<'a>
     ensures { circuit_of result ≡ circuit_at text.now at (length store.old) (length words.old) }
 {
     let bounds = read_limits(text, at);
@@ -77,13 +77,14 @@ pub fn read_circuit<'a>(
     let bits = read(text, n.next);
     let bytes = read_numbers(text, bits.next, store);
     let part = read_numbers(text, bytes.next, words);
-    let limits = bounds.limits;
-    Circuit {
-        limits,
-        n: low(n.size),
-        bits: low(bits.size),
-        store: bytes.words,
-        gates: part.words,
+    CircuitRead {
+        circuit: Circuit {
+            qubits: low(n.size),
+            bits: low(bits.size),
+            store: bytes.words,
+            gates: part.words,
+        },
+        limits: bounds.limits,
         next: part.next,
     }
 }

@@ -7,6 +7,7 @@ use Rattle.circuit.specs.declared.limits.Limits.{Limits}
 use Rattle.circuit.specs.Limits.{ceilings}
 use Rattle.compare_list.specs.Call.{reply_of, answers_after, scalars_after, cleared}
 use Rattle.replay.specs.declared.record.Record.{Record}
+use Rattle.replay_lists.specs.declared.ListCase.{ListCase}
 use Rattle.replay.specs.Numerals.{word_no, low_byte, low_word}
 use Rattle.replay.specs.Record.{begun, with_numbers}
 use Rattle.replay.specs.Checksum.{checksum_of}
@@ -56,5 +57,11 @@ unfoldable pub list_case : List ℕ → ℕ → Record
 list_case t at = lent t at (room 2600) (room 2600) (room 2600) (replicate 240 7) (room 340)
 
 -- there are lists alone
+abbrev pub kind_of : ℕ → ListCase
+kind_of kind = record {}
+
+abbrev pub record_of : ListCase → List ℕ → ℕ → Record
+record_of c t at = list_case t at
+
 abbrev pub case_of : ℕ → List ℕ → ℕ → Record
-case_of kind t at = list_case t at
+case_of kind t at = record_of (kind_of kind) t at

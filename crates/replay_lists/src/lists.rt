@@ -1,9 +1,12 @@
 // Cases of compare_list.
+// Kept (buffers): the places in the text are those of crate replay, which says why.
+// Kept (together): the buffers are those that compare_list is lent one by one, which says why.
 ghost use Rattle.std.specs.Prelude.{◌≡◌};
 ghost use Rattle.replay_lists.specs.Cases.{with_reply, called, lent, list_case};
 
 use circuit::limits::Limits;
 use compare_list::compare_list;
+use pair_list::PairList;
 use replay::numeral::{low, read};
 use replay::record::Record;
 use replay::sum::checksum;
@@ -66,10 +69,13 @@ fn called(
     let pairs = read_numbers(text, rest.next, &mut words);
     let bytes = read_numbers(text, pairs.next, &mut stores);
     let allowance = u64::from(low(high.size)) * 4294967296 + u64::from(low(rest.size));
-    let reply = compare_list(
+    let list = PairList {
         count,
-        pairs.words,
-        bytes.words,
+        words: pairs.words,
+        stores: bytes.words,
+    };
+    let reply = compare_list(
+        list,
         Limits::defaults(),
         allowance,
         left,

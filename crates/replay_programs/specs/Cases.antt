@@ -3,6 +3,7 @@ use Rattle.std.specs.Prelude.{List, ℕ, take, replicate, ℤ, pos}
 use Rattle.circuit.specs.Limits.{ceilings}
 use Rattle.pauli.specs.Call.{verdict_of, result_after, work_after}
 use Rattle.replay.specs.declared.record.Record.{Record}
+use Rattle.replay_programs.specs.declared.ProgramCase.{ProgramCase}
 use Rattle.replay.specs.Numerals.{word_no, low_byte, low_word}
 use Rattle.replay.specs.Record.{begun}
 use Rattle.replay.specs.Answers.{with_call}
@@ -27,5 +28,11 @@ unfoldable pub program_case : List ℕ → ℕ → Record
 program_case t at = answered t at (replicate 263000 (pos 0)) (replicate 20000 (pos 0))
 
 -- there are programs alone
+abbrev pub kind_of : ℕ → ProgramCase
+kind_of kind = record {}
+
+abbrev pub record_of : ProgramCase → List ℕ → ℕ → Record
+record_of c t at = program_case t at
+
 abbrev pub case_of : ℕ → List ℕ → ℕ → Record
-case_of kind t at = program_case t at
+case_of kind t at = record_of (kind_of kind) t at

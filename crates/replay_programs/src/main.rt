@@ -1,5 +1,6 @@
 // Replays the recorded answers of pauli_channel. The text: how many cases there are, then the cases; a case is its kind, its source (0 the Rust, 1 document 02), what the call is
 // given, and what it answered.
+// Kept (buffers): the places in the text are those of crate replay, which says why.
 #![tactic(auto)]
 
 mod programs;
@@ -14,18 +15,26 @@ use std::io;
 // Room for the text.
 const TEXT: usize = 24000;
 
-// The program's cases.
-struct ProgramCases;
+// A Pauli program: there are no other cases.
+#[derive(Clone, Copy)]
+struct ProgramCase;
 
-impl Cases for ProgramCases {
-    ghost case_of = { cases.case_of };
+impl Cases for ProgramCase {
+    ghost case_of = { cases.kind_of };
 
-    fn case(_kind: u64, text: &[u8], at: usize) -> Record {
+    ghost record_of = { cases.record_of };
+
+    fn of(_kind: u64) -> ProgramCase {
+        ProgramCase
+    }
+
+    fn replay(self, text: &[u8], at: usize) -> Record {
         program_case(text, at)
     }
 }
 
 fn main(rt: HostRuntime) -> io::Result<()> {
     let mut text = [0u8; TEXT];
-    replay_input::<ProgramCases>(&rt, &mut rt.stdin(), &mut text)
+    replay_input::<ProgramCase, _>(&rt, &mut rt.stdin(), &mut text)?;
+    Ok(())
 }

@@ -1,9 +1,13 @@
 // Cases of pauli_channel.
+// Kept (buffers): the places in the text are those of crate replay, which says why.
+// Kept (twins): replay_verdicts reads the same numbers for another call; a reader for both would stand in crate replay, and all that read numbers by it would lean on the crates of Pauli programs.
+// Kept (together): a text and a place are what each reader takes; the buffers are lent to be written, and a struct of them would have its last values named by their nesting.
 ghost use Rattle.std.specs.Prelude.{◌≡◌};
 ghost use Rattle.replay_programs.specs.Cases.{called, answered, program_case};
 
 use circuit::limits::Limits;
 use pauli::call::pauli_channel;
+use pauli_words::Program;
 use replay::answers::check_call;
 use replay::numeral::{low, read};
 use replay::record::Record;
@@ -19,31 +23,12 @@ const RESULT: usize = 263000;
 const WORK: usize = 20000;
 
 // The call on marked buffers; verdict, index and the checksums of both buffers held against the record.
-fn called(
-    text: &[u8],
-    at: usize,
-    qubits: u32,
-    bits: u32,
-    store: &[u8],
-    nodes: &[u32],
-    operations: &[u32],
-    res: &mut [i64],
-    work: &mut [i64],
-) -> Record
-    ensures { result ≡ called text.now at qubits bits store.now nodes.now operations.now res.old work.old }
+fn called(text: &[u8], at: usize, program: Program, res: &mut [i64], work: &mut [i64]) -> Record
+    ensures { let p = program.entry in result ≡ called text.now at p.qubits p.bits p.store.now p.nodes.now p.operations.now res.old work.old }
 {
     mark(res);
     mark(work);
-    let v = pauli_channel(
-        qubits,
-        bits,
-        store,
-        nodes,
-        operations,
-        Limits::defaults(),
-        res,
-        work,
-    );
+    let v = pauli_channel(program, Limits::defaults(), res, work);
     check_call(Record::begin(at), text, v, res, work)
 }
 
@@ -63,17 +48,14 @@ fn answered(text: &[u8], at: usize, res: &mut [i64], work: &mut [i64]) -> Record
     let done = read_numbers(text, listed.next, &mut operations);
     let r = fitting(after.size, res.len());
     let w = fitting(spent.size, work.len());
-    called(
-        text,
-        done.next,
-        low(qubits.size),
-        low(bits.size),
-        bytes.words,
-        listed.words,
-        done.words,
-        &mut res[..r],
-        &mut work[..w],
-    )
+    let program = Program {
+        qubits: low(qubits.size),
+        bits: low(bits.size),
+        store: bytes.words,
+        nodes: listed.words,
+        operations: done.words,
+    };
+    called(text, done.next, program, &mut res[..r], &mut work[..w])
 }
 
 // The same with the buffers that it lends.

@@ -12,6 +12,8 @@ use Rattle.replay.specs.Numerals.{word_at, word_no, low_word}
 use Rattle.replay.specs.Record.{begun, with_numbers, with_bytes}
 use Rattle.replay.specs.Words.{numbers_at}
 use Rattle.replay.specs.Lines.{line_bytes, behind_line}
+use Rattle.replay_texts.specs.declared.TextCase.{TextCase}
+use Rattle.replay_texts.specs.declared.TextCase.TheVariants.{Read, Written}
 
 -- ---- a circuit that is read from a text: verdict, both counts, how many words there are, and the position of the fault; then the words that were written
 abbrev pub reading_numbers : Result Reading Fault → List ℕ
@@ -52,5 +54,12 @@ write_case t at =
     with_written t (begun room.next) (low_word n.size) (low_word m.size) words.words (take room.size (replicate 300 0))
 
 -- ---- by the kind: 8 a text that is read, else one that is written
+abbrev pub kind_of : ℕ → TextCase
+kind_of kind = cond (eqb kind 8) Read Written
+
+abbrev pub record_of : TextCase → List ℕ → ℕ → Record
+record_of Read t at = read_case t at
+record_of Written t at = write_case t at
+
 abbrev pub case_of : ℕ → List ℕ → ℕ → Record
-case_of kind t at = cond (eqb kind 8) (read_case t at) (write_case t at)
+case_of kind t at = record_of (kind_of kind) t at

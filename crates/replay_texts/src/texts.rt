@@ -1,4 +1,6 @@
 // Cases of texts: a circuit that is read from one, and one that is written.
+// Kept (buffers): the places in the text are those of crate replay, which says why.
+// Kept (together): the counts and the words, as `write_qasm` takes them.
 ghost use Rattle.std.specs.Prelude.{◌≡◌};
 ghost use Rattle.replay.specs.Record.{begun};
 ghost use Rattle.replay_texts.specs.Texts.{reading_numbers, writing_numbers, with_reading, with_read, read_case, with_writing, with_written, write_case};

@@ -1,5 +1,5 @@
 -- Cases of kept circuits: an edit of the words, then the verdict on them and their gates copied out, all held against what the case records.
-use Rattle.std.specs.Prelude.{cond, List, ℕ, eqb, take, replicate, ℤ, pos}
+use Rattle.std.specs.Prelude.{cond, List, ℕ, eqb, take, replicate, ℤ}
 use Rattle.verdict.specs.Questions.{Verdict}
 use Rattle.gate.specs.Gate.{Gate, gate}
 use Rattle.gate.specs.declared.judge.GateWords.{GateWords}

@@ -1,4 +1,6 @@
 // Cases of kept circuits: an edit of the words, then the verdict on them and their gates copied out.
+// Kept (buffers): the places in the text are those of crate replay, which says why.
+// Kept (kinds, switches): an edit's number is read here and nowhere else; each edit has a call of its own, which takes what its variant holds.
 ghost use Rattle.std.specs.Prelude.{◌≡◌};
 ghost use Rattle.replay_verdicts.specs.Edits.{edit_of, edit_at, behind_edit, edit_verdict, edited_words, with_kept, with_copy, called, edit_case};
 

@@ -1,9 +1,11 @@
 // Cases of Pauli programs: their verdict.
+// Kept (buffers): the places in the text are those of crate replay, which says why.
 ghost use Rattle.std.specs.Prelude.{◌≡◌};
 ghost use Rattle.replay_verdicts.specs.Programs.{program_case};
 
 use circuit::limits::Limits;
 use pauli_judge::questions::judge_pauli;
+use pauli_words::Program;
 use replay::answers::check_verdict;
 use replay::numeral::{low, read};
 use replay::record::Record;
@@ -28,15 +30,13 @@ pub fn program_case(text: &[u8], at: usize) -> Record
     let store = read_numbers(text, work.next, &mut store_room);
     let nodes = read_numbers(text, store.next, &mut nodes_room);
     let operations = read_numbers(text, nodes.next, &mut operations_room);
-    let v = judge_pauli(
-        low(qubits.size),
-        low(bits.size),
-        store.words,
-        nodes.words,
-        operations.words,
-        Limits::defaults(),
-        result.size,
-        work.size,
-    );
+    let program = Program {
+        qubits: low(qubits.size),
+        bits: low(bits.size),
+        store: store.words,
+        nodes: nodes.words,
+        operations: operations.words,
+    };
+    let v = judge_pauli(program, Limits::defaults(), result.size, work.size);
     check_verdict(Record::begin(operations.next), text, v)
 }

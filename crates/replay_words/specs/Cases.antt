@@ -1,5 +1,5 @@
 -- Cases of calls that are given words: what a case gives to its calls, and their answers held against what the case records.
-use Rattle.std.specs.Prelude.{cond, List, [], ◌∷◌, ℕ, eqb, get_or, take, replicate, ℤ, pos}
+use Rattle.std.specs.Prelude.{cond, List, ℕ, eqb, ltb, get_or, take, replicate, ℤ, pos}
 use Rattle.exact.specs.Exact.{exact, imaginary, inv_sqrt_two, omega}
 use Rattle.scalar.specs.declared.Scalar.{Scalar}
 use Rattle.scalar.specs.Calls.{Answer, value, accepted, integer_answer, add_answer, neg_answer, half_answer, conj_answer, mul_answer}
@@ -11,24 +11,34 @@ use Rattle.replay.specs.Numerals.{word_at, word_no, low_byte, low_word}
 use Rattle.replay.specs.Record.{scalar_at, begun}
 use Rattle.replay.specs.Answers.{with_answer, with_phase, with_comparison, with_blocks, with_povm, with_part}
 use Rattle.replay.specs.Words.{marked, placed_at, numbers_at}
+use Rattle.replay_words.specs.declared.WordCase.{WordCase}
+use Rattle.replay_words.specs.declared.WordCase.TheVariants.{Scalars, Phase, Schedule, Channels}
+use Rattle.replay_words.specs.declared.numbers.Call.{Call}
+use Rattle.replay_words.specs.declared.numbers.Call.TheVariants.{Integer, Zero, Imaginary, InvSqrtTwo, Omega, Add, Neg, Half, Conj, Mul}
 use Rattle.replay_words.specs.Schedules.{schedule_case}
 
--- ---- the scalar calls, in the order of their numbers; mul comes last. `first` is the size of x's first number
-abbrev pub answers_of : ℕ → Scalar → Scalar → List Answer
-answers_of first x y =
-    integer_answer (get_or x.n 0 (pos 0))
-    ∷ accepted exact.𝟘
-    ∷ accepted imaginary
-    ∷ accepted inv_sqrt_two
-    ∷ accepted (omega (low_word first))
-    ∷ add_answer (value x) (value y)
-    ∷ neg_answer (value x)
-    ∷ half_answer (value x)
-    ∷ conj_answer (value x)
-    ∷ []
+-- ---- the scalar calls, in the order of their numbers; mul comes last
+abbrev pub call_of : ℕ → Call
+call_of number =
+    cond (ltb number 5)
+    (cond (eqb number 0) Integer (cond (eqb number 1) Zero (cond (eqb number 2) Imaginary (cond (eqb number 3) InvSqrtTwo Omega))))
+    (cond (eqb number 5) Add (cond (eqb number 6) Neg (cond (eqb number 7) Half (cond (eqb number 8) Conj Mul))))
 
-unfoldable pub answer_of : ℕ → ℕ → Scalar → Scalar → Answer
-answer_of call first x y = get_or (answers_of first x y) call (mul_answer (value x) (value y))
+-- what a call answers; `first` is the size of x's first number
+abbrev pub answered : Call → ℕ → Scalar → Scalar → Answer
+answered Integer first x y = integer_answer (get_or x.n 0 (pos 0))
+answered Zero first x y = accepted exact.𝟘
+answered Imaginary first x y = accepted imaginary
+answered InvSqrtTwo first x y = accepted inv_sqrt_two
+answered Omega first x y = accepted (omega (low_word first))
+answered Add first x y = add_answer (value x) (value y)
+answered Neg first x y = neg_answer (value x)
+answered Half first x y = half_answer (value x)
+answered Conj first x y = conj_answer (value x)
+answered Mul first x y = mul_answer (value x) (value y)
+
+abbrev pub answer_of : ℕ → ℕ → Scalar → Scalar → Answer
+answer_of call first x y = answered (call_of call) first x y
 
 -- the number of the call, and two operands
 unfoldable pub scalar_case : List ℕ → ℕ → Record
@@ -61,5 +71,14 @@ words_case t at =
     with_four t (begun store.next) left.words right.words store.words (take count.size (replicate 100 (pos 0)))
 
 -- ---- by the kind: 0 a scalar call, 1 the phase test, 10 a schedule, else channels
+abbrev pub kind_of : ℕ → WordCase
+kind_of kind = cond (eqb kind 0) Scalars (cond (eqb kind 1) Phase (cond (eqb kind 10) Schedule Channels))
+
+abbrev pub record_of : WordCase → List ℕ → ℕ → Record
+record_of Scalars t at = scalar_case t at
+record_of Phase t at = phase_case t at
+record_of Schedule t at = schedule_case t at
+record_of Channels t at = words_case t at
+
 abbrev pub case_of : ℕ → List ℕ → ℕ → Record
-case_of kind t at = cond (eqb kind 0) (scalar_case t at) (cond (eqb kind 1) (phase_case t at) (cond (eqb kind 10) (schedule_case t at) (words_case t at)))
+case_of kind t at = record_of (kind_of kind) t at

@@ -1,4 +1,5 @@
 // Cases of channels that are given by their words: compare, classical_blocks, povm_effects and the lookup.
+// Kept (buffers): the places in the text are those of crate replay, which says why.
 ghost use Rattle.std.specs.Prelude.{◌≡◌};
 ghost use Rattle.replay_words.specs.Cases.{words_case};
 

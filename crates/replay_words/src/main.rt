@@ -2,6 +2,8 @@
 // judge_schedule.
 // The text: how many cases there are, then the cases; a case is its kind, its source (0 the Rust, 1 document 01), what the calls are given, and what they
 // answered.
+// Kept (buffers): the places in the text are those of crate replay, which says why.
+// Kept (kinds, switches): the numbers of the text are read here and nowhere else, and each case is a call of its own.
 #![tactic(auto)]
 
 mod channels;
@@ -20,23 +22,41 @@ use std::io;
 // Room for the text.
 const TEXT: usize = 340000;
 
-// The program's cases.
-struct WordCases;
+// A scalar call, the phase test, a schedule, or the calls on two channels.
+#[derive(Clone, Copy)]
+enum WordCase {
+    Scalars,
+    Phase,
+    Schedule,
+    Channels,
+}
 
-impl Cases for WordCases {
-    ghost case_of = { cases.case_of };
+impl Cases for WordCase {
+    ghost case_of = { cases.kind_of };
 
-    fn case(kind: u64, text: &[u8], at: usize) -> Record {
+    ghost record_of = { cases.record_of };
+
+    fn of(kind: u64) -> WordCase {
         match kind {
-            0 => scalar_case(text, at),
-            1 => phase_case(text, at),
-            10 => schedule_case(text, at),
-            _ => words_case(text, at),
+            0 => WordCase::Scalars,
+            1 => WordCase::Phase,
+            10 => WordCase::Schedule,
+            _ => WordCase::Channels,
+        }
+    }
+
+    fn replay(self, text: &[u8], at: usize) -> Record {
+        match self {
+            WordCase::Scalars => scalar_case(text, at),
+            WordCase::Phase => phase_case(text, at),
+            WordCase::Schedule => schedule_case(text, at),
+            WordCase::Channels => words_case(text, at),
         }
     }
 }
 
 fn main(rt: HostRuntime) -> io::Result<()> {
     let mut text = [0u8; TEXT];
-    replay_input::<WordCases>(&rt, &mut rt.stdin(), &mut text)
+    replay_input::<WordCase, _>(&rt, &mut rt.stdin(), &mut text)?;
+    Ok(())
 }

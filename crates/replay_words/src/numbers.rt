@@ -1,6 +1,8 @@
 // Cases of the scalar calls and of the phase test.
+// Kept (buffers): the places in the text are those of crate replay, which says why.
+// Kept (kinds, switches): a call's number is read here and nowhere else, and each call is a function of crate scalar.
 ghost use Rattle.std.specs.Prelude.{◌≡◌};
-ghost use Rattle.replay_words.specs.Cases.{answer_of, scalar_case, phase_case};
+ghost use Rattle.replay_words.specs.Cases.{call_of, answered, scalar_case, phase_case};
 
 use matrix::global_phase::equivalent_up_to_global_phase;
 use replay::answers::{check_answer, check_phase};
@@ -14,26 +16,61 @@ use verdict::Refusal;
 // Room for the words of a matrix.
 const MATRIX: usize = 5120;
 
-// The call of this number; `first` is the size of x's first number.
-// Kept: the number is matched once, where it is read; an enum would be the same list a second time.
-fn answer(call: u64, first: u64, x: Scalar, y: Scalar) -> Result<Scalar, Refusal>
-    ensures { result ≡ answer_of call first x y }
-{
-    match call {
-        0 => Scalar::integer(x.n[0]),
-        1 => Ok(Scalar::zero()),
-        2 => Ok(Scalar::i()),
-        3 => Ok(Scalar::inv_sqrt_two()),
-        4 => Ok(Scalar::omega(low(first))),
-        5 => x.add(y),
-        6 => x.neg(),
-        7 => x.half(),
-        8 => x.conj(),
-        _ => x.mul(y),
+// A call on scalars.
+#[derive(Clone, Copy)]
+enum Call {
+    Integer,
+    Zero,
+    Imaginary,
+    InvSqrtTwo,
+    Omega,
+    Add,
+    Neg,
+    Half,
+    Conj,
+    Mul,
+}
+
+impl Call {
+    // The call of this number.
+    fn of(number: u64) -> Call
+        ensures { result ≡ call_of number }
+    {
+        match number {
+            0 => Call::Integer,
+            1 => Call::Zero,
+            2 => Call::Imaginary,
+            3 => Call::InvSqrtTwo,
+            4 => Call::Omega,
+            5 => Call::Add,
+            6 => Call::Neg,
+            7 => Call::Half,
+            8 => Call::Conj,
+            _ => Call::Mul,
+        }
+    }
+
+    // What it answers; `first` is the size of x's first number.
+    fn answer(self, first: u64, x: Scalar, y: Scalar) -> Result<Scalar, Refusal>
+        ensures { result ≡ answered self first x y }
+    {
+        match self {
+            Call::Integer => Scalar::integer(x.n[0]),
+            Call::Zero => Ok(Scalar::zero()),
+            Call::Imaginary => Ok(Scalar::i()),
+            Call::InvSqrtTwo => Ok(Scalar::inv_sqrt_two()),
+            Call::Omega => Ok(Scalar::omega(low(first))),
+            Call::Add => x.add(y),
+            Call::Neg => x.neg(),
+            Call::Half => x.half(),
+            Call::Conj => x.conj(),
+            Call::Mul => x.mul(y),
+        }
     }
 }
 
 // Call and two operands; verdict and value.
+#[tactic(auto, unfolding(crate::specs::Cases::scalar_case))]
 pub fn scalar_case(text: &[u8], at: usize) -> Record
     ensures { result ≡ scalar_case text.now at }
 {
@@ -41,7 +78,7 @@ pub fn scalar_case(text: &[u8], at: usize) -> Record
     let first = read(text, call.next);
     let x = read_scalar(text, call.next);
     let y = read_scalar(text, x.next);
-    let a = answer(call.size, first.size, x.value, y.value);
+    let a = Call::of(call.size).answer(first.size, x.value, y.value);
     check_answer(Record::begin(y.next), text, a)
 }
 

@@ -1,4 +1,5 @@
 // Cases of judge_schedule.
+// Kept (buffers): the places in the text are those of crate replay, which says why.
 ghost use Rattle.std.specs.Prelude.{◌≡◌};
 ghost use Rattle.replay_words.specs.Schedules.{schedule_case};
 
@@ -6,7 +7,7 @@ use replay::answers::check_verdict;
 use replay::numeral::{low, read};
 use replay::record::Record;
 use replay::words::read_numbers;
-use schedule::judge_schedule;
+use schedule::Schedule;
 
 // Room for the words of a gate list, and for a table.
 const WORDS: usize = 64;
@@ -23,12 +24,11 @@ pub fn schedule_case(text: &[u8], at: usize) -> Record
     let old = read_numbers(text, bits.next, &mut old_room);
     let new = read_numbers(text, old.next, &mut new_room);
     let table = read_numbers(text, new.next, &mut table_room);
-    let v = judge_schedule(
-        low(qubits.size),
-        low(bits.size),
-        old.words,
-        new.words,
-        table.words,
-    );
+    let schedule = Schedule {
+        old: old.words,
+        new: new.words,
+        table: table.words,
+    };
+    let v = schedule.judge(low(qubits.size), low(bits.size));
     check_verdict(Record::begin(table.next), text, v)
 }

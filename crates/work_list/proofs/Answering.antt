@@ -6,21 +6,20 @@ use mathlib.Core.List.{List}
 use Prim.Native.Nat.{ℕ, ◌+◌, ◌-◌, ◌<◌, ◌≤◌}
 use native.Mathlib.Omega.{arith}
 use lib.Dec.{leb}
-use lib.ListN.{length}
 use lib.IntN.{ℤ}
 use borrow.Author.Tests.{le-leb, lt-leb}
 use Rattle.verdict.specs.declared.Refusal.{Refusal}
-use Rattle.verdict.specs.Questions.{Verdict, Question, granted}
+use Rattle.verdict.specs.Questions.{Verdict, Question}
 use Rattle.verdict.proofs.Questions.{refused_alike, handed}
 use Rattle.circuit.specs.declared.limits.Limits.{Limits}
 use Rattle.circuit.specs.Questions.{channel_questions}
 use Rattle.channel.specs.declared.compare.Comparison.{Comparison}
 use Rattle.channel.specs.Compare.{compare_of}
-use Rattle.pair_list.specs.Pairs.{Circuit, Pair}
+use Rattle.pair_list.specs.Pairs.{Pair}
 use Rattle.work_list.specs.declared.Answer.{Answer}
 use Rattle.work_list.specs.declared.Answer.TheVariants.{LeftRefused, RightRefused, PassedOver, Compared}
 use Rattle.work_list.specs.Serving.{terms, cost, unless_refused, Lent, lent, left_verdict, right_verdict, comparison, answer_to}
-use Rattle.work_list.specs.Inner.Weighing.{Blank, delivers, weighed, Ready}
+use Rattle.work_list.specs.Inner.Weighing.{Blank, delivers, weighed}
 
 module _ (t : Lent) (spent : ℕ) (p : Pair) where
   -- with the verdicts and the test as they may be

@@ -1,7 +1,7 @@
 -- The claims on a list that is served.
 use Rattle.std.specs.Prelude.{Ok, Err}
-use mathlib.Core.Path.{◌≡◌, refl, sym, ap, ◌∙◌, subst}
-use mathlib.Core.Bool.{Bool, true, false, cond, ◌&&◌, true≢false}
+use mathlib.Core.Path.{◌≡◌, refl, sym, ap, ◌∙◌}
+use mathlib.Core.Bool.{Bool, true, false, cond, true≢false}
 use mathlib.Core.List.{List, [], ◌∷◌}
 use Prim.Native.Nat.{ℕ, zero, suc, ◌+◌, ◌≤◌, ◌<◌}
 use native.Mathlib.Nat.{le_of_suc-le-suc, not-suc-le-zero, add_assoc, zero-add, add-zero}
@@ -15,7 +15,7 @@ use Rattle.verdict.specs.Questions.{Verdict}
 use Rattle.pair_list.specs.Pairs.{Pair}
 use Rattle.work_list.specs.declared.Answer.{Answer}
 use Rattle.work_list.specs.declared.Answer.TheVariants.{LeftRefused, RightRefused, PassedOver, Compared}
-use Rattle.work_list.specs.Serving.{cost, charge, unless_refused, Lent, left_verdict, right_verdict, comparison, answer_to, answers_from, answers_to}
+use Rattle.work_list.specs.Serving.{cost, charge, unless_refused, Lent, left_verdict, right_verdict, comparison, answer_to, answers_from}
 use Rattle.work_list.specs.Claims.{spent_before, InOrder, WithinAllowance, stays, more, LongerServes}
 
 -- ---- one answer

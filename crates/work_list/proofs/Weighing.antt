@@ -1,13 +1,12 @@
 -- What acceptance says of the numbers of a circuit; and its terms, counted.
 use Rattle.std.specs.Prelude.{is_ok, Ok}
-use mathlib.Core.Path.{◌≡◌, refl, sym, ap, ◌∙◌, subst}
-use mathlib.Core.Bool.{Bool, true, false, ◌&&◌, true≢false}
+use mathlib.Core.Path.{◌≡◌, sym, ap, ◌∙◌, subst}
+use mathlib.Core.Bool.{true, ◌&&◌}
 use mathlib.Core.List.{List}
-use Prim.Native.Nat.{ℕ, ◌+◌, ◌-◌, ◌/◌, ◌%◌, ◌^◌, ◌≤◌}
+use Prim.Native.Nat.{ℕ, ◌/◌, ◌%◌, ◌^◌, ◌≤◌}
 use native.Mathlib.Omega.{arith}
 use lib.Dec.{eqb, leb}
-use lib.ListN.{length, take, drop, length-drop, length-replicate}
-use lib.Seq.{length-take-le}
+use lib.ListN.{length, length-replicate}
 use lib.IntN.{pos}
 use borrow.Author.Tests.{leb-true}
 use Rattle.algebra.specs.Lists.{every, total}
@@ -91,9 +90,6 @@ module _ (c : Circuit) (l : Limits) (result work : ℕ) where
 
     pub few : Small c.qubits c.gates (terms c)
     few = small c.qubits c.bits c.store l c.gates result work (sym (ap is_ok (handed all_splits tt asked e)))
-
-    pub gates-few : length c.gates / gate_size ≤ max_gates
-    gates-few = few.gates
 
     terms_are : {x : ℕ} → x ≡ terms_needed (length c.gates / gate_size) (2 ^ z) (2 ^ c.qubits) → x ≡ terms c
     terms_are t = t ∙ (λ i. terms_needed (sym (gates-length c.gates 0 (length c.gates / gate_size)) i) (2 ^ splits_are i) (2 ^ c.qubits))

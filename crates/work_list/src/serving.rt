@@ -1,8 +1,7 @@
 // The answer to one pair: both circuits judged and weighed, and, where the allowance reaches, run and compared. The lent buffers are zero before and after.
-ghost use Rattle.std.specs.Prelude.{◌≡◌, ◌≤◌, ◌^◌, length, IfOk};
+// Kept (together): the buffers are lent to be written; of a struct of such loans each clause would name the last values by their nesting, `lent.exit.1.1.0.now`, in place of `work.new`.
+ghost use Rattle.std.specs.Prelude.{◌≡◌, ◌≤◌, length, IfOk};
 ghost use Rattle.circuit.specs.Limits.{ceilings};
-ghost use Rattle.circuit.specs.Inner.Small.{max_splits, max_qubits, max_gates};
-ghost use Rattle.circuit.specs.Sizes.{terms_needed};
 ghost use Rattle.channel.specs.Compare.{compare_of};
 ghost use Rattle.pair_list.specs.Inner.Spots.{circuit_in, pair_in};
 ghost use Rattle.work_list.specs.Serving.{lent, answer_to};
@@ -10,29 +9,23 @@ ghost use Rattle.work_list.specs.Inner.Weighing.{Blank, delivers, weighed, Ready
 
 use crate::Answer;
 use channel::compare::{Comparison, compare};
+use circuit::Circuit;
 use circuit::limits::Limits;
 use circuit::questions::judge_circuit;
-use circuit::sizes::{power, terms_needed};
+use circuit::sizes::{Branches, Rows, terms_needed};
 use gate::GATE;
 use judge::call::circuit_channel;
-use pair_list::{Circuit, Pair};
+use pair_list::Pair;
 use verdict::Refusal;
-
-// Document 01's count of multiply terms.
-fn count_terms(qubits: u32, splits: u64, gates: u64) -> u64
-    requires { (qubits ≤ max_qubits) × (splits ≤ max_splits) × (gates ≤ max_gates) }
-    ensures { result ≡ terms_needed gates (2 ^ splits) (2 ^ qubits) }
-{
-    terms_needed(gates, power(splits), power(qubits as u64))
-}
 
 // Asks the questions of circuit_channel, and counts the terms of what is accepted.
 fn weigh(c: Circuit, limits: Limits, res: u64, work: u64) -> Result<u64, Refusal>
     ensures value { result ≡ weighed (circuit_in c.entry) limits res work }
     ensures small { IfOk result (λ terms. terms ≤ ceilings.max_multiply_terms) }
 {
-    let splits = judge_circuit(c.qubits, c.bits, c.store, limits, c.gates, res, work)?;
-    Ok(count_terms(c.qubits, splits, (c.gates.len() / GATE) as u64))
+    let splits = judge_circuit(c, limits, res, work)?;
+    let gates = (c.gates.len() / GATE) as u64;
+    Ok(terms_needed(gates, Branches::of(splits), Rows::of(c.qubits)))
 }
 
 // The channel of a circuit, in work words that are zero before and after.
@@ -41,7 +34,7 @@ fn run(c: Circuit, limits: Limits, res: &mut [i64], work: &mut [i64])
     ensures res_after { res.new ≡ delivers limits (circuit_in c.entry) res.old work.old }
     ensures work_unchanged { work.new ≡ work.old }
 {
-    let _ = circuit_channel(c.qubits, c.bits, c.store, c.gates, limits, res, work);
+    let _ = circuit_channel(c, limits, res, work);
 }
 
 // Runs both circuits of a pair and compares their channels.

@@ -1,17 +1,17 @@
 -- `serve_all` meets its contract.
-use mathlib.Core.Path.{◌≡◌, refl, sym, ap, ◌∙◌, subst}
+use mathlib.Core.Path.{refl, sym, ap, ◌∙◌, subst}
 use native.Mathlib.Omega.{arith}
 use lib.ListN.{length}
 use Rattle.work_list.specs.Serving.{lent, answer_to}
 use Rattle.work_list.specs.Inner.Weighing.{Blank}
-use Rattle.compare_list.proofs.Along.{along-none, due, within-next, along-more, all_spent, all_answers, all_scalars}
+use Rattle.compare_list.proofs.Along.{along-start, due, within-next, along-more, all_spent, all_answers, all_scalars}
 use Rattle.compare_list.proofs.serve_all.Goals as goal
 
 pub loop-i-init : goal.loop-i-init
 loop-i-init c =
     let a = c.args in
     record {
-      along = along-none a.words.now a.stores.now (lent a.limits a.left.now a.right.now a.work.now a.allowance) a.count a.answers.now a.scalars.now c.requires.pairs;
+      along = along-start a.list.words.now a.list.stores.now (lent a.limits a.left.now a.right.now a.work.now a.allowance) a.list.count a.answers.now a.scalars.now (omega arith) (omega arith) c.requires.pairs;
       left_stays = refl;
       right_stays = refl;
       work_stays = refl;
@@ -19,7 +19,7 @@ loop-i-init c =
 
 -- the pair that is due
 pub pair_at-pair-requires : goal.pair_at-pair-requires
-pair_at-pair-requires c = let a = c.args in due a.words.now a.stores.now _ a.count a.answers.now a.scalars.now c.loop-i.invariant.along c.loop-i-test.true
+pair_at-pair-requires c = let a = c.args in due a.list.words.now a.list.stores.now _ a.list.count a.answers.now a.scalars.now c.loop-i.invariant.along c.loop-i-test.true
 
 pub serve-answer-requires : goal.serve-answer-requires
 serve-answer-requires c =
@@ -38,23 +38,10 @@ overflow_add-spent c =
     let a = c.args in
     let g = c.loop-i.invariant in
     let answered = c.serve-answer.ensures.value ∙ (λ i. answer_to (lent a.limits (g.left_stays i) (g.right_stays i) (g.work_stays i) a.allowance) c.loop-i.spent (c.pair_at-pair.ensures i)) in
-    omega (arith, c.charge-spent.ensures, c.ranges.allowance, within-next a.words.now a.stores.now _ a.count a.answers.now a.scalars.now g.along c.loop-i-test.true answered)
+    omega (arith, c.charge-spent.ensures, c.ranges.allowance, within-next a.list.words.now a.list.stores.now _ a.list.count a.answers.now a.scalars.now g.along c.loop-i-test.true answered)
 
-pub pair_bytes-from-requires : goal.pair_bytes-from-requires
-pair_bytes-from-requires c = let a = c.args in (due a.words.now a.stores.now _ a.count a.answers.now a.scalars.now c.loop-i.invariant.along c.loop-i-test.true).head
-
-pub overflow_add-from : goal.overflow_add-from
-overflow_add-from c =
-    let a = c.args in
-    omega (arith, (due a.words.now a.stores.now _ a.count a.answers.now a.scalars.now c.loop-i.invariant.along c.loop-i-test.true).bytes, c.pair_bytes-from.ensures)
-
-pub pair_words-at-requires : goal.pair_words-at-requires
-pair_words-at-requires c = let a = c.args in (due a.words.now a.stores.now _ a.count a.answers.now a.scalars.now c.loop-i.invariant.along c.loop-i-test.true).head
-
-pub overflow_add-at : goal.overflow_add-at
-overflow_add-at c =
-    let a = c.args in
-    omega (arith, (due a.words.now a.stores.now _ a.count a.answers.now a.scalars.now c.loop-i.invariant.along c.loop-i-test.true).words, c.pair_words-at.ensures)
+pub behind-place-requires : goal.behind-place-requires
+behind-place-requires c = let a = c.args in due a.list.words.now a.list.stores.now _ a.list.count a.answers.now a.scalars.now c.loop-i.invariant.along c.loop-i-test.true
 
 pub loop-i-preserved : goal.loop-i-preserved
 loop-i-preserved c =
@@ -63,8 +50,8 @@ loop-i-preserved c =
     let e = c.serve-answer.ensures in
     let answered = e.value ∙ (λ i. answer_to (lent a.limits (g.left_stays i) (g.right_stays i) (g.work_stays i) a.allowance) c.loop-i.spent (c.pair_at-pair.ensures i)) in
     record {
-      along = along-more a.words.now a.stores.now _ a.count a.answers.now a.scalars.now g.along c.loop-i-test.true answered c.put.ensures.answers_after c.put.ensures.scalars_after
-          c.charge-spent.ensures c.pair_words-at.ensures c.pair_bytes-from.ensures;
+      along = along-more a.list.words.now a.list.stores.now _ a.list.count a.answers.now a.scalars.now g.along c.loop-i-test.true answered c.put.ensures.answers_after c.put.ensures.scalars_after
+          c.charge-spent.ensures c.behind-place.ensures.at c.behind-place.ensures.from;
       left_stays = e.left_unchanged ∙ g.left_stays;
       right_stays = e.right_unchanged ∙ g.right_stays;
       work_stays = e.work_unchanged ∙ g.work_stays;
@@ -91,9 +78,9 @@ returns c =
     let g = c.loop-i.invariant in
     let h = c.loop-i-test.false in
     record {
-      value = all_spent a.words.now a.stores.now _ a.count a.answers.now a.scalars.now g.along h;
-      answers_after = all_answers a.words.now a.stores.now _ a.count a.answers.now a.scalars.now g.along h;
-      scalars_after = all_scalars a.words.now a.stores.now _ a.count a.answers.now a.scalars.now g.along h;
+      value = all_spent a.list.words.now a.list.stores.now _ a.list.count a.answers.now a.scalars.now g.along h;
+      answers_after = all_answers a.list.words.now a.list.stores.now _ a.list.count a.answers.now a.scalars.now g.along h;
+      scalars_after = all_scalars a.list.words.now a.list.stores.now _ a.list.count a.answers.now a.scalars.now g.along h;
       left_unchanged = g.left_stays;
       right_unchanged = g.right_stays;
       work_unchanged = g.work_stays;

@@ -1,5 +1,5 @@
 -- A list under way.
-use Rattle.std.specs.Prelude.{◌≡◌, true, List, ℕ, ◌*◌, ◌≤◌, length, ℤ, is_ok}
+use Rattle.std.specs.Prelude.{◌≡◌, true, List, ℕ, ◌*◌, ◌≤◌, ℤ, is_ok}
 use Rattle.pair_list.specs.Pairs.{framing}
 use Rattle.work_list.specs.Inner.Weighing.{Blank}
 use Rattle.compare_list.specs.Words.{answer_size, scalars_size}

@@ -1,6 +1,6 @@
 -- Where a pair and its circuits lie in the words and the bytes.
 use Rattle.std.specs.Prelude.{List, ℕ, ◌+◌, ◌≤◌, length}
-use Rattle.pair_list.specs.declared.Circuit as code
+use Rattle.circuit.specs.declared.Circuit as code
 use Rattle.pair_list.specs.declared.Pair as lent
 use Rattle.pair_list.specs.Pairs.{Circuit, Pair, circuit_head, pair_head, bits_at, gate_words_at, pair_words, pair_bytes}
 

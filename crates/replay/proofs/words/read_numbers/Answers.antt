@@ -1,7 +1,7 @@
 -- `words::read_numbers` meets its contract.
-use Rattle.std.proofs.Common.{◌≡◌, ℕ, ◌≤◌, arith, ap, sym, ◌∙◌, length, min}
+use Rattle.std.proofs.Common.{arith, ap, sym, ◌∙◌, length, min}
 use Rattle.replay.specs.declared.numeral.Word.{Word}
-use Rattle.replay.specs.Words.{numbers, numbers_at}
+use Rattle.replay.specs.Words.{numbers}
 use Rattle.replay.proofs.Filling.{none_yet, one_more, all_read}
 use Rattle.replay.proofs.words.read_numbers.Goals as goal
 

@@ -1,6 +1,5 @@
 -- `words::read_words` meets its contract.
-use Rattle.std.proofs.Common.{◌≡◌, ◌-◌, ℕ, suc, ◌+◌, arith, rules, refl, ap, sym, ◌∙◌, length, min, take, replicate, List, ℤ, pos, set}
-use Rattle.replay.specs.declared.numeral.Word.{Word}
+use Rattle.std.proofs.Common.{◌≡◌, ◌-◌, ℕ, suc, ◌+◌, arith, rules, ap, sym, ◌∙◌, length, min, take, replicate, pos, set}
 use Rattle.replay.specs.Words.{placed}
 use Rattle.replay.proofs.Reading.{a_word, following}
 use Rattle.replay.proofs.Filling.{placed_end, placed-more}

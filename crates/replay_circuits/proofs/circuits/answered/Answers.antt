@@ -1,5 +1,5 @@
 -- `circuits::answered` meets its contract.
-use Rattle.std.proofs.Common.{◌≡◌, ◌∙◌, length, take, drop, length-take-le}
+use Rattle.std.proofs.Common.{◌∙◌, length, take, drop, length-take-le}
 use lib.Seq.{take_at}
 use Rattle.replay.proofs.Parts.{fitted_less, take-fitting}
 use Rattle.replay.proofs.Reading.{following}

@@ -1,5 +1,5 @@
 -- `circuits::called` meets its contract.
-use Rattle.std.proofs.Common.{◌≡◌, ℕ, ◌∙◌}
+use Rattle.std.proofs.Common.{ℕ, ◌∙◌}
 use Rattle.std.proofs.lemmas.List.{length-replicate}
 use Rattle.replay.specs.Record.{begun}
 use Rattle.replay.specs.Answers.{with_call}

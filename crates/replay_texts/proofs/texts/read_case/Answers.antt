@@ -1,9 +1,8 @@
 -- `texts::read_case` meets its contract.
-use Rattle.std.proofs.Common.{ℕ, sym, ap, ◌∙◌, min, take, replicate}
-use Rattle.std.proofs.lemmas.List.{length-replicate}
+use Rattle.std.proofs.Common.{◌∙◌, take, replicate}
 use Rattle.replay.specs.Numerals.{word_at}
 use Rattle.replay.specs.Record.{begun}
-use Rattle.replay.proofs.Parts.{take-fitting}
+use Rattle.replay.proofs.Parts.{take-room}
 use Rattle.replay_texts.specs.Texts.{with_read}
 use Rattle.replay_texts.proofs.texts.read_case.Goals as goal
 
@@ -12,6 +11,5 @@ returns c =
     let t = c.args.text.now in
     let line = c.read_line-line.ensures in
     let room = c.read-room.ensures ∙ (λ i. word_at t (line.next i)) in
-    let fits = c.fitting-n.ensures ∙ ap (min c.read-room.result.size) (sym (length-replicate {A = ℕ} 1024 0)) in
-    let words = take-fitting {A = ℕ} c.fitting-n.result c.read-room.result.size (replicate 1024 0) fits ∙ (λ i. take (room i).size (replicate 1024 0)) in
+    let words = take-room c.fitting-n.result c.read-room.result.size 1024 0 c.fitting-n.ensures ∙ (λ i. take (room i).size (replicate 1024 0)) in
     c.was_read.ensures ∙ (λ i. with_read t (begun (room i).next) (line.bytes i) (words i))

@@ -1,11 +1,11 @@
 -- `texts::write_case` meets its contract.
-use Rattle.std.proofs.Common.{ℕ, sym, ap, ◌∙◌, min, take, replicate}
+use Rattle.std.proofs.Common.{ℕ, ◌∙◌, take, replicate}
 use Rattle.std.proofs.lemmas.List.{length-replicate}
 use Rattle.replay.specs.Numerals.{word_at, low_word}
 use Rattle.replay.specs.Record.{begun}
 use Rattle.replay.specs.Words.{numbers_at}
 use Rattle.replay.proofs.Reading.{following}
-use Rattle.replay.proofs.Parts.{take-fitting}
+use Rattle.replay.proofs.Parts.{take-room}
 use Rattle.replay_texts.specs.Texts.{with_written}
 use Rattle.replay_texts.proofs.texts.write_case.Goals as goal
 
@@ -20,6 +20,5 @@ returns c =
     let room = c.read-room.ensures ∙ (λ i. word_at t (next i)) in
     let qubits = c.low.ensures ∙ (λ i. low_word (n i).size) in
     let bits = c.low-2.ensures ∙ (λ i. low_word (m i).size) in
-    let fits = c.fitting-n.ensures ∙ ap (min c.read-room.result.size) (sym (length-replicate {A = ℕ} 300 0)) in
-    let out = take-fitting {A = ℕ} c.fitting-n.result c.read-room.result.size (replicate 300 0) fits ∙ (λ i. take (room i).size (replicate 300 0)) in
+    let out = take-room c.fitting-n.result c.read-room.result.size 300 0 c.fitting-n.ensures ∙ (λ i. take (room i).size (replicate 300 0)) in
     c.was_written.ensures ∙ (λ i. with_written t (begun (room i).next) (qubits i) (bits i) (words i) (out i))

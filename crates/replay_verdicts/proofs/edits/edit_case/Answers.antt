@@ -1,10 +1,10 @@
 -- `edits::edit_case` meets its contract.
-use Rattle.std.proofs.Common.{◌≡◌, ℕ, ℤ, pos, sym, ap, ◌∙◌, min, take, replicate}
+use Rattle.std.proofs.Common.{ℕ, ℤ, pos, ◌∙◌, take, replicate}
 use Rattle.std.proofs.lemmas.List.{length-replicate}
 use Rattle.replay.specs.Numerals.{word_at, low_byte}
 use Rattle.replay.specs.Words.{placed_at, numbers_at}
 use Rattle.replay.proofs.Reading.{following}
-use Rattle.replay.proofs.Parts.{take-fitting}
+use Rattle.replay.proofs.Parts.{take-room}
 use Rattle.replay_verdicts.specs.Edits.{edit_at, behind_edit, called, edit_case}
 use Rattle.replay_verdicts.proofs.edits.edit_case.Goals as goal
 
@@ -24,6 +24,5 @@ returns c =
     let w0 = c.read-result.ensures ∙ (λ i. word_at t (q i)) in
     let w1 = following t n 0 w0 c.read-work.ensures in
     let w2 = following t n 1 w1 c.read-copied.ensures in
-    let fits = c.fitting-o.ensures ∙ ap (min c.read-copied.result.size) (sym (length-replicate {A = ℕ} 100 7)) in
-    let out = take-fitting {A = ℕ} c.fitting-o.result c.read-copied.result.size (replicate 100 7) fits ∙ (λ i. take (w2 i).size (replicate 100 7)) in
+    let out = take-room c.fitting-o.result c.read-copied.result.size 100 7 c.fitting-o.ensures ∙ (λ i. take (w2 i).size (replicate 100 7)) in
     c.called.ensures ∙ (λ i. called t (w2 i).next (edit i) (words i) (store i) (w0 i).size (w1 i).size (out i))

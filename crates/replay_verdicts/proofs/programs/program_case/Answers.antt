@@ -1,5 +1,5 @@
 -- `programs::program_case` meets its contract.
-use Rattle.std.proofs.Common.{◌≡◌, ℕ, ◌∙◌}
+use Rattle.std.proofs.Common.{ℕ, ◌∙◌}
 use Rattle.std.proofs.lemmas.List.{length-replicate}
 use Rattle.pauli_judge.specs.Questions.{pauli_verdict}
 use Rattle.replay.specs.Numerals.{low_byte, low_word}

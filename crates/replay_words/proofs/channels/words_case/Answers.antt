@@ -1,5 +1,5 @@
 -- `channels::words_case` meets its contract.
-use Rattle.std.proofs.Common.{ℕ, ℤ, pos, sym, ap, ◌∙◌, min, take, replicate}
+use Rattle.std.proofs.Common.{ℕ, ℤ, pos, ◌∙◌, take, replicate}
 use Rattle.std.proofs.lemmas.List.{length-replicate}
 use Rattle.channel.specs.Compare.{compare_of}
 use Rattle.channel.specs.Lookup.{lookup_of, part_of}
@@ -7,7 +7,7 @@ use Rattle.replay.specs.Numerals.{word_at, low_byte}
 use Rattle.replay.specs.Record.{begun}
 use Rattle.replay.specs.Answers.{with_comparison, with_blocks, with_povm, with_part}
 use Rattle.replay.specs.Words.{marked, placed_at, numbers_at}
-use Rattle.replay.proofs.Parts.{take-fitting}
+use Rattle.replay.proofs.Parts.{take-room}
 use Rattle.replay_words.specs.Cases.{words_case}
 use Rattle.replay_words.proofs.channels.words_case.Goals as goal
 
@@ -24,8 +24,7 @@ returns c =
     let n = c.read-length.ensures ∙ (λ i. word_at t (q i)) in
     let store = c.read_numbers-store.ensures.words ∙ (λ i. (numbers_at low_byte t (n i).next (narrow i)).words) in
     let next = c.read_numbers-store.ensures.next ∙ (λ i. (numbers_at low_byte t (n i).next (narrow i)).next) in
-    let fits = c.fitting-e.ensures ∙ ap (min c.read-length.result.size) (sym (length-replicate {A = ℤ} 100 (pos 0))) in
-    let effects = take-fitting {A = ℤ} c.fitting-e.result c.read-length.result.size (replicate 100 (pos 0)) fits ∙ (λ i. take (n i).size (replicate 100 (pos 0))) in
+    let effects = take-room c.fitting-e.result c.read-length.result.size 100 (pos 0) c.fitting-e.ensures ∙ (λ i. take (n i).size (replicate 100 (pos 0))) in
     let begin = c.begin.ensures ∙ (λ i. begun (next i)) in
     let compared = c.compare_call-compared.ensures ∙ (λ i. with_comparison t (begin i) (compare_of (left i) (right i))) in
     let traced = c.effects_call-traced.ensures ∙ (λ i. with_blocks t (compared i) (left i) (marked (effects i))) in
