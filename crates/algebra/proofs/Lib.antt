@@ -19,3 +19,5 @@ pub mod Schedule
 pub mod Blocks
 pub mod Signed
 pub mod Bits
+pub mod Ranges
+pub mod Copying

@@ -2,7 +2,7 @@
 use mathlib.Core.Path.{◌≡◌, refl, ap, ◌∙◌, fun_ext}
 use mathlib.Core.List.{List, ◌++◌}
 use Prim.Native.Nat.{ℕ, zero, suc, ◌+◌, ◌*◌, ◌-◌, ◌/◌, ◌%◌, ◌^◌, ◌≤◌, ◌<◌}
-use native.Mathlib.Nat.{div-one, div-lt_iff_lt-mul, mul-le-mul, le_refl}
+use native.Mathlib.Nat.{div-one, div-lt_iff_lt-mul, le_refl}
 use native.Mathlib.Omega.{arith}
 use lib.Bits.{bit_and, and_mask}
 use lib.ListN.{length, length-append}
@@ -22,9 +22,6 @@ use Rattle.branches.specs.Inner.Store.{outcome_pair, outcome_words}
 use Rattle.branches.specs.Inner.Bank.{matrix_size, branch_size, row_size}
 use Rattle.branches.specs.Inner.Step.{row_sum, Applying, operator_number, product_words, step_words, Step}
 use Rattle.branches.proofs.Products.{own_at, other_at, sum_same}
-
-pub dim_square : (d : ℕ) → d ≤ 32 → d * d ≤ 1024
-dim_square d h = mul-le-mul h h
 
 pub factor_pos : (j n k : ℕ) → j < n * k → 0 < k
 factor_pos j n zero h = absurd (omega arith)

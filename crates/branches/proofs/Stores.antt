@@ -73,15 +73,15 @@ module _ (σ : Store) (b : Bits σ) where
 
 -- a store of at most 64 bits, cut at bit 32 or at its end
 module _ (σ : Store) {cut : ℕ} (e : cut ≡ min (length σ) 32) where
-  pub cut_low : from_bits (drop 0 (take cut σ)) ≡ from_bits (take 32 σ)
+  pub cut_low : from_bits (take cut σ) ≡ from_bits (take 32 σ)
   cut_low = go (dec_lt (length σ) 32)
     where
       go : Dec (length σ < 32) → from_bits (take cut σ) ≡ from_bits (take 32 σ)
       go (yes p) = let f : cut ≡ length σ = omega arith in ap (λ (k : ℕ). from_bits (take k σ)) f ∙ ap from_bits (take-length σ ∙ sym (take_all 32 σ (omega arith)))
       go (no p) = let f : cut ≡ 32 = omega arith in ap (λ (k : ℕ). from_bits (take k σ)) f
 
-  pub cut_high : from_bits (drop cut (take (length σ) σ)) ≡ from_bits (drop 32 σ)
-  cut_high = ap (λ (τ : Store). from_bits (drop cut τ)) (take-length σ) ∙ go (dec_lt (length σ) 32)
+  pub cut_high : from_bits (drop cut σ) ≡ from_bits (drop 32 σ)
+  cut_high = go (dec_lt (length σ) 32)
     where
       go : Dec (length σ < 32) → from_bits (drop cut σ) ≡ from_bits (drop 32 σ)
       go (yes p) = ap from_bits (drop_of_length-le σ {i = cut} (omega arith) ∙ sym (drop_of_length-le σ {i = 32} (omega arith)))

@@ -1,4 +1,5 @@
 // A gate's operator applied to the matrix of a branch.
+// Kept (buffers, together): places in the one lent buffer, as in `bank`.
 ghost use Rattle.std.specs.Prelude.{◌≡◌};
 ghost use Rattle.matrix.specs.Inner.Written.{written};
 ghost use Rattle.branches.specs.Inner.Step.{Applying, row_sum};
@@ -27,6 +28,7 @@ fn apply_rows(work: &mut [i64], m: usize, op: usize, old: usize, new: usize, d: 
 }
 
 // Write an operator times the matrix at `old` to `new`; zeros for a zero matrix.
+#[inline(always)]
 pub fn apply_operator(work: &mut [i64], m: usize, op: usize, old: usize, new: usize, d: usize)
     requires { Applying work.old m op old new d }
     ensures { work.new ≡ written work.old new d (row_sum work.old m op old d) }

@@ -1,6 +1,6 @@
 // Branches in words: where they lie, the first one, and a step of all of them.
-// Kept (buffers): a place in the buffer. Both banks and the operators lie in one lent buffer, which a step reads at two places and writes at a third.
-// Kept (facts): d ≤ 32 keeps two products in range; d is read off a bank in every loop, and a type for it would be opened there.
+// Kept (buffers, together): a place in the buffer. Both banks and the operators lie in one lent buffer, which a step reads at two places and writes at a third.
+// Kept (facts): d ≤ 32 keeps two products in range. Two of the four functions take a bare d; as a ghost of Bank it would be shown at each of the five places that make one.
 ghost use Rattle.std.specs.Prelude.{◌≡◌, ◌+◌, ◌*◌, ◌^◌, ◌<◌, ◌≤◌, length, unwrap_or};
 ghost use Rattle.std.proofs.lemmas.List.Edits.{sets};
 ghost use Rattle.algebra.specs.Words.{blocks};
@@ -58,12 +58,10 @@ pub fn start_branch(work: &mut [i64], at: usize, d: usize, store: &[u8])
     ensures { work.new ≡ sets work.old at (branch_words d (identity_branch d store.now)) }
 {
     identity_into(work, at, d);
-    let cut = store.len().min(32);
-    let low = pack(store, 0, cut);
-    let high = pack(store, cut, store.len());
+    let (low, high) = store.split_at(store.len().min(32));
     let s = at + d * d * CELL;
-    work[s] = low as i64;
-    work[s + 1] = high as i64;
+    work[s] = pack(low) as i64;
+    work[s + 1] = pack(high) as i64;
 }
 
 // Operators by their rows, which lie from `slots` on, `stride` words from each to the next.
@@ -78,6 +76,7 @@ pub struct Operators {
 }
 
 // Send each branch of a bank to its `ops` products with these operators, a bank at `to`, and write the operator's number to the store's bit `bit`, if there is one.
+#[inline(always)]
 pub fn step(
     work: &mut [i64],
     m: usize,

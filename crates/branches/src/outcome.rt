@@ -1,6 +1,6 @@
 // A branch's store, written with an outcome.
 // Kept (buffers): places in the buffer, of which one is read and one is written.
-// Kept (facts): an outcome is the number of an operator, 0 or 1, and is added to a word as one; a bool would be turned into the number in all three.
+// Kept (facts): an outcome is the number of an operator, 0 or 1, and is added to a word as one; a bool would be made of it by `step`, and turned into the number again in `with_bit` and in the clauses of all three.
 ghost use Rattle.std.specs.Prelude.{◌≡◌, true, ◌+◌, ◌<◌, ◌≤◌, ◌^◌, ◌-◌, length, unwrap_or};
 ghost use Rattle.std.proofs.lemmas.List.Edits.{sets};
 ghost use Rattle.algebra.specs.Words.{up_to};

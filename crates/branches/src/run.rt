@@ -1,5 +1,5 @@
 // A circuit's gates, run one after the other on the branches.
-// Kept (buffers): a gate by its place in the list, as its index in a verdict is counted; n beside the store is the number of qubits, and no length.
+// Kept (buffers, together): a gate by its place among the words of all gates; `slots` and `to` are places in the one lent work area, as a bank is; d and `banks` are the caller's counts; n beside the store is the number of qubits, and no length.
 ghost use Rattle.std.specs.Prelude.{◌≡◌, ◌*◌, length};
 ghost use Rattle.gate.specs.Gate.{gate_at};
 ghost use Rattle.gate.specs.Operators.{operators};

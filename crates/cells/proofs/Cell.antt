@@ -1,5 +1,6 @@
 -- Cells: the same words are the same cell, what was filled is read back, and many cells as one run of words.
 use mathlib.Core.Path.{◌≡◌, refl, sym, ap, ◌∙◌}
+use mathlib.Core.Bool.{Bool, true, false, ◌&&◌}
 use mathlib.Core.List.{List}
 use Prim.Native.Nat.{ℕ, ◌+◌, ◌*◌, ◌≤◌, ◌<◌}
 use native.Mathlib.Nat.{le_refl, add-zero, add_assoc}
@@ -10,9 +11,10 @@ use lib.Seq.{sets}
 use lib.IntN.{ℤ, pos, nat_abs}
 use Rattle.algebra.specs.Dyadic.{frac}
 use Rattle.algebra.specs.Words.{up_to, blocks}
+use Rattle.algebra.proofs.Tests.{and_no}
 use Rattle.algebra.proofs.Blocks.{Same, blocks_at, length-joined, blocks-joined, joined_at, joined_same}
-use Rattle.exact.specs.Exact.{Exact, number, max_exponent}
-use Rattle.cells.specs.Cells.{cell_words, cell_at, exponent_at, fill, cells, cell_size}
+use Rattle.exact.specs.Exact.{Exact, number, max_exponent, is_lowest, within, max_numerator, well_formed}
+use Rattle.cells.specs.Cells.{cell_words, cell_at, exponent_at, well_formed_at, fill, cells, cell_size}
 
 -- ---- the same five words
 module _ {l m : List ℤ} {at : ℕ} (h : Same l m at cell_size) where
@@ -34,6 +36,14 @@ module _ (l : List ℤ) (at : ℕ) (x : Exact) (h : (k : ℕ) → k < cell_size 
 
   pub exponent_is : exponent_at l at ≡ leb x.exp max_exponent
   exponent_is = ap (up_to max_exponent) (h 4 (omega arith))
+
+  -- they are well formed exactly where it is
+  pub well_formed_is : well_formed_at l at ≡ well_formed x
+  well_formed_is = (λ i. exponent_is i && well_formed (cell_is i)) ∙ twice (leb x.exp max_exponent) refl
+    where
+      twice : (b : Bool) → leb x.exp max_exponent ≡ b → (b && well_formed x) ≡ well_formed x
+      twice true e = refl
+      twice false e = sym (ap (λ (t : Bool). t && is_lowest x) (and_no (within max_numerator x.num) (leb x.exp max_exponent) e))
 
 -- ---- many numbers
 module _ (f : ℕ → Exact) where

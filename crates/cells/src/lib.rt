@@ -1,6 +1,6 @@
 // A scalar as five words of a lent slice, n0 to n3 and e: read, written, and tested.
 // Kept (buffers): words and a place in them. Rows of cells are read at two places of one lent buffer and written at a third: cut into a slice a cell, the buffer would have to be split there and joined again for every row.
-// Kept (facts): that five words are there, of a reader and two writers: a type that says so is the cut slice of which the line above speaks.
+// Kept (facts): that five words are there, of the readers: a type that says so is the cut slice of which the line above speaks.
 #![tactic(auto)]
 
 ghost use Rattle.std.specs.Prelude.{◌≡◌, true, ◌+◌, ◌≤◌, length};
@@ -36,6 +36,7 @@ pub fn read_cell(s: &[i64], at: usize) -> Scalar
     }
 }
 
+// Kept: word by word, of which the check finds the proof alone; with `copy_from_slice` it asks for one on the middle of a list.
 // Write four numerators into the words from `at` on.
 pub fn write_numerators(s: &mut [i64], at: usize, x: [i64; 4])
     requires { at + 4 ≤ length s.old }
@@ -52,10 +53,7 @@ pub fn write_cell(s: &mut [i64], at: usize, v: Scalar)
     requires { at + cell_size ≤ length s.old }
     ensures { s.new ≡ sets s.old at (cell_words (value v)) }
 {
-    s[at] = v.n[0];
-    s[at + 1] = v.n[1];
-    s[at + 2] = v.n[2];
-    s[at + 3] = v.n[3];
+    write_numerators(s, at, v.n);
     s[at + 4] = i64::from(v.e);
 }
 

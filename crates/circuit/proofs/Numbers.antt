@@ -1,8 +1,8 @@
--- The questions of numbers, by their answers: those that the code asks first tell whether the sizes are small enough to be worked out.
+-- What low limits say, and the questions of numbers in two parts: those that the code asks first tell whether the sizes are small enough to be worked out.
 use Rattle.std.specs.Prelude.{Ok, Err}
 use mathlib.Core.Path.{◌≡◌, refl, sym, ap, ◌∙◌}
-use mathlib.Core.Bool.{Bool, true, false, cond, ◌&&◌, and-false, true≢false}
-use mathlib.Core.List.{List, [], ◌∷◌}
+use mathlib.Core.Bool.{Bool, true, false, cond, ◌&&◌, and-false}
+use mathlib.Core.List.{List, [], ◌∷◌, ◌++◌}
 use Prim.Native.Nat.{ℕ, suc, ◌^◌, ◌≤◌}
 use native.Mathlib.Omega.{arith}
 use lib.Dec.{leb}
@@ -11,7 +11,9 @@ use borrow.Author.Tests.{leb-true, leb-false, lt-leb}
 use Rattle.algebra.specs.Lists.{total}
 use Rattle.algebra.proofs.Tests.{and_split}
 use Rattle.verdict.specs.declared.Refusal.TheVariants.{OverLimit, BadStore, TooHeavy, ShortBuffer}
-use Rattle.verdict.specs.Questions.{Question, question, first_no}
+use Rattle.verdict.specs.declared.Refusal.{Refusal}
+use Rattle.verdict.specs.Questions.{Verdict, Question, question, granted, first_no}
+use Rattle.verdict.proofs.Questions.{refused, passed, handed_value}
 use Rattle.gate.specs.Gate.{gates_of, weight, max_weight}
 use Rattle.store.specs.Store.{store_fits}
 use Rattle.circuit.specs.declared.limits.Limits.{Limits}
@@ -19,9 +21,9 @@ use Rattle.circuit.specs.declared.footprint.Footprint.{Footprint}
 use Rattle.circuit.specs.declared.sizes.Sizes.{Sizes}
 use Rattle.circuit.specs.Limits.{ceilings, matrix_ceilings, branch_ceilings}
 use Rattle.circuit.specs.Footprint.{footprint_of}
-use Rattle.circuit.specs.Sizes.{cells_needed, terms_needed}
-use Rattle.circuit.specs.Questions.{sizes_of, within_limits, room_for, number_questions, unitary_room}
+use Rattle.circuit.specs.Questions.{sizes_of, unitary_room}
 use Rattle.circuit.specs.Inner.Small.{max_splits, max_branches, max_qubits, max_gates}
+use Rattle.circuit.specs.Inner.Numbers.{count_questions, size_questions}
 
 module _ (l : Limits) where
   pub matrix_low : matrix_ceilings l ≡ true → (l.max_qubits ≤ max_qubits) × (l.max_operations ≤ max_gates)
@@ -46,31 +48,44 @@ module _ (l : Limits) where
         branches_low = leb-true _ _ (and_split (leb l.max_branches ceilings.max_branches) _ a.1).0;
       }
 
-  -- ---- question 8
-  module _ (f : Footprint) (n m : ℕ) (low : Low) where
-    abbrev pub few : Bool
-    few = leb m l.max_classical_bits && (leb n l.max_qubits && leb f.splits max_splits)
+-- ---- questions 7 to 10: of the sizes, `few_cells` is what question 8 asks of cells and terms, and `room` is question 10
+module _ (l : Limits) (f : Footprint) (n m : ℕ) (σ : List ℕ) (few_cells room : Sizes → Bool) (low : Low l) where
+  abbrev before : List Question
+  before = count_questions f n m σ l
 
-    many-branches : leb f.splits max_splits ≡ false → leb (2 ^ f.splits) l.max_branches ≡ false
-    many-branches e =
-        let a : suc max_splits ≤ f.splits = leb-false f.splits max_splits e in
-        let b : 2 ^ suc max_splits ≤ 2 ^ f.splits = pow_mono a in
-        lt-leb (2 ^ f.splits) l.max_branches (omega (arith, low.branches_low))
+  abbrev of_sizes : Sizes → List Question
+  of_sizes s = size_questions (leb s.branches l.max_branches && few_cells s) f.weight (room s)
 
-    pub too_many : few ≡ false → within_limits f n m l ≡ false
-    too_many = go (leb m l.max_classical_bits) (leb n l.max_qubits) (leb f.splits max_splits) (leb (2 ^ f.splits) l.max_branches) _ many-branches
-      where
-        go : (a b s k r : Bool) → (s ≡ false → k ≡ false) → (a && (b && s)) ≡ false → (a && (k && (b && r))) ≡ false
-        go false b s k r h e = refl
-        go true false s k r h e = and-false k
-        go true true false k r h e = ap (λ (t : Bool). t && r) (h refl)
-        go true true true k r h e = absurd (true≢false e)
+  abbrev whole : List Question
+  whole =
+      let s = sizes_of f n in
+      question 7 (store_fits m σ) BadStore ∷ size_questions (leb m l.max_classical_bits && (leb s.branches l.max_branches && (leb n l.max_qubits && few_cells s))) f.weight (room s)
 
--- ---- questions 7 to 10, by their answers
-pub four_answers : (f : Footprint) (n m : ℕ) (σ : List ℕ) (l : Limits) (result work : ℕ) {a b c d : Bool}
-    → store_fits m σ ≡ a → within_limits f n m l ≡ b → leb f.weight max_weight ≡ c → room_for (sizes_of f n) result work ≡ d
-    → cond a (cond b (cond c (cond d (Ok tt) (Err ShortBuffer)) (Err TooHeavy)) (Err OverLimit)) (Err BadStore) ≡ first_no (number_questions f n m σ l result work)
-four_answers f n m σ l result work p q r s = sym (λ i. cond (p i) (cond (q i) (cond (r i) (cond (s i) (Ok tt) (Err ShortBuffer)) (Err TooHeavy)) (Err OverLimit)) (Err BadStore))
+  many-branches : leb f.splits max_splits ≡ false → leb (2 ^ f.splits) l.max_branches ≡ false
+  many-branches e =
+      let a : suc max_splits ≤ f.splits = leb-false f.splits max_splits e in
+      let b : 2 ^ suc max_splits ≤ 2 ^ f.splits = pow_mono a in
+      lt-leb (2 ^ f.splits) l.max_branches (omega (arith, low.branches_low))
+
+  two_parts : first_no (before ++ of_sizes (sizes_of f n)) ≡ first_no whole
+  two_parts =
+      ap (λ (v : Verdict). cond (store_fits m σ) v (Err BadStore))
+      (go (leb m l.max_classical_bits) (leb n l.max_qubits) (leb f.splits max_splits) (leb (2 ^ f.splits) l.max_branches) (few_cells (sizes_of f n)) _ many-branches)
+    where
+      go : (a b s k r : Bool) (v : Verdict) → (s ≡ false → k ≡ false)
+          → cond (a && (b && s)) (cond (k && r) v (Err OverLimit)) (Err OverLimit) ≡ cond (a && (k && (b && r))) v (Err OverLimit)
+      go false b s k r v h = refl
+      go true false s k r v h = simp (and-false k)
+      go true true false k r v h = simp (h refl)
+      go true true true k r v h = refl
+
+  pub counts_refuse : {r : Refusal} → Err r ≡ granted (sizes_of f n) before → Err r ≡ first_no whole
+  counts_refuse e = refused (sizes_of f n) tt before (of_sizes (sizes_of f n)) e ∙ two_parts
+
+  pub sizes_decide : {s : Sizes} {v : Verdict} → Ok s ≡ granted (sizes_of f n) before → v ≡ first_no (of_sizes s) → v ≡ first_no whole
+  sizes_decide e h =
+      h ∙ ap (λ (s : Sizes). first_no (of_sizes s)) (handed_value (sizes_of f n) before e)
+      ∙ passed (sizes_of f n) tt before (of_sizes (sizes_of f n)) e ∙ two_parts
 
 -- ---- circuit_unitary
 -- the last two questions, by their answers

@@ -1,4 +1,5 @@
 // Layers that fire together: their ends, and the first gate that shares a qubit or a classical bit with an earlier one of its layer.
+// Kept (facts): a gate below the count of the list is what a loop over the list gives; a type for it would be made at each turn.
 // Kept (buffers): the ends must close at the count of gates, and a gate is told by its place in the whole list, since a refusal names that; a slice of a layer would need its first place beside it.
 ghost use Rattle.std.specs.Prelude.{◌≡◌, true, ◌+◌, ◌-◌, ◌*◌, ◌/◌, ◌≤◌, ◌<◌, length};
 ghost use Rattle.verdict.specs.Questions.{first_no};

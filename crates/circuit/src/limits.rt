@@ -20,7 +20,7 @@ const MAX_MULTIPLY_TERMS: u64 = 10000000;
 
 pub const MAX_OPERATIONS: u64 = 1024;
 
-const MAX_BRANCHES: u64 = 64;
+pub const MAX_BRANCHES: u64 = 64;
 
 pub const MAX_CLASSICAL_BITS: u64 = 64;
 

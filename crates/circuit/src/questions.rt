@@ -1,5 +1,5 @@
 // The questions of circuit_channel and of circuit_unitary, in order.
-// Kept (together): the limits and the lengths of the two buffers; every caller holds them apart, and a struct of them would be built only to be read once, by `judge_numbers`.
+// Kept (together): the limits and the lengths of the two buffers; every caller holds them apart, and a struct of them would be built for each call to be taken apart by its last question.
 ghost use Rattle.std.specs.Prelude.{◌≡◌, true, ◌&&◌, ◌≤◌, ◌^◌, is_ok};
 ghost use Rattle.algebra.specs.Lists.{total};
 ghost use Rattle.verdict.specs.Questions.{granted, first_no};
@@ -7,14 +7,16 @@ ghost use Rattle.gate.specs.Gate.{gates_of, splits};
 ghost use Rattle.circuit.specs.Limits.{matrix_ceilings, branch_ceilings};
 ghost use Rattle.circuit.specs.Footprint.{footprint_of};
 ghost use Rattle.circuit.specs.Layers.{layered_questions, layered_verdict};
-ghost use Rattle.circuit.specs.Questions.{length_questions, word_questions, number_questions, channel_questions, channel_verdict, matrix_questions, unitary_verdict};
+ghost use Rattle.circuit.specs.Inner.Small.{max_gates};
+ghost use Rattle.circuit.specs.Inner.Numbers.{count_questions, size_questions};
+ghost use Rattle.circuit.specs.Questions.{sizes_of, length_questions, word_questions, number_questions, channel_questions, channel_verdict, matrix_questions, unitary_verdict};
 
 use crate::Circuit;
 use crate::footprint::Footprint;
 use crate::gates::judge_gates;
 use crate::layers::judge_layers;
 use crate::limits::Limits;
-use crate::sizes::{MAX_SPLITS, Rows, Sizes, has_unitary_room, is_unitary_within};
+use crate::sizes::{Fits, MAX_SPLITS, Rows, Sizes, has_unitary_room, is_unitary_within};
 use gate::GATE;
 use gate::judge::Asking;
 use store::is_store;
@@ -46,6 +48,45 @@ pub fn judge_words(circuit: Circuit, l: Limits) -> Verdict
     judge_gates(circuit.gates, circuit.qubits, Asking::Channel(circuit.bits))
 }
 
+// Question 7, and what question 8 asks before the sizes are worked out; the sizes.
+pub fn judge_counts(
+    f: Footprint,
+    n: u32,
+    bits: u32,
+    store: &[u8],
+    l: Limits,
+) -> Result<Sizes, Refusal>
+    requires { matrix_ceilings l ≡ true }
+    ensures { result ≡ granted (sizes_of f n) (count_questions f n bits store.now l) }
+{
+    if !is_store(store, bits) {
+        return Err(Refusal::BadStore);
+    }
+    if (l.max_classical_bits < bits as u64)
+        | ((l.max_qubits < n as u64) | (MAX_SPLITS < f.splits))
+    {
+        return Err(Refusal::OverLimit);
+    }
+    Ok(Sizes::of(f, n))
+}
+
+// What question 8 asks of the sizes, and questions 9 and 10.
+pub fn judge_sizes<S: Fits>(s: &S, f: Footprint, l: Limits, res: u64, work: u64) -> Verdict
+    requires { f.gates ≤ max_gates }
+    ensures { result ≡ first_no (size_questions (S.within s.now f.gates l) f.weight (S.room s.now res work)) }
+{
+    if !s.is_within(f.gates, l) {
+        return Err(Refusal::OverLimit);
+    }
+    if MAX_WEIGHT < f.weight {
+        return Err(Refusal::TooHeavy);
+    }
+    if !s.has_room(res, work) {
+        return Err(Refusal::ShortBuffer);
+    }
+    Ok(())
+}
+
 // Questions 7 to 10, of limits that are low and of gates that are within them. A kept circuit, which is judged by its counts, has no gate words that would make it a `Circuit`.
 pub fn judge_numbers(
     f: Footprint,
@@ -59,25 +100,8 @@ pub fn judge_numbers(
     requires { (matrix_ceilings l && branch_ceilings l ≡ true) × (f.gates ≤ l.max_operations) }
     ensures { result ≡ first_no (number_questions f n bits store.now l res work) }
 {
-    if !is_store(store, bits) {
-        return Err(Refusal::BadStore);
-    }
-    if (l.max_classical_bits < bits as u64)
-        | ((l.max_qubits < n as u64) | (MAX_SPLITS < f.splits))
-    {
-        return Err(Refusal::OverLimit);
-    }
-    let s = Sizes::of(f, n);
-    if !s.is_within(f.gates, l) {
-        return Err(Refusal::OverLimit);
-    }
-    if MAX_WEIGHT < f.weight {
-        return Err(Refusal::TooHeavy);
-    }
-    if !s.has_room(res, work) {
-        return Err(Refusal::ShortBuffer);
-    }
-    Ok(())
+    let sizes = judge_counts(f, n, bits, store, l)?;
+    judge_sizes(&sizes, f, l, res, work)
 }
 
 // Questions 7 to 10, of gates that have passed questions 1 to 6; the measures and resets.

@@ -1,17 +1,23 @@
 // How large a circuit's work is, and the formulas of the questions, where their operands are small.
-// Kept (facts): that the gates are 1024 at most is known where the limits are, of a list's length; a type for it would be made at once and read in two formulas.
-ghost use Rattle.std.specs.Prelude.{◌≡◌, ◌&&◌, ◌≤◌, ◌^◌, min, leb};
+// Kept (facts): that the gates are 1024 at most is known where the limits are; a type for it would be made at once and read in three formulas, one of pauli_judge. n ≤ 5 is asked where the rows are made of it, and Rows holds it from there on.
+// Kept (twins): `is_within` and `has_room` of `Fits` are heads alone, whose bodies are the circuit's and the program's.
+ghost use Rattle.std.specs.Prelude.{◌≡◌, Bool, ◌&&◌, ℕ, ◌≤◌, ◌^◌, min, leb};
 ghost use Rattle.circuit.specs.Questions.{sizes_of, room_for, unitary_room};
-ghost use Rattle.circuit.specs.Inner.Small.{max_splits, max_branches, max_qubits, max_rows, max_gates};
+ghost use Rattle.circuit.specs.Inner.Small.{max_splits, max_qubits, max_gates};
+ghost use Rattle.circuit.specs.Inner.Numbers.{few_cells};
+ghost use Rattle.circuit.specs.declared.limits.Limits.{Limits};
 ghost use Rattle.circuit.specs.Sizes.{cells_needed, terms_needed, result_words, work_words, unitary_cells, unitary_terms, unitary_result, unitary_work};
 
 use crate::footprint::Footprint;
-use crate::limits::Limits;
+use crate::limits::{Limits, MAX_BRANCHES};
 use cells::CELL;
 use std::marker::Model;
 
 // As many splits as make MAX_BRANCHES.
 pub const MAX_SPLITS: u64 = 6;
+
+// On five qubits.
+const MAX_ROWS: u64 = 32;
 
 // 2^k
 pub fn power(k: u64) -> u64
@@ -21,111 +27,80 @@ pub fn power(k: u64) -> u64
     1u64 << k
 }
 
-// Branches, or the stores that they end with: 64 at most.
+// A number that is MOST at most.
 #[derive(Clone, Copy)]
-pub struct Branches {
+pub struct Few<const MOST: u64> {
     number: u64,
 }
 
-impl Model for Branches {
+impl<const MOST: u64> Model for Few<MOST> {
     ghost use Rattle.std.specs.Prelude.{ℕ, ◌≤◌};
-    ghost use Rattle.circuit.specs.Inner.Small.{max_branches};
 
     ghost Value = { ℕ };
 
-    ghost view = { λ b. b.number };
+    ghost view = { λ f. f.number };
 
-    ghost invariant = { λ b. b.number ≤ max_branches };
+    ghost invariant = { λ f. f.number ≤ MOST };
 
     ghost inverse = { λ k. record { number = k } };
 }
 
-impl Branches {
-    // So many.
-    pub fn new(number: u64) -> Branches
-        requires { number ≤ max_branches }
-        ensures { result ≡ number }
-    {
-        Branches { number }
-    }
-
-    // As many as so many splits make.
-    pub fn of(splits: u64) -> Branches
-        requires { splits ≤ max_splits }
-        ensures { result ≡ 2 ^ splits }
-    {
-        Branches {
-            number: power(splits),
-        }
-    }
-
+impl<const MOST: u64> Few<MOST> {
     pub fn count(self) -> u64
-        ensures { (result ≡ self) × (result ≤ max_branches) }
+        ensures { (result ≡ self.entry) × (result ≤ MOST) }
     {
         self.number
     }
 }
 
-// The rows of a circuit's matrices: 32 at most.
-#[derive(Clone, Copy)]
-pub struct Rows {
-    count: u64,
+// Branches, or the stores that they end with.
+pub type Branches = Few<MAX_BRANCHES>;
+
+impl Branches {
+    // As many as so many splits make.
+    pub fn of(splits: u64) -> Branches
+        requires { splits ≤ max_splits }
+        ensures { result ≡ 2 ^ splits }
+    {
+        Few {
+            number: power(splits),
+        }
+    }
 }
 
-impl Model for Rows {
-    ghost use Rattle.std.specs.Prelude.{ℕ, ◌≤◌};
-    ghost use Rattle.circuit.specs.Inner.Small.{max_rows};
-
-    ghost Value = { ℕ };
-
-    ghost view = { λ d. d.count };
-
-    ghost invariant = { λ d. d.count ≤ max_rows };
-
-    ghost inverse = { λ k. record { count = k } };
-}
+// The rows of a circuit's matrices.
+pub type Rows = Few<MAX_ROWS>;
 
 impl Rows {
-    // So many.
-    pub fn new(count: u64) -> Rows
-        requires { count ≤ max_rows }
-        ensures { result ≡ count }
-    {
-        Rows { count }
-    }
-
     // Those of matrices on n qubits.
     pub fn of(n: u32) -> Rows
         requires { n ≤ max_qubits }
         ensures { result ≡ 2 ^ n }
     {
-        Rows {
-            count: power(n as u64),
+        Few {
+            number: power(n as u64),
         }
-    }
-
-    pub fn count(self) -> u64
-        ensures { (result ≡ self) × (result ≤ max_rows) }
-    {
-        self.count
     }
 
     pub fn square(self) -> u64
         ensures { (result ≡ self ^ 2) × (result ≤ 1024) }
     {
-        self.count * self.count
+        let d = self.count();
+        d * d
     }
 
     pub fn cube(self) -> u64
         ensures { (result ≡ self ^ 3) × (result ≤ 32768) }
     {
-        self.count * self.count * self.count
+        let d = self.count();
+        d * d * d
     }
 
     pub fn fourth(self) -> u64
         ensures { (result ≡ self ^ 4) × (result ≤ 1048576) }
     {
-        self.count * self.count * self.count * self.count
+        let d = self.count();
+        d * d * d * d
     }
 }
 
@@ -179,6 +154,22 @@ fn unitary_work(rows: Rows) -> u64
     4 * (CELL as u64 * rows.square() + 2)
 }
 
+// What is held against limits and buffers: a circuit's sizes, or a program's.
+pub trait Fits {
+    ghost within: { Self → ℕ → Limits → Bool };
+
+    ghost room: { Self → ℕ → ℕ → Bool };
+
+    // Question 8, but for the qubits and the classical bits.
+    fn is_within(&self, gates: u64, l: Limits) -> bool
+        requires { gates ≤ max_gates }
+        ensures { result ≡ within self.now gates l };
+
+    // Question 10.
+    fn has_room(&self, res: u64, work: u64) -> bool
+        ensures { result ≡ room self.now res work };
+}
+
 #[derive(Clone, Copy)]
 pub struct Sizes {
     pub branches: Branches,
@@ -197,22 +188,21 @@ impl Sizes {
             rows: Rows::of(n),
         }
     }
+}
 
-    // Question 8, but for the qubits and the classical bits.
-    pub fn is_within(&self, gates: u64, l: Limits) -> bool
-        requires { gates ≤ max_gates }
-        ensures { let s = self.now in result ≡ leb s.branches l.max_branches && (leb (cells_needed s.branches s.stores s.rows) l.max_matrix_cells && leb (terms_needed gates s.branches s.rows) l.max_multiply_terms) }
-    {
+impl Fits for Sizes {
+    ghost within = { λ s g l. leb s.branches l.max_branches && few_cells l g s };
+
+    ghost room = { room_for };
+
+    fn is_within(&self, gates: u64, l: Limits) -> bool {
         let cells = cells_needed(self.branches, self.stores, self.rows);
         let terms = terms_needed(gates, self.branches, self.rows);
         (self.branches.count() <= l.max_branches)
             & ((cells <= l.max_matrix_cells) & (terms <= l.max_multiply_terms))
     }
 
-    // Question 10.
-    pub fn has_room(&self, res: u64, work: u64) -> bool
-        ensures { result ≡ room_for self.now res work }
-    {
+    fn has_room(&self, res: u64, work: u64) -> bool {
         let needed = result_words(self.stores, self.rows);
         let scratch = work_words(self.branches, self.rows);
         (needed <= res) & (scratch <= work)

@@ -1,5 +1,5 @@
 // Four numerators: their sums, products and multiples, and the zeros that end all of them. No verdicts: a caller shows that all fits.
-// Kept (facts): a range is asked of one operand where a sum or a sign could leave it; a type of numerators in range would have to be left for each sum and entered again.
+// Kept (facts): a range is asked of each operand where a product, a sum or a sign could leave it; a type of numerators in range would have to be left for each sum and entered again.
 ghost use Rattle.std.specs.Prelude.{◌≡◌, ◌%◌, ◌≤◌, ◌^◌};
 ghost use Rattle.std.specs.Int.Bits.{bit_or};
 ghost use Rattle.std.specs.Int.Count.{count_trailing_zeros};
@@ -86,6 +86,14 @@ pub fn neg4(x: [i64; 4]) -> [i64; 4]
     ensures { result ≡ list_of (numbers.neg (number_of x)) }
 {
     [-x[0], -x[1], -x[2], -x[3]]
+}
+
+// The numerators of the conjugate.
+pub fn conj4(x: [i64; 4]) -> [i64; 4]
+    requires { Within room_numerator (number_of x) }
+    ensures { result ≡ list_of (conjugate root2 (number_of x)) }
+{
+    [x[0], x[1], -x[2], -x[3]]
 }
 
 // The numerators times 2^d.

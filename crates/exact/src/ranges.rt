@@ -1,4 +1,5 @@
 // The questions that are asked of four numerators: ranges, and whether all are even or zero.
+// Kept (facts): d ≤ 60, a difference of two exponents, is asked where 2^d is made; a type for it would be made of the two and opened at once.
 ghost use Rattle.std.specs.Prelude.{◌≡◌, ◌≤◌, leb, nat_abs};
 ghost use Rattle.exact.specs.Exact.{number_halves, max_exponent, within, is_zero, number_of};
 ghost use Rattle.exact.specs.Inner.Sizes.{scaled, room_numerator};

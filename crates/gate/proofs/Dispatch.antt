@@ -88,8 +88,6 @@ module _ {n : ℕ} {g : Gate} {j : ℕ} (ready : Ready n g j) where
         other = simp or-false (not-true (eqb g.a g.b || eqb g.a g.c) o.0);
       }
 
--- ---- the two-by-two matrix of a gate, by the tests of the code; u is the arity of its kind
-
 -- ---- entries
 module _ (n j r s₀ : ℕ) where
   abbrev At : List ℕ → Small → Exact

@@ -13,7 +13,8 @@ use verdict::{Refusal, Verdict};
 // The five words of a gate.
 #[derive(Clone, Copy, Debug, PartialEq, Eq)]
 pub struct GateWords {
-    // Kept: a word from outside may be no kind, which question 4 asks; known_kind is the kind that it names.
+    // Kept: a word from outside may be no kind, which question 4 asks. A struct with a Kind in its place would be made at each gate that runs,
+    // from the clause Ready that rows and tables ask now, and save three of their four `unreachable!`: the arm of the kinds that are not supported stays.
     pub kind: u32,
     pub a: u32,
     pub b: u32,
@@ -30,7 +31,8 @@ pub enum Asking {
 }
 
 // The gate in the five words from `at` on.
-// Kept: lists of gates are asked out of order (layers, schedules, bits written later on), and each caller would show the bound of a slice of five words where it now shows that of `at`.
+// Kept: kept_circuit reads a gate from i64, word by word; one function of both would take the reading of a word.
+// Lists of gates are asked out of order (layers, schedules, bits written later on), and each caller would show the bound of a slice of five words where it now shows that of `at`.
 pub fn read_gate(words: &[u32], at: usize) -> GateWords
     requires { at + gate_size ≤ length words.now }
     ensures { gate_of result ≡ gate_at words.now at }
@@ -51,6 +53,7 @@ fn are_below(words: &[u32], bound: u32) -> bool
     words.iter().all(|&w| w < bound)
 }
 
+// Kept: `used` counts the words that name qubits; of a cut slice each pair would be compared in two loops.
 // Whether the first `used` of three words are all different.
 fn are_distinct(used: usize, words: [u32; 3]) -> bool
     ensures { result ≡ distinct (take used words) }
@@ -187,6 +190,7 @@ impl GateWords {
     }
 }
 
+// Kept: the answers of three questions, of which the first no refuses; a struct of them would be built for this call alone.
 fn first_fault(i: usize, formed: bool, placed: bool, supported: bool) -> Verdict
     ensures { result ≡ first_no (three_answers i formed placed supported) }
 {

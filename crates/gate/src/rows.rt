@@ -1,8 +1,8 @@
 // The rows of a gate's matrices on n qubits. Row r has entries in two columns alone: its own, r, and its partner's, which has the bits flipped that the gate may change.
-// Kept (facts): n ≤ 5 and Ready stand in four functions here. A struct of a gate and n with both as ghost fields would be made by branches::run at each gate, from a clause on the whole circuit, and be taken
-// apart again by each function: the masks need n and one qubit, core_table needs Ready alone, and only n ≤ 5 would leave the clauses.
-// Kept (switches): the arms of flips are sums of masks of different qubits, and none is a step that a caller could choose.
-// Kept (buffers): the rows go to a slot of the one lent work area, and what branches says of the whole area, `fill` at a place, would have to be put together again from two parts of it.
+// Kept (facts): n ≤ 5 stands in four functions here, Ready in three and in core_table. A struct of a gate and n with both as ghost fields would be made by branches::run at each gate, from a clause on the whole circuit,
+// and be taken apart again by each function: the masks need n and one qubit, core_table needs Ready alone, and only n ≤ 5 would leave the clauses.
+// Kept (switches): the arms of flips and controls are sums of masks of a kind's qubits, and none is a step that a caller could choose.
+// Kept (buffers): the rows go to a slot of the one lent work area, and what branches says of the whole area, `blocks` at a place, would have to be put together again from two parts of it.
 ghost use Rattle.std.specs.Prelude.{◌≡◌, ◌+◌, ◌-◌, ◌*◌, ◌^◌, ◌≤◌, ◌<◌, length};
 ghost use Rattle.cells.specs.Cells.{cell_size, fill};
 ghost use Rattle.gate.specs.Inner.Words.{gate_of};
@@ -21,6 +21,7 @@ pub struct Pair {
     pub other: Scalar,
 }
 
+// Kept: `weight_of` of pauli_words is its twin in a byte; one public function of both would be cast there, for one line.
 // The weight of qubit q in a row or column number.
 fn mask(n: u32, q: u32) -> usize
     requires { (n ≤ 5) × (q < n) }

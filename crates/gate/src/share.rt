@@ -9,7 +9,7 @@ use super::judge::GateWords;
 fn is_among(q: u32, words: &[u32]) -> bool
     ensures { result ≡ list_any (λ (w : ℕ). eqb q w) words.now }
 {
-    words.iter().any(|&w| q == w)
+    words.contains(&q)
 }
 
 impl GateWords {

@@ -1,5 +1,6 @@
 // The two-by-two matrices of the kinds, as arrays by value.
-// Kept (twins): the matrices differ in their entries alone; a function of the entries would be the array itself.
+// Kept (twins): the matrices differ in their entries alone; as constants they would have no contract that says which matrix of the specs each is.
+// Kept (switches): core_table names the matrix of each kind, and no caller chooses it.
 // Kept (facts): Ready, as in rows.rt.
 ghost use Rattle.std.specs.Prelude.{◌≡◌, true, ◌<◌};
 ghost use Rattle.gate.specs.Gate.{gate, elem};
@@ -70,17 +71,6 @@ fn y_table() -> [[Scalar; 2]; 2]
     [[z, j], [i, z]]
 }
 
-fn z_table() -> [[Scalar; 2]; 2]
-    ensures { result ≡ table_of (phase 4) }
-{
-    let z = ZERO;
-    let m = Scalar {
-        n: [-1, 0, 0, 0],
-        e: 0,
-    };
-    [[ONE, z], [z, m]]
-}
-
 // 1/2 (1 + i, 1 − i; 1 − i, 1 + i)
 fn sx_table() -> [[Scalar; 2]; 2]
     ensures { result ≡ table_of root_x }
@@ -125,7 +115,7 @@ pub fn core_table(g: GateWords, n: u32, j: usize) -> [[Scalar; 2]; 2]
         Kind::X | Kind::Cnot | Kind::Ccx => x_table(),
         Kind::Y | Kind::Cy => y_table(),
         Kind::Sx => sx_table(),
-        Kind::Z | Kind::Cz | Kind::Ccz => z_table(),
+        Kind::Z | Kind::Cz | Kind::Ccz => phase_table(4),
         Kind::S => phase_table(2),
         Kind::Sdg => phase_table(6),
         Kind::T => phase_table(1),

@@ -25,8 +25,7 @@ fn gather_edges(s: &[i64]) -> i64
     ensures { of_z w64 result ≡ edges s.now 0 (length s.now) }
 {
     let mut g = 0i64;
-    for i in 0..s.len() {
-        let x = s[i];
+    for &x in s {
         g = g | (x ^ (x << 1));
     }
     g
@@ -36,12 +35,7 @@ fn gather_edges(s: &[i64]) -> i64
 fn each_in_range(s: &[i64]) -> bool
     ensures { result ≡ all_in_range s.now 0 (length s.now) }
 {
-    for i in 0..s.len() {
-        if !at_most(s[i], MAX_NUMERATOR) {
-            return false;
-        }
-    }
-    true
+    s.iter().all(|&x| at_most(x, MAX_NUMERATOR))
 }
 
 // What is seen of words, in one pass. Only where a word reaches the edge of the range or lies outside it, the words are looked at again one by one.
@@ -63,7 +57,8 @@ pub fn see(s: &[i64]) -> Seen
 }
 
 // Whether the words of s are those of t, of which there are as many.
-// Kept: `==` of slices, measured in place of `same_rows`: 1.25 times as long for 2 Mi words, 3 to 4 times for 64 to 16 Ki.
+// Kept: by a loop over both, in which an index pairs the words as a zip would. `==` of slices takes 1.25 times as long for 2 Mi words and 3 to 4 times for 64 to 16 Ki, measured in place of `same_rows`;
+// comparing two equal channels may take 1.1 times the time of plain C, and takes 1.06.
 pub fn same_words(s: &[i64], t: &[i64]) -> bool
     requires { length s.now ≡ length t.now }
     ensures { result ≡ same_words s.now 0 t.now 0 (length s.now) }
@@ -79,7 +74,7 @@ pub fn same_words(s: &[i64], t: &[i64]) -> bool
 const ROW: usize = 64;
 
 // The same, row by row: the first row that differs ends it.
-// Kept: as `same_words`.
+// Kept: as `same_words`; one place cuts a row of both.
 pub fn same_rows(s: &[i64], t: &[i64]) -> bool
     requires { length s.now ≡ length t.now }
     ensures { result ≡ same_words s.now 0 t.now 0 (length s.now) }

@@ -1,6 +1,6 @@
 // Hermitian blocks of numerators over one power of two: their lower half from their upper, and all of them brought to their shared form in place.
-// Kept (facts): t ≤ 63, the bits of a word, is what a shift itself asks.
 // A row whose number on the diagonal is zero is zero, and is passed over.
+// Kept (facts): t ≤ 63, the bits of a word, is what a shift itself asks; that a block is sparse is known between two writes of it, and a struct with the words would be made anew behind each.
 // Kept (buffers, together): a block by its place and its w rows. It is read and written across its diagonal, at two places of one buffer, and stands in a result that is longer; a struct that holds the `&mut` would be lent anew for each row.
 #![tactic(auto)]
 
@@ -19,7 +19,7 @@ ghost use Rattle.hermitian.specs.Inner.Sparse.{diagonal, mirrored_at, Half, Colu
 
 use cells::{numerators_at, write_numerators};
 use channel::layout::ENTRY;
-use exact::numerators::common_zeros;
+use exact::numerators::{common_zeros, conj4};
 use exact::ranges::all_zero;
 use share::{or_more, shift_words};
 
@@ -38,8 +38,7 @@ fn write_conj(s: &mut [i64], from: usize, at: usize)
     ensures { s.new ≡ sets s.old at (list_of (conjugate root2 (number_in s.old from))) }
 {
     let x = numerators_at(s, from);
-    let y = [x[0], x[1], -x[2], -x[3]];
-    write_numerators(s, at, y);
+    write_numerators(s, at, conj4(x));
 }
 
 // Write the conjugates of the first r numbers of column r of the block at `out`, of w columns, to row r.
@@ -122,6 +121,7 @@ pub fn share_block(s: &mut [i64], at: usize, w: usize, e: u32) -> u32
     ensures numerators { s.new ≡ with_numerators s.old at (w * w) (shared_from s.old at (w * w) e).num }
 {
     let g = or_rows(s, at, w);
+    // Kept: `common_zeros` with zeros for the other three words: for one word its body would stand here again, with a proof of its own, and be no plainer.
     let t = common_zeros(g, 0, 0, 0).min(e);
     shift_rows(s, at, w, t);
     e - t

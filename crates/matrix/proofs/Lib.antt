@@ -4,3 +4,4 @@ pub mod GlobalPhase
 pub mod Rows
 pub mod Operands
 pub mod Questions
+pub mod Asked

@@ -1,5 +1,6 @@
 // Equality up to a global phase.
-// Kept (buffers): n is how many entries the dimension says, which the questions compare with the length of the words.
+// Kept (buffers): n is how many entries the dimension says, with which the length of the words is compared; behind that question it spares a division.
+// Kept (facts): that a number is no larger than an entry of a matrix: a type that says so would be a second scalar, as in products.
 // Kept (together): each matrix is words with the dimension that a caller claims for them; whether both belong together is the first question of this call.
 ghost use Rattle.std.specs.Prelude.{◌≡◌, true, ℕ, ◌*◌, ◌<◌, ◌≤◌, length};
 ghost use Rattle.algebra.specs.Lists.{all_below};
@@ -26,12 +27,7 @@ fn all_well_formed(s: &[i64], n: usize) -> bool
     requires { n * cell_size ≤ length s.now }
     ensures { result ≡ all_below n (λ (i : ℕ). well_formed_at s.now (i * cell_size)) }
 {
-    for i in 0..n {
-        if !well_formed_at(s, i * CELL) {
-            return false;
-        }
-    }
-    true
+    (0..n).all(|i| well_formed_at(s, i * CELL))
 }
 
 // Whether the words are a matrix of d rows and columns, every entry in range and in lowest form.
@@ -51,12 +47,7 @@ fn all_narrow(s: &[i64], n: usize) -> bool
     requires { (n * cell_size ≤ length s.now) × (all_below n (λ (i : ℕ). well_formed_at s.now (i * cell_size)) ≡ true) }
     ensures { result ≡ all_below n (λ (i : ℕ). narrow (entry_of s.now i)) }
 {
-    for i in 0..n {
-        if !read_cell(s, i * CELL).is_narrow() {
-            return false;
-        }
-    }
-    true
+    (0..n).all(|i| read_cell(s, i * CELL).is_narrow())
 }
 
 // ---- the rule
@@ -130,6 +121,7 @@ impl<'a> Pair<'a> {
 }
 
 // ---- the answer
+// Kept: a bool says nothing of phases by itself; a `From<bool>` would hide which answer is which.
 fn phase_of(b: bool) -> Phase
     ensures { result ≡ phase_of b }
 {

@@ -1,6 +1,6 @@
 // Rows of numbers in words: one multiplied, or two multiplied and added.
 // Kept (buffers, together): rows as places in one buffer. The two rows that are read and the row that is written lie in the buffer that a caller lends; as slices they would have to be split out of it and joined again for each row of a product.
-// Kept (facts): that the numerators of two factors are narrow. A type of narrow scalars would be a second scalar, which each row is turned into and each product out of.
+// Kept (facts): that the numerators of two factors are narrow, as in products.
 ghost use Rattle.std.specs.Prelude.{◌≡◌};
 ghost use Rattle.exact.specs.Exact.{exact, narrow_exponent};
 ghost use Rattle.exact.specs.Inner.Sizes.{Coords};
@@ -52,6 +52,7 @@ fn multiply_row(buf: &mut [i64], x: Scalar, from: usize, to: usize, d: usize)
 }
 
 // Write a row times x to `to`: zeros for x = 0, a copy for x = 1.
+#[inline(always)]
 fn scale_row(buf: &mut [i64], x: Scalar, from: usize, to: usize, d: usize)
     requires { Scaling buf.old (value x) from to d }
     ensures { buf.new ≡ fill buf.old to d (scaled_row buf.old (value x) from) }

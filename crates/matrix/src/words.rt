@@ -1,5 +1,6 @@
 // Words cleared, copied, and searched for what is not zero.
-// Kept (buffers): a place and a length. A contract here says of the whole buffer what it becomes; of a cut slice it would speak of that part alone, and each caller would have to show again that the rest stayed as it was.
+// Kept (buffers): a place and a length. The contract of a writer says of the whole buffer what it becomes; of a cut slice it would speak of that part alone, and each caller would have to show again that the rest stayed as it was.
+// The readers take what the writers take.
 ghost use Rattle.std.specs.Prelude.{◌≡◌, ℕ, ◌+◌, ◌*◌, ◌-◌, ◌≤◌, length, get_or, pos};
 ghost use Rattle.algebra.specs.Words.{fill_words};
 ghost use Rattle.algebra.specs.Inner.Apart.{Apart};
@@ -15,9 +16,7 @@ pub fn clear(s: &mut [i64], at: usize, n: usize)
     requires { at + n ≤ length s.old }
     ensures { s.new ≡ fill_words s.old at n (λ (i : ℕ). pos 0) }
 {
-    for i in 0..n {
-        s[at + i] = 0;
-    }
+    s[at..at + n].fill(0);
 }
 
 // Kept: by a loop. `s.copy_within(from..from + n, to)` tells what it leaves by take and drop, where the writers here tell it block by block: a lemma that leads from one to the other would be longer than the loop and its proof.

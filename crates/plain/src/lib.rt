@@ -19,6 +19,9 @@ use gate::kinds::Kind;
 use judge::call::circuit_channel;
 use verdict::{Refusal, Verdict};
 
+// The writer and the reader of channels without √2 parts, which the profile's circuits have.
+pub use plain_words::{read_plain, write_plain};
+
 // Whether a gate is in the profile.
 fn is_plain(g: GateWords) -> bool
     ensures { result ≡ in_profile (gate_of g) }
@@ -45,6 +48,7 @@ fn is_plain(g: GateWords) -> bool
 }
 
 // Questions 4 to 6 and 23, gate by gate.
+// Kept: the loop of circuit::gates with question 23 behind those of each gate; as a closure the question would need a contract on every gate, for a loop of this length.
 fn judge_gates(circuit: Circuit) -> Verdict
     ensures { let c = circuit.entry in result ≡ first_no (profile_questions c.qubits c.bits 0 (gates_of c.gates.now)) }
 {

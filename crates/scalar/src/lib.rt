@@ -10,7 +10,7 @@ pub mod numerators;
 pub mod powers;
 pub mod ranges;
 
-use exact::numerators::{neg4, product};
+use exact::numerators::{conj4, neg4, product};
 use exact::ranges::can_scale;
 use numerators::{aligned_sum, reduce};
 use powers::power;
@@ -108,6 +108,7 @@ impl Scalar {
         }
     }
 
+    // Kept (twins): `neg` and `conj` ask one question and make one call each; a method that is given `neg4` or `conj4` would ask for what they promise, in more lines than it spares.
     pub fn neg(self) -> Result<Scalar, Refusal>
         ensures { result ≡ neg_answer (value self) }
     {
@@ -127,10 +128,8 @@ impl Scalar {
         if !self.is_well_formed() {
             return Err(Refusal::Malformed);
         }
-        let x = self.n;
-        let y = neg4(x);
         Ok(Scalar {
-            n: [x[0], x[1], y[2], y[3]],
+            n: conj4(self.n),
             e: self.e,
         })
     }

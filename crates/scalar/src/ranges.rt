@@ -8,6 +8,7 @@ use exact::ranges::{all_even, all_zero, are_within};
 use exact::{MAX_EXPONENT, MAX_NUMERATOR, NARROW_EXPONENT, NARROW_NUMERATOR};
 
 impl Scalar {
+    // Kept (twins): `in_range` and `is_narrow` are the two bounds of the specification, a line each.
     pub fn in_range(self) -> bool
         ensures { result ≡ in_range (value self) }
     {

@@ -1,4 +1,5 @@
 // A scheduler's work judged: a gate list, a reordered one, and a table that gives each new gate its old position.
+// Kept (facts): a place below the lengths of lists that stand beside it; a type for it would have to hold the lists.
 #![tactic(auto)]
 
 ghost use Rattle.std.specs.Prelude.{◌≡◌, not, ℕ, ◌/◌, ◌≤◌, ◌<◌, length, get_or};
@@ -33,6 +34,7 @@ fn gate_at(words: &[u32], i: usize) -> GateWords
 }
 
 // A reordered gate list, with the list that it reorders and the old position of each of its gates.
+// Kept: the new list and the table are two buffers of the C interface, whose lengths `judge_table` compares.
 #[derive(Clone, Copy)]
 pub struct Schedule<'a> {
     pub old: &'a [u32],

@@ -1,17 +1,20 @@
 -- Stores as bytes: the test of each byte, the number packed from the top down, and the bits read back from it.
-use mathlib.Core.Path.{◌≡◌, refl, ap, ◌∙◌, subst}
+use mathlib.Core.Path.{◌≡◌, refl, sym, ap, ◌∙◌, subst}
 use mathlib.Core.Bool.{true}
 use mathlib.Core.List.{List, [], ◌∷◌}
-use Prim.Native.Nat.{ℕ, zero, suc, ◌+◌, ◌*◌, ◌-◌, ◌/◌, ◌%◌, ◌^◌, ◌<◌, ◌≤◌}
+use Prim.Native.Nat.{ℕ, zero, suc, ◌+◌, ◌*◌, ◌/◌, ◌%◌, ◌^◌, ◌<◌, ◌≤◌}
 use native.Mathlib.Nat.{pow-succ', div-lt_iff_lt-mul, div-add-mod', le_trans}
 use native.Mathlib.Omega.{arith}
 use lib.Dec.{eqb, leb}
 use lib.Pow.{pow_mono}
-use lib.ListN.{length, get_or, take, drop, length-drop}
-use lib.Seq.{drop-cons, get_or-take, length-take-le}
+use lib.ListN.{length, drop, length-drop}
+use Rattle.std.specs.Prelude.{◌++◌}
+use Rattle.std.proofs.Math.Seq.{drop-append_seam}
+use Rattle.std.proofs.Math.Seq.{drop-length}
+use Rattle.std.proofs.lemmas.List.{append_assoc, append-nil}
 use borrow.Author.Tests.{leb-true, eqb-true}
 use Rattle.algebra.specs.Words.{from_bits}
-use Rattle.algebra.proofs.Bits.{bits-take, bits-drop, bits_below}
+use Rattle.algebra.proofs.Bits.{bits-drop, bits_below}
 use Rattle.algebra.proofs.Lists.{every-all}
 use Rattle.algebra.proofs.Tests.{and_split}
 use Rattle.store.specs.Store.{store_fits, bits}
@@ -23,20 +26,25 @@ fits_word m σ e =
     let (n, b) = and_split (eqb (length σ) m) _ e in
     (eqb-true (length σ) m n, every-all (λ (b : ℕ). leb b 1) (λ (v : ℕ). v < 2) (λ v h. omega (arith, leb-true v 1 h)) σ b)
 
--- ---- packed from the top down
-module _ (σ : List ℕ) (to : ℕ) (room : to ≤ length σ) where
-  -- one bit more
-  pub packed : (i : ℕ) → 0 < i → i ≤ to → from_bits (drop (i - 1) (take to σ)) ≡ from_bits (drop i (take to σ)) * 2 + get_or σ (i - 1) 0
-  packed i h k =
-      let e : suc (i - 1) ≡ i = omega arith in
-      ap from_bits (drop-cons (take to σ) (i - 1) 0 (omega (arith, length-take-le to σ room)))
-      ∙ (λ j. get_or-take to σ (i - 1) 0 (omega arith) j + 2 * from_bits (drop (e j) (take to σ)))
-      ∙ omega arith
+-- ---- packed from the top down: r are the bits of l that are left, and x is the number of the others
+abbrev pub Packing : List ℕ → List ℕ → ℕ → Type 0
+Packing l r x = (r ++ drop (length r) l ≡ l) × (x ≡ from_bits (drop (length r) l))
 
-  pub packed_below : Bits σ → (i k : ℕ) → to ≤ i + k → from_bits (drop i (take to σ)) < 2 ^ k
-  packed_below b i k h =
-      le_trans (bits_below (drop i (take to σ)) (bits-drop i (take to σ) (bits-take to σ b)))
-      (pow_mono {i = length (drop i (take to σ))} {j = k} (omega (arith, length-drop i (take to σ), length-take-le to σ room)))
+pub packing-none : (l : List ℕ) → Packing l l 0
+packing-none l = let e = drop-length l in (ap (λ (k : List ℕ). l ++ k) e ∙ append-nil l, ap from_bits (sym e))
+
+pub packing-next : (l r s : List ℕ) (x b : ℕ) → r ≡ s ++ (b ∷ []) → Packing l r x → Packing l s (x * 2 + b)
+packing-next l r s x b e (rest, number) =
+    let all = sym (append_assoc s (b ∷ []) (drop (length r) l)) ∙ ap (λ (k : List ℕ). k ++ drop (length r) l) (sym e) ∙ rest in
+    let next = sym (drop-append_seam s (b ∷ drop (length r) l)) ∙ ap (drop (length s)) all in
+    (ap (λ (k : List ℕ). s ++ k) (sym next) ∙ all, omega (arith, number, ap from_bits next))
+
+pub packing-all : (l r : List ℕ) (x : ℕ) → length r ≡ 0 → Packing l r x → x ≡ from_bits l
+packing-all l r x e (rest, number) = number ∙ ap (λ (k : ℕ). from_bits (drop k l)) e
+
+pub packing-below : (l r : List ℕ) (x : ℕ) → length l ≤ 64 → Bits l → Packing l r x → x < 2 ^ 64
+packing-below l r x h b (rest, number) =
+    omega (arith, number, le_trans (bits_below (drop (length r) l) (bits-drop (length r) l b)) (pow_mono {i = length (drop (length r) l)} {j = 64} (omega (arith, length-drop (length r) l))))
 
 -- ---- a number's bits
 pub bits_back : (m x : ℕ) → x < 2 ^ m → from_bits (bits m x) ≡ x

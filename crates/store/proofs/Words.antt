@@ -23,9 +23,6 @@ module _ {z : ℤ} (f : SFits w64 z) where
   pub read : (P : ℤ → Type 0) → P z → P (to_z w64 (of_z w64 z))
   read P h = subst P (sym (to_z-of_z f)) h
 
-  pub unread : (P : ℤ → Type 0) → P (to_z w64 (of_z w64 z)) → P z
-  unread P h = subst P (to_z-of_z f) h
-
 -- ---- from 0 to n
 pub high_up : (n : ℕ) (z : ℤ) → lt_z z (pos 0) ≡ false → leb (nat_abs z) n ≡ up_to n z
 high_up n (pos a) e = refl
@@ -38,9 +35,6 @@ natural k (negsuc a) e = absurd (subst T e tt)
 pub fits-abs : (z : ℤ) → SFits w64 z → T (non_neg z) → Fits w64 (nat_abs z)
 fits-abs (pos a) f t = record { fits = omega (arith, f.sfits) }
 fits-abs (negsuc a) f t = absurd t
-
-pub casts : (k : ℕ) (z : ℤ) → SFits w64 z → lt_z z (pos k) ≡ false → Casts w64 z
-casts k z f e = ((natural k z e).0, fits-abs z f (natural k z e).0)
 
 pub casts_up : (n : ℕ) (z : ℤ) → SFits w64 z → up_to n z ≡ true → Casts w64 z
 casts_up n (pos a) f e = (tt, fits-abs (pos a) f tt)

@@ -1,5 +1,5 @@
 // Stores: the values of the classical bits. As bytes, one a bit; as a number, in which bit j weighs 2^j; as two words of 32 bits, the low one first.
-// Kept (facts): at most 64 bits, as a number of the header of a channel, which is read as one.
+// Kept (facts): at most 64 bits, a number of the header of a channel; channel::records says why it has no type.
 #![tactic(auto)]
 
 ghost use Rattle.std.specs.Prelude.{◌≡◌, true, ◌+◌, ◌≤◌, ◌^◌, ltb, length, get_or, take, drop, pos};
@@ -23,14 +23,14 @@ pub fn is_store(store: &[u8], bits: u32) -> bool
     store.len() == bits as usize && store.iter().all(|&b| b <= 1)
 }
 
-// The number of the bits from `from` to before `to`, the lowest first.
-pub fn pack(store: &[u8], from: usize, to: usize) -> u64
-    requires { (from ≤ to) × ((to ≤ length store.now) × ((to ≤ from + 64) × Bits store.now)) }
-    ensures { result ≡ from_bits (drop from (take to store.now)) }
+// The number of at most 64 bits, the lowest first.
+pub fn pack(bits: &[u8]) -> u64
+    requires { (length bits.now ≤ 64) × Bits bits.now }
+    ensures { result ≡ from_bits bits.now }
 {
     let mut x = 0;
-    for i in (from..to).rev() {
-        x = x * 2 + u64::from(store[i]);
+    for &b in bits.iter().rev() {
+        x = x * 2 + u64::from(b);
     }
     x
 }
@@ -43,6 +43,7 @@ pub fn fits_bits(store: u64, m: u32) -> bool
     64 <= m || store >> m == 0
 }
 
+// Kept: an order of its own, from bit 0 up; a type for it would be made of the number at each comparison.
 // Whether store x comes before store y: the first bit that differs is 0 in x.
 pub fn comes_before(x: u64, y: u64) -> bool
     ensures { result ≡ before x y }

@@ -70,6 +70,7 @@ impl Refusal {
         }
     }
 
+    // Kept: `number` and `index` are the numbers of the C interface, which has no Option.
     // 0 where the refusal names no index.
     pub fn index(self) -> usize
         ensures { result ≡ refusal_index self }

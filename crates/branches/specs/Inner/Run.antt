@@ -45,7 +45,8 @@ pub record Slots (l : List ℤ) (slots n d : ℕ) (g : Gate) : Type 0 where
 pub record GateStep (l : List ℤ) (ws : List ℕ) (at slots n d from to count : ℕ) : Type 0 where
   pub gate_room : at + gate_size ≤ length ws
   pub slots_ready : Slots l slots n d (gate_at ws at)
-  pub ready : Step (with_operators l slots n d (gate_at ws at)) (flips n (gate_at ws at)) slots (branch_size d) (length (operators (gate_at ws at))) (λ (j : ℕ). j % length (operators (gate_at ws at))) (length (operators (gate_at ws at))) from to d count
+  pub ready : Step (with_operators l slots n d (gate_at ws at)) (flips n (gate_at ws at)) slots (branch_size d) (length (operators (gate_at ws at)))
+      (λ (j : ℕ). j % length (operators (gate_at ws at))) (length (operators (gate_at ws at))) from to d count
 
 -- ---- all gates
 -- a circuit that passed the questions

@@ -30,9 +30,6 @@ controlled_once = 8 ∷ 9 ∷ 20 ∷ 25 ∷ []
 abbrev pub controlled_twice : List ℕ
 controlled_twice = 10 ∷ 11 ∷ []
 
-abbrev pub targeted : List ℕ
-targeted = 8 ∷ 10 ∷ 9 ∷ 11 ∷ 20 ∷ 25 ∷ []
-
 -- two qubits that change places
 abbrev pub swapping : List ℕ
 swapping = swap ∷ cswap ∷ []

@@ -12,12 +12,12 @@ use Rattle.gather.proofs.Edges.{edge-word, edge-fits}
 use Rattle.gather.proofs.Laws.{more}
 use Rattle.gather.proofs.gather_edges.Goals as goal
 
-pub loop-i-preserved : goal.loop-i-preserved
-loop-i-preserved c =
+pub loop-x-preserved : goal.loop-x-preserved
+loop-x-preserved c =
     let s = c.args in
-    let x = get_or s.s.now c.loop-i.i (pos 0) in
+    let x = get_or s.s.now c.loop-x.x-index (pos 0) in
     let e = edge-word x c.x-1.given in
-    let bits = c.loop-i.auto.g in
-    let g = or_lt 64 c.loop-i.g-bits _ bits.fits (subst (λ (m : ℕ). m < 2 ^ 64) (sym e) (edge-fits x c.x-1.given)) in
+    let bits = c.loop-x.auto.g in
+    let g = or_lt 64 c.loop-x.g-bits _ bits.fits (subst (λ (m : ℕ). m < 2 ^ 64) (sym e) (edge-fits x c.x-1.given)) in
     of_z-to_z {w = w64} (record { fits = g })
-    ∙ more (λ (i : ℕ). edge (get_or s.s.now (0 + i) (pos 0))) (sym (of_z-to_z {w = w64} bits) ∙ c.loop-i.invariant) (e ∙ ap (λ (k : ℕ). edge (get_or s.s.now k (pos 0))) (sym (zero-add c.loop-i.i)))
+    ∙ more (λ (i : ℕ). edge (get_or s.s.now (0 + i) (pos 0))) (sym (of_z-to_z {w = w64} bits) ∙ c.loop-x.invariant) (e ∙ ap (λ (k : ℕ). edge (get_or s.s.now k (pos 0))) (sym (zero-add c.loop-x.x-index)))

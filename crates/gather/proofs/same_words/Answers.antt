@@ -30,9 +30,3 @@ loop-i-preserved c =
     ap (λ (m : ℕ). eqb m 0) (of_z-to_z {w = w64} (record { fits = g }))
     ∙ or_zero c.loop-i.d-bits (bit_xor (of_z w64 x) (of_z w64 y))
     ∙ all_more c.loop-i.i (same_at s.s.now 0 s.t.now 0) (ap (λ (m : ℕ). eqb m 0) (sym (of_z-to_z {w = w64} bits)) ∙ c.loop-i.invariant) (xor_words x y p q ∙ (λ j. eqℤ (get_or s.s.now (place j) (pos 0)) (get_or s.t.now (place j) (pos 0))))
-
-pub returns : goal.returns
-returns c =
-    let s = c.args in
-    let e : c.loop-i.i ≡ length s.s.now = omega arith in
-    ap (λ (m : ℕ). eqb m 0) (sym (of_z-to_z {w = w64} c.loop-i.auto.d)) ∙ c.loop-i.invariant ∙ ap (λ (k : ℕ). all_below k (same_at s.s.now 0 s.t.now 0)) e

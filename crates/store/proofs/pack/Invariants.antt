@@ -1,9 +1,8 @@
 -- `pack` meets its contract.
-use mathlib.Core.Path.{◌≡◌}
-use Prim.Native.Nat.{◌≤◌}
-use lib.ListN.{take, drop}
-use Rattle.algebra.specs.Words.{from_bits}
+use Rattle.std.specs.Slice.Iter.{iter_rest}
+use Rattle.std.specs.Iterator.Adapters.{rev_source}
+use Rattle.store.proofs.Bytes.{Packing}
 use Rattle.store.proofs.pack.Given as goal
 
-abbrev pub invariant-loop-i : goal.invariant-loop-i
-invariant-loop-i l = (l.from ≤ l.i) × (l.x ≡ from_bits (drop l.i (take l.to l.store)))
+abbrev pub invariant-loop-b : goal.invariant-loop-b
+invariant-loop-b l = Packing l.bits (iter_rest (rev_source l.b-iterator)) l.x

@@ -11,34 +11,10 @@ run_gates-at-requires c =
     let s = c.args in
     runs s.qubits c.power-d.result s.gates.now s.res.now s.work.now c.requires c.power-d.ensures _ refl
 
-pub overflow_mul-words : goal.overflow_mul-words
-overflow_mul-words c =
-    let s = c.args in
-    let d = c.power-d.result in
-    omega (arith, square_small d (dim_small s.qubits d s.gates.now s.res.now s.work.now c.requires c.power-d.ensures))
-
-pub overflow_mul-words-2 : goal.overflow_mul-words-2
-overflow_mul-words-2 c =
-    let s = c.args in
-    let d = c.power-d.result in
-    omega (arith, square_small d (dim_small s.qubits d s.gates.now s.res.now s.work.now c.requires c.power-d.ensures))
-
 pub branch_size-requires : goal.branch_size-requires
 branch_size-requires c =
     let s = c.args in
     dim_small s.qubits c.power-d.result s.gates.now s.res.now s.work.now c.requires c.power-d.ensures
-
-pub overflow_mul-branch_size : goal.overflow_mul-branch_size
-overflow_mul-branch_size c =
-    let s = c.args in
-    let d = c.power-d.result in
-    omega (arith, c.branch_size.ensures, square_small d (dim_small s.qubits d s.gates.now s.res.now s.work.now c.requires c.power-d.ensures))
-
-pub clear-requires : goal.clear-requires
-clear-requires c =
-    let s = c.args in
-    let room = work_room s.qubits c.power-d.result s.gates.now s.res.now s.work.now c.requires c.power-d.ensures _ refl _ c.run_gates-at.result c.run_gates-at.ensures in
-    omega (arith, c.branch_size.ensures, room.1)
 
 pub returns : goal.returns
 returns c =

@@ -21,18 +21,6 @@ loop-j-init c = let a = c.args in begin (λ j. le_of_eq (length-product a.work.n
 old-at : (n from d ops j at : ℕ) → j / 2 ^ (ops - 1) ≡ j / ops → from + at * branch_size d ≤ n → j / ops * branch_size d + branch_size d ≤ at * branch_size d → from + j / 2 ^ (ops - 1) * branch_size d + branch_size d ≤ n
 old-at n from d ops j at e room inside = subst (λ (k : ℕ). from + k * branch_size d + branch_size d ≤ n) (sym e) (omega (arith, inside, room))
 
-pub overflow_mul-op : goal.overflow_mul-op
-overflow_mul-op c = omega (arith, op-at c.requires c.loop-j-test.true)
-
-pub overflow_add-op : goal.overflow_add-op
-overflow_add-op c = omega (arith, op-at c.requires c.loop-j-test.true)
-
-pub overflow_mul-old : goal.overflow_mul-old
-overflow_mul-old c = let p = c.requires in omega (arith, old-at _ _ c.args.from.d c.args.ops c.loop-j.j c.args.from.count (branch_is p c.loop-j.j) p.from_room (old_in p c.loop-j-test.true))
-
-pub overflow_add-old : goal.overflow_add-old
-overflow_add-old c = let p = c.requires in omega (arith, old-at _ _ c.args.from.d c.args.ops c.loop-j.j c.args.from.count (branch_is p c.loop-j.j) p.from_room (old_in p c.loop-j-test.true))
-
 pub overflow_add-old-in-loop-j : goal.overflow_add-old-in-loop-j
 overflow_add-old-in-loop-j c = let p = c.requires in omega (arith, old-at _ _ c.args.from.d c.args.ops c.loop-j.j c.args.from.count (branch_is p c.loop-j.j) p.from_room (old_in p c.loop-j-test.true))
 

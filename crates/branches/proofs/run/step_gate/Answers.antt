@@ -7,9 +7,6 @@ use Rattle.branches.specs.Inner.Store.{no_bit}
 use Rattle.branches.proofs.Gates.{bit_is, ops_are, gate_ready, gate_done}
 use Rattle.branches.proofs.run.step_gate.Goals as goal
 
-pub branch_size-requires : goal.branch_size-requires
-branch_size-requires c = c.requires.ready.dim
-
 pub step-requires : goal.step-requires
 step-requires c =
     gate_ready c.requires c.read_gate-g.ensures c.write_operators-ops.ensures.0 c.write_operators-ops.ensures.1 c.flips-m.ensures c.branch_size.ensures

@@ -1,14 +1,19 @@
--- A number above its limit: the sizes are not worked out.
-use mathlib.Core.Path.{◌≡◌, refl, sym, ◌∙◌}
-use mathlib.Core.Bool.{false}
-use native.Mathlib.Omega.{arith}
-use Rattle.std.proofs.lemmas.Bool.Decides.{nat_tests}
-use Rattle.circuit.proofs.Numbers.{all-low, few, too_many, four_answers}
+-- What is asked before the sizes decides, or what is asked of them.
+use mathlib.Core.Path.{◌∙◌}
+use Rattle.verdict.proofs.Questions.{returned}
+use Rattle.circuit.specs.declared.sizes.Sizes.{Sizes}
+use Rattle.circuit.specs.Inner.Numbers.{few_cells}
+use Rattle.circuit.specs.Questions.{room_for}
+use Rattle.circuit.proofs.Numbers.{all-low, counts_refuse, sizes_decide}
 use Rattle.circuit.proofs.questions.judge_numbers.Goals as goal
 
-pub returns-then-l-bits : goal.returns-then-l-bits
-returns-then-l-bits c =
+pub returns-in_err-sizes : goal.returns-in_err-sizes
+returns-in_err-sizes c =
     let a = c.args in
-    let many : few a.l a.f a.n a.bits (all-low a.l c.requires.0) ≡ false = grind (arith, nat_tests) in
-    four_answers a.f a.n a.bits a.store.now a.l a.res a.work (sym c.is_store.ensures ∙ c.if-not-is_store.false)
-    (too_many a.l a.f a.n a.bits (all-low a.l c.requires.0) many) refl refl
+    returned _ c.from_residual.ensures.1
+    ∙ counts_refuse a.l a.f a.n a.bits a.store.now (few_cells a.l a.f.gates) (λ (s : Sizes). room_for s a.res a.work) (all-low a.l c.requires.0) c.in_err-sizes.ensures
+
+pub returns : goal.returns
+returns c =
+    let a = c.args in
+    sizes_decide a.l a.f a.n a.bits a.store.now (few_cells a.l a.f.gates) (λ (s : Sizes). room_for s a.res a.work) (all-low a.l c.requires.0) c.in_ok-sizes.ensures c.judge_sizes.ensures

@@ -14,7 +14,7 @@ returns-in-Z c =
     let at : (m : ℕ) → g.kind ≡ m → core_of (gate m g.a g.b g.c g.k) c.args.j ≡ core_of (gate g.kind g.a g.b g.c g.k) c.args.j
     = λ m e. ap (λ (m : ℕ). core_of (gate m g.a g.b g.c g.k) c.args.j) (sym e) in
     let is : number_of c.in-Some.kind ≡ g.kind = c.in-Some.ensures in
-    c.z_table.ensures ∙ elim c.in-Z.is as (λ _. table_of (phase 4) ≡ core_of (gate g.kind g.a g.b g.c g.k) c.args.j) [
+    c.phase_table.ensures ∙ elim c.in-Z.is as (λ _. table_of (phase 4) ≡ core_of (gate g.kind g.a g.b g.c g.k) c.args.j) [
       | inl e ↦ at 2 (sym is ∙ ap number_of e)
       | inr s ↦ elim s as (λ _. table_of (phase 4) ≡ core_of (gate g.kind g.a g.b g.c g.k) c.args.j) [
         | inl e ↦ at 9 (sym is ∙ ap number_of e)

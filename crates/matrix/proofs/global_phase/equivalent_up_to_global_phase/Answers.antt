@@ -76,11 +76,6 @@ narrow-is w = λ i. w.all_narrow.ensures i && w.all_narrow-2.ensures i
 narrow_both : (t : Else-not-narrow) → (left_narrow (start t.before.before.before) ≡ true) × (right_narrow (start t.before.before.before) ≡ true)
 narrow_both t = let s = start t.before.before.before in and_split (left_narrow s) (right_narrow s) (sym (narrow-is t.before) ∙ t.if-not-narrow.false)
 
-pub returns-then-not-formed : goal.returns-then-not-formed
-returns-then-not-formed c =
-    let s = c.args in
-    sym (replied s.left_dim s.left.now s.right_dim s.right.now (sym (both_is c.before) ∙ c.if-not-formed.true) refl refl)
-
 pub returns-then-left_dim-right_dim : goal.returns-then-left_dim-right_dim
 returns-then-left_dim-right_dim c =
     let s = c.args in

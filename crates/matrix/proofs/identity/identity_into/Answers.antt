@@ -13,6 +13,3 @@ loop-i-init c = begin (λ k. le_refl cell_size)
 pub loop-i-preserved : goal.loop-i-preserved
 loop-i-preserved c =
     again c.loop-i.invariant c.loop-i-test.true c.write_cell.ensures (ap (λ (x : Scalar). cell_words (value x)) c.unit_entry.ensures)
-
-pub returns : goal.returns
-returns c = done c.loop-i.invariant c.loop-i-test.false

@@ -29,6 +29,3 @@ loop-c-preserved c =
     let right = cut (kept c.loop-c.invariant a.q (a.d * cell_size) c.requires.1.apart) cell_size i (block_in_lem c.loop-c-test.true cell_size) in
     again c.loop-c.invariant c.loop-c-test.true c.write_cell.ensures
     (ap cell_words (c.combined_entry-v.ensures ∙ (λ j. exact.◌⊕◌ (exact.◌⊗◌ (value a.x) (cell_same left j)) (exact.◌⊗◌ (value a.y) (cell_same right j)))))
-
-pub returns : goal.returns
-returns c = done c.loop-c.invariant c.loop-c-test.false

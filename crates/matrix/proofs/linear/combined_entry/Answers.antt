@@ -32,22 +32,7 @@ pub returns-then-zero_at : goal.returns-then-zero_at
 returns-then-zero_at c =
     c.scaled_entry.ensures ∙ sym (zero-first (x c.before.before.before) (p c.before.before.before) (y c.before.before.before) (q c.before.before.before) (by_zero (x c.before.before.before) (p c.before.before.before) (sym c.zero_at.ensures ∙ c.if-zero_at.true)))
 
-pub times-requires : goal.times-requires
-times-requires c =
-    (c.requires.0.0, subst (λ (v : Scalar). Coords 1 narrow_exponent (value v)) (sym c.read_cell-a.ensures) c.requires.0.1.coords)
-
 pub returns-then-zero_at-2 : goal.returns-then-zero_at-2
 returns-then-zero_at-2 c =
     ap value c.times.ensures ∙ (λ i. exact.◌⊗◌ (x c.before.before.before.before.before.before) (value (c.read_cell-a.ensures i)))
     ∙ sym (zero_right (exact.◌⊗◌ (x c.before.before.before.before.before.before) (p c.before.before.before.before.before.before)) (y c.before.before.before.before.before.before) (q c.before.before.before.before.before.before) (mul-lowest (x c.before.before.before.before.before.before) (p c.before.before.before.before.before.before)) (sym c.zero_at-2.ensures ∙ c.if-zero_at-2.true))
-
-pub sum_of_products-requires : goal.sum_of_products-requires
-sum_of_products-requires c = (
-  (c.requires.0.0, subst (λ (v : Scalar). Coords 1 narrow_exponent (value v)) (sym c.read_cell-a.ensures) c.requires.0.1.coords),
-  (c.requires.1.0, subst (λ (v : Scalar). Coords 1 narrow_exponent (value v)) (sym c.read_cell-b.ensures) c.requires.1.1.coords),
-)
-
-pub returns : goal.returns
-returns c =
-    ap value c.sum_of_products.ensures
-    ∙ (λ i. exact.◌⊕◌ (exact.◌⊗◌ (x c.before.before.before.before.before.before.before) (value (c.read_cell-a.ensures i))) (exact.◌⊗◌ (y c.before.before.before.before.before.before.before) (value (c.read_cell-b.ensures i))))

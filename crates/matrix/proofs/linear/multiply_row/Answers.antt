@@ -24,6 +24,3 @@ loop-c-preserved c =
     let a = c.args in
     let src = cut (kept c.loop-c.invariant a.from (a.d * cell_size) c.requires.apart) cell_size c.loop-c.c (block_in_lem c.loop-c-test.true cell_size) in
     again c.loop-c.invariant c.loop-c-test.true c.write_cell.ensures (ap cell_words (c.scaled_entry-v.ensures ∙ ap (exact.◌⊗◌ (value a.x)) (cell_same src)))
-
-pub returns : goal.returns
-returns c = done c.loop-c.invariant c.loop-c-test.false

@@ -11,11 +11,3 @@ use Rattle.matrix.proofs.linear.scaled_entry.Goals as goal
 pub returns-then-zero_at : goal.returns-then-zero_at
 returns-then-zero_at c =
     sym (by_zero (value c.args.x) (cell_at c.args.buf.now c.args.q) (sym c.zero_at.ensures ∙ c.if-zero_at.true))
-
-pub times-requires : goal.times-requires
-times-requires c =
-    (c.requires.0, subst (λ (v : Scalar). Coords 1 narrow_exponent (value v)) (sym c.read_cell.ensures) c.requires.1.coords)
-
-pub returns : goal.returns
-returns c =
-    ap value c.times.ensures ∙ (λ i. exact.◌⊗◌ (value c.args.x) (value (c.read_cell.ensures i)))

@@ -20,6 +20,3 @@ loop-i-preserved c =
     let apart : Apart b.from b.n b.to (b.n * 1) = narrow _ _ _ _ b.from b.n b.to (b.n * 1) c.requires.1.1 (omega arith) (omega arith) (omega arith) (omega arith) in
     let same = (kept c.loop-i.invariant b.from b.n apart).word (b.from + i) (omega arith) (omega arith) in
     again_word (λ k. get_or b.s.now (b.from + k) (pos 0)) c.loop-i.invariant c.loop-i-test.true (reads _ c.s-1.given ∙ same)
-
-pub returns : goal.returns
-returns c = done c.loop-i.invariant c.loop-i-test.false

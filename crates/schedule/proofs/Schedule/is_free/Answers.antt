@@ -15,14 +15,3 @@ returns-then-is_barred c =
     let a = c.args in
     sym (all_no a.i c.loop-j.j (λ (x : ℕ). not (bars (gates_of a.self.new.now) a.self.table.now (gate_of a.g) a.k x)) c.loop-j-test.true
     (ap not (sym c.is_barred.ensures ∙ c.if-is_barred.true)))
-
-pub loop-j-preserved : goal.loop-j-preserved
-loop-j-preserved c =
-    let a = c.args in
-    all-step c.loop-j.j (λ (x : ℕ). not (bars (gates_of a.self.new.now) a.self.table.now (gate_of a.g) a.k x)) c.loop-j.invariant (ap not (sym c.is_barred.ensures ∙ c.if-is_barred.false))
-
-pub returns : goal.returns
-returns c =
-    let a = c.args in
-    let e : c.loop-j.j ≡ a.i = omega arith in
-    sym (ap (λ (n : ℕ). all_below n (λ (x : ℕ). not (bars (gates_of a.self.new.now) a.self.table.now (gate_of a.g) a.k x))) (sym e) ∙ c.loop-j.invariant)

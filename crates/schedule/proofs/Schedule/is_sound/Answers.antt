@@ -8,11 +8,6 @@ use Rattle.schedule.proofs.Schedule.is_sound.Goals as goal
 pub returns-then-self-place : goal.returns-then-self-place
 returns-then-self-place c = let a = c.args in past_end a.self.old.now a.self.new.now a.self.table.now a.i c.if-self-place.true
 
-pub returns-then-ne : goal.returns-then-ne
-returns-then-ne c =
-    let a = c.args in
-    in_place a.self.old.now a.self.new.now a.self.table.now a.i c.if-self-place.false c.gate_at-g.ensures c.gate_at-h.ensures false _ (sym (not-true _ (sym c.ne.ensures ∙ c.if-ne.true))) refl
-
 pub returns : goal.returns
 returns c =
     let a = c.args in

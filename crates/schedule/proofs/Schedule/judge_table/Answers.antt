@@ -12,12 +12,6 @@ use Rattle.schedule.specs.Questions.{sound}
 use Rattle.schedule.proofs.Asked.{lengths_are, lengths_differ, position_no, positions_yes}
 use Rattle.schedule.proofs.Schedule.judge_table.Goals as goal
 
-pub is_sound-requires : goal.is_sound-requires
-is_sound-requires c =
-    let new_long : length c.args.self.new.now / gate_size ≡ length c.args.self.old.now / gate_size = grind (arith, nat_tests) in
-    let table_long : length c.args.self.table.now ≡ length c.args.self.old.now / gate_size = grind (arith, nat_tests) in
-    (omega arith, omega arith)
-
 pub returns-then-not-is_sound : goal.returns-then-not-is_sound
 returns-then-not-is_sound c =
     let a = c.args in
@@ -25,11 +19,6 @@ returns-then-not-is_sound c =
     let table_long : length a.self.table.now ≡ length a.self.old.now / gate_size = grind (arith, nat_tests) in
     position_no (gates_of a.self.old.now) (gates_of a.self.new.now) a.self.table.now (lengths_are a.self.old.now a.self.new.now a.self.table.now same) c.loop-i.i c.loop-i.invariant (omega arith)
     (sym c.is_sound.ensures ∙ c.if-not-is_sound.true)
-
-pub loop-i-preserved : goal.loop-i-preserved
-loop-i-preserved c =
-    let a = c.args in
-    all-step c.loop-i.i (sound (gates_of a.self.old.now) (gates_of a.self.new.now) a.self.table.now) c.loop-i.invariant (sym c.is_sound.ensures ∙ c.if-not-is_sound.false)
 
 pub returns : goal.returns
 returns c =

@@ -17,15 +17,6 @@ use Rattle.matrix.proofs.global_phase.Pair.in_phase.Goals as goal
 at_pivot : (l : List ℤ) (n : ℕ) → first_not (n - 0) 0 (λ (k : ℕ). zero_at l (0 + k * cell_size)) ≡ pivot n (entry_of l)
 at_pivot l n = λ t. first-whole n (λ (k : ℕ). zero_at l (zero-add (k * cell_size) t)) t
 
-pub first_nonzero-requires : goal.first_nonzero-requires
-first_nonzero-requires c = (omega arith, omega (arith, c.args.self.left_operands.room))
-
-pub in_phase_at-requires : goal.in_phase_at-requires
-in_phase_at-requires c = let p = found-some c.in-Some.ensures in omega (arith, p.0, p.1)
-
-pub is_zero-requires : goal.is_zero-requires
-is_zero-requires c = omega (arith, c.args.self.right_operands.room)
-
 pub returns-in-Some : goal.returns-in-Some
 returns-in-Some c =
     let n = c.args.self.n in

@@ -15,20 +15,6 @@ use Rattle.matrix.proofs.global_phase.Pair.ratios_same.Goals as goal
 tested : (A B : Exact) {r : Bool} {p q x y : Scalar} {X Y : Exact} → r ≡ equal (value p) (value q) → p ≡ scalar_of (value x · B) → q ≡ scalar_of (value y · A) → x ≡ scalar_of X → y ≡ scalar_of Y → r ≡ equal (X · B) (Y · A)
 tested A B e ep eq ex ey = e ∙ (λ i. equal (value (ep i)) (value (eq i))) ∙ (λ i. equal (value (ex i) · B) (value (ey i) · A))
 
-pub read_cell-x-requires : goal.read_cell-x-requires
-read_cell-x-requires c = (omega (arith, c.args.self.left_operands.room), c.args.self.left_operands.exponent c.loop-j.j c.loop-j-test.true)
-
-pub read_cell-y-requires : goal.read_cell-y-requires
-read_cell-y-requires c = (omega (arith, c.args.self.right_operands.room), c.args.self.right_operands.exponent c.loop-j.j c.loop-j-test.true)
-
-pub times-requires : goal.times-requires
-times-requires c =
-    (subst (λ (v : Scalar). Operand (value v)) (sym c.read_cell-x.ensures) (c.args.self.left_operands.operand c.loop-j.j c.loop-j-test.true), c.requires.1)
-
-pub times-requires-in-loop-j : goal.times-requires-in-loop-j
-times-requires-in-loop-j c =
-    (subst (λ (v : Scalar). Operand (value v)) (sym c.read_cell-y.ensures) (c.args.self.right_operands.operand c.loop-j.j c.loop-j-test.true), c.requires.0)
-
 pub returns-then-not-equals : goal.returns-then-not-equals
 returns-then-not-equals c =
     sym (all_no c.args.self.n c.loop-j.j _ c.loop-j-test.true (sym (tested (value c.args.a) (value c.args.b) c.equals.ensures c.times.ensures c.times-in-loop-j.ensures c.read_cell-x.ensures c.read_cell-y.ensures) ∙ c.if-not-equals.true))
@@ -36,9 +22,3 @@ returns-then-not-equals c =
 pub loop-j-preserved : goal.loop-j-preserved
 loop-j-preserved c =
     all-step c.loop-j.j _ c.loop-j.invariant (sym (tested (value c.args.a) (value c.args.b) c.equals.ensures c.times.ensures c.times-in-loop-j.ensures c.read_cell-x.ensures c.read_cell-y.ensures) ∙ c.if-not-equals.false)
-
-pub returns : goal.returns
-returns c =
-    let s = c.args in
-    let e : c.loop-j.j ≡ s.self.n = omega arith in
-    sym (ap (λ (n : ℕ). equal_ratios n (entry_of s.self.left.now) (entry_of s.self.right.now) (value s.a) (value s.b)) (sym e) ∙ c.loop-j.invariant)
