@@ -1,6 +1,5 @@
 -- Sides of a turn, and blocks of one exponent: an entry is the same exactly where its four words are.
 use Rattle.std.specs.Prelude.{Some}
-use Rattle.std.specs.Borrow.{Bor}
 use mathlib.Core.Path.{◌≡◌, refl, sym, ap, ◌∙◌}
 use mathlib.Core.Bool.{true, ◌&&◌}
 use mathlib.Core.List.{List}
@@ -25,11 +24,10 @@ use Rattle.channel.specs.Inner.Shapes.{Entries}
 use Rattle.channel.specs.Inner.Sides.{Side, holds, side_of, both_alike}
 
 -- the entries that can be read of a side
-module _ (n : ℕ) (l : Bor (List ℤ)) where
-  pub holds-entries : holds n (Some l) ≡ true → Entries l.now 0 n
-  holds-entries e = let p = and_split (leb (record_head + n * 4) (length l.now)) _ e in record { inside = leb-true _ (length l.now) p.0; exponent = p.1 }
+pub holds-entries : (n : ℕ) (l : List ℤ) → holds n (Some l) ≡ true → Entries l 0 n
+holds-entries n l e = let p = and_split (leb (record_head + n * 4) (length l)) _ e in record { inside = leb-true _ (length l) p.0; exponent = p.1 }
 
-pub held-inside : {s : Side} {l : Bor (List ℤ)} (n : ℕ) → s ≡ Some l → holds n s ≡ true → record_head + n * 4 ≤ length l.now
+pub held-inside : {s : Side} {l : List ℤ} (n : ℕ) → s ≡ Some l → holds n s ≡ true → record_head + n * 4 ≤ length l
 held-inside {l = l} n p e = (holds-entries n l (sym (ap (holds n) p) ∙ e)).inside
 
 module _ (l : List ℤ) (a : ℕ) (r : List ℤ) (b k : ℕ) where
@@ -71,15 +69,15 @@ rows_decide l a r b n e s k h =
     (λ i p. (λ j. eqℤ (word l (add_assoc (a + record_head) (k * 4) i j)) (word r (add_assoc (b + record_head) (k * 4) i j))) ∙ all-at (n * 4) (same_at l (a + record_head) r (b + record_head)) s (k * 4 + i) (omega arith))
 
 -- blocks that are alike
-module _ {x y : Side} {l r : Bor (List ℤ)} (p : x ≡ Some l) (q : y ≡ Some r) (e : both_alike x y ≡ true) where
-  one_exponent : word l.now exponent_place ≡ word r.now exponent_place
+module _ {x y : Side} {l r : List ℤ} (p : x ≡ Some l) (q : y ≡ Some r) (e : both_alike x y ≡ true) where
+  one_exponent : word l exponent_place ≡ word r exponent_place
   one_exponent = eqℤ-true _ _ (sym (λ i. both_alike (p i) (q i)) ∙ e)
 
   sides : (k : ℕ) → equal (side_of (Some l) k) (side_of (Some r) k) ≡ equal (side_of x k) (side_of y k)
   sides k = λ i. equal (side_of (sym p i) k) (side_of (sym q i) k)
 
-  pub alike-entry : (k : ℕ) → same_words l.now (record_head + k * 4) r.now (record_head + k * 4) 4 ≡ equal (side_of x k) (side_of y k)
-  alike-entry k = four_decide l.now 0 r.now 0 k one_exponent ∙ sides k
+  pub alike-entry : (k : ℕ) → same_words l (record_head + k * 4) r (record_head + k * 4) 4 ≡ equal (side_of x k) (side_of y k)
+  alike-entry k = four_decide l 0 r 0 k one_exponent ∙ sides k
 
-  pub alike-rows : (n : ℕ) → same_words l.now record_head r.now record_head (n * 4) ≡ true → (k : ℕ) → k < n → equal (side_of x k) (side_of y k) ≡ true
-  alike-rows n s k h = sym (sides k) ∙ rows_decide l.now 0 r.now 0 n one_exponent s k h
+  pub alike-rows : (n : ℕ) → same_words l record_head r record_head (n * 4) ≡ true → (k : ℕ) → k < n → equal (side_of x k) (side_of y k) ≡ true
+  alike-rows n s k h = sym (sides k) ∙ rows_decide l 0 r 0 n one_exponent s k h

@@ -163,15 +163,19 @@ by-words F l at = go (up_to max_exponent x) refl
     asked : Bool → Bool → Bool → Bool
     asked a c e = (a && (c && e)) && d
 
+    -- of the numbers, and of the words
+    N : Bool
+    N = all_below (entries F) (λ (k : ℕ). within max_numerator (z k))
+
+    M : Bool
+    M = eqb (nat_abs x) 0 || not (all_below (entries F) (λ (k : ℕ). number_halves.even (z k)))
+
     A : Bool
     A = all_below (block_size F) (λ (i : ℕ). leb (nat_abs (v i)) max_numerator)
 
     B : Bool
     B = eqℤ x (pos 0) || not (all_below (block_size F) (λ (i : ℕ). evenℤ (v i)))
 
-    go : (a : Bool) → up_to max_exponent x ≡ a
-        → said (up_to max_exponent x) (leb (nat_abs x) max_exponent) (all_below (entries F) (λ (k : ℕ). within max_numerator (z k))) (eqb (nat_abs x) 0 || not (all_below (entries F) (λ (k : ℕ). number_halves.even (z k)))) ≡ asked (up_to max_exponent x) A B
+    go : (a : Bool) → up_to max_exponent x ≡ a → said (up_to max_exponent x) (leb (nat_abs x) max_exponent) N M ≡ asked (up_to max_exponent x) A B
     go true e = (λ i. said (e i) (abs-up max_exponent x e i) (range i) (zero_test x i || not (parity i))) ∙ sym (ap (λ (a : Bool). asked a A B) e)
-    go false e =
-        ap (λ (a : Bool). said a (leb (nat_abs x) max_exponent) (all_below (entries F) (λ (k : ℕ). within max_numerator (z k))) (eqb (nat_abs x) 0 || not (all_below (entries F) (λ (k : ℕ). number_halves.even (z k))))) e
-        ∙ sym (ap (λ (a : Bool). asked a A B) e)
+    go false e = ap (λ (a : Bool). said a (leb (nat_abs x) max_exponent) N M) e ∙ sym (ap (λ (a : Bool). asked a A B) e)

@@ -3,9 +3,14 @@ use Rattle.std.specs.Prelude.{Option, Some, None}
 use mathlib.Core.Path.{◌≡◌, refl, sym, ap, ◌∙◌}
 use mathlib.Core.Bool.{Bool, true, false, not, ◌&&◌, ◌||◌}
 use mathlib.Core.List.{List}
-use Prim.Native.Nat.{ℕ, zero, suc, ◌+◌, ◌*◌}
+use Prim.Native.Nat.{ℕ, zero, suc, ◌+◌, ◌*◌, ◌-◌, ◌≤◌}
+use native.Mathlib.Omega.{arith}
 use lib.Dec.{eqb}
+use lib.ListN.{length, take, drop}
 use lib.IntN.{ℤ, pos, nat_abs}
+use mir.Facts.{to_z-of_z}
+use mir.Syntax.{w64}
+use mir.Val.{SFits, to_z, of_z}
 use Rattle.algebra.specs.Words.{eqℤ, up_to}
 use Rattle.algebra.proofs.Tests.{test_same}
 use Rattle.algebra.proofs.Parts.{abs_neg}
@@ -18,10 +23,12 @@ use Rattle.exact.proofs.Exact.{exact_halving}
 use Rattle.exact.proofs.IsZero.{zero_is}
 use Rattle.gather.specs.declared.Seen.{Seen}
 use Rattle.gather.specs.Words.{all_in_range, all_even, seen_of}
+use Rattle.gather.proofs.Laws.{seen-cut}
 use Rattle.algebra.specs.Dyadic.{power}
-use Rattle.channel.specs.Layout.{Form, full, record_head, exponent_place, block_size, word, exp_at, numbers_at, entry_at, chain}
+use Rattle.channel.specs.Layout.{Form, full, record_head, exponent_place, block_size, record_size, word, exp_at, numbers_at, entry_at, chain}
 use Rattle.channel.specs.WellFormed.{diagonal_ok, block_ok, all_zero, some_zero}
 use Rattle.channel.specs.Inner.Shapes.{when, blank, some_blank}
+use Rattle.channel.proofs.Words.{eq_small}
 use Rattle.channel.proofs.RoundTrip.{all_same}
 use Rattle.channel.proofs.ByWords.{by-words, words_test, zero_test}
 
@@ -46,44 +53,48 @@ pub blank-along : (w : ℕ) (l : List ℤ) (n at : ℕ) → some_blank (full w) 
 blank-along w l zero at = refl
 blank-along w l (suc n) at = λ i. sym (blank_is l at w) i || blank-along w l n (nat_abs (word l at)) i
 
--- ---- one pass
-module _ (F : Form) (l : List ℤ) (at : ℕ) where
+-- ---- one pass over the words of a record, and its exponent
+module _ (F : Form) (l : List ℤ) where
   abbrev exponent : ℤ
-  exponent = word l (at + exponent_place)
+  exponent = word l exponent_place
 
   abbrev ranged : Bool
-  ranged = all_in_range l (at + record_head) (block_size F)
+  ranged = all_in_range l record_head (block_size F)
 
   abbrev evens : Bool
-  evens = all_even l (at + record_head) (block_size F)
+  evens = all_even l record_head (block_size F)
 
   abbrev diagonal : Bool
-  diagonal = diagonal_ok F (numbers_at F l at)
+  diagonal = diagonal_ok F (numbers_at F l 0)
 
   abbrev part : Bool → Bool → Bool
   part a b = (a && b) && diagonal
 
-  is : block_ok F l at ≡ part (up_to max_exponent exponent) (ranged && (eqℤ exponent (pos 0) || not evens))
-  is = by-words F l at
+  is : block_ok F l 0 ≡ part (up_to max_exponent exponent) (ranged && (eqℤ exponent (pos 0) || not evens))
+  is = by-words F l 0
 
   abbrev answer : Option Bool
-  answer = when (block_ok F l at) (blank F l at)
+  answer = when (block_ok F l 0) (blank F l 0)
 
-  none : block_ok F l at ≡ false → None ≡ answer
-  none e = sym (ap (λ (b : Bool). when b (blank F l at)) e)
+  none : block_ok F l 0 ≡ false → None ≡ answer
+  none e = sym (ap (λ (b : Bool). when b (blank F l 0)) e)
 
-  module _ (g : Seen) (n : ℕ) (size : n ≡ block_size F) (e : g ≡ seen_of l (at + record_head) n) (z : Bool) (f : z ≡ eqℤ exponent (pos 0)) (h : up_to max_exponent exponent ≡ true) where
-    seen : g ≡ seen_of l (at + record_head) (block_size F)
-    seen = e ∙ ap (seen_of l (at + record_head)) size
+  module _ {g : Seen} {n : ℕ} (inside : record_size F ≤ length l) (size : n ≡ block_size F) (e : g ≡ seen_of (take (record_head + n - record_head) (drop record_head l)) 0 (length (take (record_head + n - record_head) (drop record_head l))))
+      (f : SFits w64 exponent) (h : up_to max_exponent (to_z w64 (of_z w64 exponent)) ≡ true) where
+    seen : g ≡ seen_of l record_head (block_size F)
+    seen = e ∙ seen-cut l record_head n (record_head + n - record_head) (omega arith) (omega arith) ∙ ap (seen_of l record_head) size
 
-    tested : (g.range && (z || not g.even)) ≡ (ranged && (eqℤ exponent (pos 0) || not evens))
-    tested = λ i. (seen i).range && (f i || not (seen i).even)
+    small : up_to max_exponent exponent ≡ true
+    small = sym (ap (up_to max_exponent) (to_z-of_z f)) ∙ h
 
-    pub pass_bad : (g.range && (z || not g.even)) ≡ false → None ≡ answer
-    pass_bad t = none (is ∙ (λ i. part (h i) ((sym tested ∙ t) i)))
+    tested : (g.range && (eqb (of_z w64 exponent) 0 || not g.even)) ≡ (ranged && (eqℤ exponent (pos 0) || not evens))
+    tested = λ i. (seen i).range && (eq_small 0 tt exponent f i || not (seen i).even)
 
-    passed : (g.range && (z || not g.even)) ≡ true → block_ok F l at ≡ diagonal
-    passed t = is ∙ (λ i. part (h i) ((sym tested ∙ t) i))
+    pub pass_bad : (g.range && (eqb (of_z w64 exponent) 0 || not g.even)) ≡ false → None ≡ answer
+    pass_bad t = none (is ∙ (λ i. part (small i) ((sym tested ∙ t) i)))
 
-    pub pass_good : (g.range && (z || not g.even)) ≡ true → diagonal ≡ true → Some g.zero ≡ answer
+    passed : (g.range && (eqb (of_z w64 exponent) 0 || not g.even)) ≡ true → block_ok F l 0 ≡ diagonal
+    passed t = is ∙ (λ i. part (small i) ((sym tested ∙ t) i))
+
+    pub pass_good : (g.range && (eqb (of_z w64 exponent) 0 || not g.even)) ≡ true → diagonal ≡ true → Some g.zero ≡ answer
     pass_good t d = λ i. when (sym (passed t ∙ d) i) (seen i).zero

@@ -50,8 +50,11 @@ module _ (F : Form) (l : List ℤ) (m count : ℕ) (few : m ≤ 64) where
       → Sorted (keys (chain F l n (nat_abs z))) × (first ≡ false → Above prev (keys (chain F l n (nat_abs z))))
   chain-sorted zero z first prev e = (tt, λ f. tt)
   chain-sorted (suc n) z first prev e =
-      go (chain-sorted n (word l (nat_abs z)) false (store_at l (nat_abs z)) (subst (λ (k : ℕ). chain_ok F l m count k (word l (nat_abs z)) false (store_at l (nat_abs z)) ≡ true) less (chain-rest F l m count (suc n) z first prev (omega arith) e)))
+      go (chain-sorted n (word l (nat_abs z)) false (store_at l (nat_abs z)) (subst Rest less (chain-rest F l m count (suc n) z first prev (omega arith) e)))
     where
+      Rest : ℕ → Type 0
+      Rest k = chain_ok F l m count k (word l (nat_abs z)) false (store_at l (nat_abs z)) ≡ true
+
       less : suc n - 1 ≡ n
       less = omega arith
 

@@ -11,7 +11,7 @@ use lib.IntN.{ℤ, pos, negsuc, nat_abs}
 use lib.Signed.{lt_z, non_neg}
 use mir.Syntax.{w64}
 use mir.Val.{SFits, to_z, of_z, sel}
-use borrow.Author.Tests.{ltb-true, ltb-false, leb-true, le-leb, lt-leb, lt-ltb, eq-eqb, eqb-true, ne_eqb}
+use borrow.Author.Tests.{ltb-true, ltb-false, leb-true, le-leb, lt-ltb, eq-eqb, eqb-true, ne_eqb}
 use Rattle.algebra.specs.Words.{up_to, eqℤ}
 use Rattle.algebra.proofs.Tests.{and_split}
 use Rattle.algebra.proofs.Signed.{eq_words}
@@ -20,10 +20,6 @@ use Rattle.channel.specs.Layout.{Form, header_size, record_head, block_size, rec
 use Rattle.channel.specs.WellFormed.{is_start, is_dim}
 
 -- ---- starts of records
-pub low-start : (F : Form) (n : ℕ) (z : ℤ) → lt_z z (pos header_size) ≡ true → false ≡ is_start F n z
-low-start F n (pos a) e = ap (λ (b : Bool). b && (eqb ((a - header_size) % record_size F) 0 && ltb ((a - header_size) / record_size F) n)) (sym (lt-leb header_size a (ltb-true a header_size e)))
-low-start F n (negsuc a) e = refl
-
 pub high_start : (F : Form) (n : ℕ) (z : ℤ) → lt_z z (pos header_size) ≡ false → (eqb ((nat_abs z - header_size) % record_size F) 0 && ltb ((nat_abs z - header_size) / record_size F) n) ≡ is_start F n z
 high_start F n (pos a) e = ap (λ (b : Bool). b && (eqb ((a - header_size) % record_size F) 0 && ltb ((a - header_size) / record_size F) n)) (sym (le-leb header_size a (ltb-false a header_size e)))
 high_start F n (negsuc a) e = absurd (subst T e tt)

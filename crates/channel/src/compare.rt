@@ -1,13 +1,14 @@
 // The comparison of two channels: their chains are walked in step, and the blocks of each store compared. Blocks of one exponent are compared word by word, in rows;
 // only a block that differs is searched for its first unequal entry.
-ghost use Rattle.std.specs.Prelude.{◌≡◌, true, ℕ, ◌+◌, ◌*◌, ◌<◌, ◌≤◌, length};
+ghost use Rattle.std.specs.Prelude.{◌≡◌, true, ◌+◌, ◌*◌, ◌<◌, ◌≤◌};
+ghost use Rattle.std.specs.Option.{ForSome, option_copied};
 ghost use Rattle.exact.specs.Exact.{equal};
 ghost use Rattle.scalar.specs.Calls.{scalar_of};
 ghost use Rattle.channel.specs.Layout.{read_back};
-ghost use Rattle.channel.specs.Inner.Shapes.{Onward, Entries};
+ghost use Rattle.channel.specs.Inner.Shapes.{Onward};
 ghost use Rattle.channel.specs.Inner.Sides.{holds, side_of, both_alike, blocks_of};
 ghost use Rattle.channel.specs.Compare.{scan, first, merge, compare_of};
-ghost use Rattle.channel.specs.Inner.Walk.{side_at, turn_of, cursor_at, advance, On, Matched};
+ghost use Rattle.channel.specs.Inner.Walk.{turn_of, cursor_at, taken_of, advance, On, Matched};
 
 use super::layout::{ENTRY, EXPONENT, RECORD_HEAD, block_size, follow, read_entry, read_store};
 use super::well_formed::judge;
@@ -39,15 +40,7 @@ pub enum Comparison {
     Differs(Difference),
 }
 
-// The sides that have a block of the next store.
-#[derive(Clone, Copy)]
-struct Turn {
-    pub left: bool,
-    pub right: bool,
-    pub store: u64,
-}
-
-// A place on a chain: the index of the next record, how many are left, and the record's store (0 at the end).
+// A record on a chain: its index, how many are left with it, and its store.
 #[derive(Clone, Copy)]
 struct Cursor {
     pub at: usize,
@@ -55,19 +48,18 @@ struct Cursor {
     pub store: u64,
 }
 
-// The words of a record from its first on, if its side takes part.
-fn taken<'a>(has: bool, s: &'a [i64], at: usize) -> Option<&'a [i64]>
-    requires { has ≡ true → at ≤ length s.now }
-    ensures entries { side_of result ≡ side_at has s.now at }
-    ensures held { (n : ℕ) → (has ≡ true → Entries s.now at n) → holds n result ≡ true }
-{
-    if has { Some(&s[at..]) } else { None }
+// The next store, and the record of each side that has a block of it.
+#[derive(Clone, Copy)]
+struct Turn {
+    pub store: u64,
+    pub left: Option<Cursor>,
+    pub right: Option<Cursor>,
 }
 
 // Entry k of a side, or zero where it has no block.
 fn entry_or_zero(side: Option<&[i64]>, k: usize) -> Scalar
-    requires { holds (k + 1) side ≡ true }
-    ensures { result ≡ scalar_of (side_of side.entry k) }
+    requires { holds (k + 1) (option_copied side) ≡ true }
+    ensures { result ≡ scalar_of (side_of (option_copied side.entry) k) }
 {
     match side {
         Some(s) => read_entry(s, 0, k),
@@ -77,8 +69,8 @@ fn entry_or_zero(side: Option<&[i64]>, k: usize) -> Scalar
 
 // Whether both sides have a block, and both blocks one exponent.
 fn are_alike(left: Option<&[i64]>, right: Option<&[i64]>) -> bool
-    requires { (holds 0 left ≡ true) × (holds 0 right ≡ true) }
-    ensures { result ≡ both_alike left.entry right.entry }
+    requires { (holds 0 (option_copied left) ≡ true) × (holds 0 (option_copied right) ≡ true) }
+    ensures { result ≡ both_alike (option_copied left.entry) (option_copied right.entry) }
 {
     match (left, right) {
         (Some(l), Some(r)) => l[EXPONENT] == r[EXPONENT],
@@ -95,9 +87,9 @@ struct Sides<'a> {
     right: Option<&'a [i64]>,
     alike: bool,
     ghost small: { side ≤ 256 },
-    ghost left_held: { holds (side * side) left ≡ true },
-    ghost right_held: { holds (side * side) right ≡ true },
-    ghost alike_is: { alike ≡ both_alike left right },
+    ghost left_held: { holds (side * side) (option_copied left) ≡ true },
+    ghost right_held: { holds (side * side) (option_copied right) ≡ true },
+    ghost alike_is: { alike ≡ both_alike (option_copied left) (option_copied right) },
 }
 
 impl<'a> Sides<'a> {
@@ -105,7 +97,7 @@ impl<'a> Sides<'a> {
     // Kept: an entry is no value of a type of its own but a place in two blocks, each over its own exponent, so no derive compares it.
     fn same_entry(&self, k: usize) -> bool
         requires { k < self.now.side * self.now.side }
-        ensures { result ≡ equal (side_of self.now.left k) (side_of self.now.right k) }
+        ensures { let s = self.now in result ≡ equal (side_of (option_copied s.left) k) (side_of (option_copied s.right) k) }
     {
         match (self.left, self.right) {
             (Some(l), Some(r)) if self.alike => {
@@ -118,7 +110,7 @@ impl<'a> Sides<'a> {
 
     // The first unequal entry, rows then columns.
     fn search(&self) -> Option<Difference>
-        ensures { let s = self.now in result ≡ scan (blocks_of s.store s.left s.right) s.side (s.side * s.side) 0 }
+        ensures { let s = self.now in result ≡ scan (blocks_of s.store (option_copied s.left) (option_copied s.right)) s.side (s.side * s.side) 0 }
     {
         let w = self.side;
         for row in 0..w {
@@ -143,7 +135,7 @@ impl<'a> Sides<'a> {
 
     // The same: none where the blocks are alike and have the same words.
     fn compare(&self) -> Option<Difference>
-        ensures { let s = self.now in result ≡ scan (blocks_of s.store s.left s.right) s.side (s.side * s.side) 0 }
+        ensures { let s = self.now in result ≡ scan (blocks_of s.store (option_copied s.left) (option_copied s.right)) s.side (s.side * s.side) 0 }
     {
         if let (Some(l), Some(r)) = (self.left, self.right) {
             let end = RECORD_HEAD + block_size(self.side);
@@ -156,72 +148,60 @@ impl<'a> Sides<'a> {
 }
 
 // The next of the records that are left, at index `at`.
-fn enter(s: &[i64], left: usize, at: usize) -> Cursor
+fn enter(s: &[i64], left: usize, at: usize) -> Option<Cursor>
     requires { Onward s.now left at }
     ensures { result ≡ cursor_at s.now left at }
 {
-    if 0 < left {
-        let store = read_store(s, at);
-        return Cursor { at, left, store };
+    if left == 0 {
+        return None;
     }
-    Cursor { at, left, store: 0 }
+    let store = read_store(s, at);
+    Some(Cursor { at, left, store })
 }
 
-// The record after the cursor's, if its side took part.
-fn advanced(b: bool, s: &[i64], c: Cursor) -> Cursor
-    requires { On s.now c × (b ≡ true → 0 < c.left) }
-    ensures { result ≡ advance b s.now c }
+// The words of a record from its first on, if its side takes part.
+fn taken(s: &[i64], side: Option<Cursor>) -> Option<&[i64]>
+    requires { ForSome side (On s.now) }
+    ensures { option_copied result ≡ taken_of s.now side }
 {
-    if !b {
-        return c;
+    match side {
+        Some(c) => Some(&s[c.at..]),
+        None => None,
     }
-    let at = c.at;
-    let n = c.left - 1;
-    let next = follow(s, at);
-    enter(s, n, next)
 }
 
-// The sides that have the least of two cursors' stores.
-fn choose(a: Cursor, b: Cursor) -> Turn
+// The record after the one that takes part, or c where its side does not.
+fn advanced(s: &[i64], side: Option<Cursor>, c: Option<Cursor>) -> Option<Cursor>
+    requires { ForSome side (On s.now) }
+    ensures { result ≡ advance s.now side c }
+{
+    match side {
+        Some(t) => enter(s, t.left - 1, follow(s, t.at)),
+        None => c,
+    }
+}
+
+// Kept: by hand, since it is asked which sides have the least store: the least alone would be compared with both again.
+// The least store of two records, and which sides have it.
+fn choose(a: Option<Cursor>, b: Option<Cursor>) -> Option<Turn>
     ensures { result ≡ turn_of a b }
 {
-    let x = a.store;
-    let y = b.store;
-    let m = a.left;
-    let n = b.left;
-    if m == 0 {
-        return Turn {
-            left: false,
-            right: true,
-            store: y,
-        };
-    }
-    if n == 0 {
-        return Turn {
-            left: true,
-            right: false,
-            store: x,
-        };
-    }
-    if x == y {
-        return Turn {
-            left: true,
-            right: true,
-            store: x,
-        };
-    }
-    if comes_before(x, y) {
-        return Turn {
-            left: true,
-            right: false,
-            store: x,
-        };
-    }
-    Turn {
-        left: false,
-        right: true,
-        store: y,
-    }
+    let (left, right) = match (a, b) {
+        (Some(x), Some(y)) if x.store != y.store => {
+            if comes_before(x.store, y.store) {
+                (a, None)
+            } else {
+                (None, b)
+            }
+        }
+        _ => (a, b),
+    };
+    let first = left.or(right)?;
+    Some(Turn {
+        store: first.store,
+        left,
+        right,
+    })
 }
 
 // The first unequal entry along two chains, walked in step.
@@ -232,12 +212,11 @@ fn compare_chains(left: &[i64], right: &[i64], m: usize, n: usize, w: usize) -> 
     let mut a = enter(left, m, follow(left, 3));
     let mut b = enter(right, n, follow(right, 3));
     // Kept: each chain is walked at its own pace, so no range counts the turns; a `for` is no plainer.
-    while (0 < a.left) | (0 < b.left) {
-        let t = choose(a, b);
-        let l = taken(t.left, left, a.at);
-        let r = taken(t.right, right, b.at);
+    while let Some(turn) = choose(a, b) {
+        let l = taken(left, turn.left);
+        let r = taken(right, turn.right);
         let sides = Sides {
-            store: t.store,
+            store: turn.store,
             side: w,
             left: l,
             right: r,
@@ -247,8 +226,8 @@ fn compare_chains(left: &[i64], right: &[i64], m: usize, n: usize, w: usize) -> 
         if d.is_some() {
             return d;
         }
-        a = advanced(t.left, left, a);
-        b = advanced(t.right, right, b);
+        a = advanced(left, turn.left, a);
+        b = advanced(right, turn.right, b);
     }
     None
 }

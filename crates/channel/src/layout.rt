@@ -1,5 +1,5 @@
 // The words of a channel: sizes, entries, stores, and the chain.
-// Kept (buffers): a record is named by its index in the whole words, which is what the chain's words hold: callers that walk the chain have the whole and an index.
+// Kept (buffers): a record is named by its index in the whole words, which is what the chain's words hold: callers that walk the chain have the whole and an index. The blocks that compare holds are cut, and read at 0.
 // Kept (facts): w ≤ 256 of a bare number: these two serve callers that hold the rows of a block and no form, and are where the form is made.
 ghost use Rattle.std.specs.Prelude.{◌≡◌, true, ◌+◌, ◌<◌, ◌≤◌, length, pos, nat_abs};
 ghost use Rattle.algebra.specs.Words.{up_to};
@@ -59,10 +59,7 @@ pub fn read_entry(s: &[i64], at: usize, k: usize) -> Scalar
 pub fn up_to(n: u64, x: i64) -> bool
     ensures { result ≡ up_to n x }
 {
-    if x < 0 {
-        return false;
-    }
-    x as u64 <= n
+    u64::try_from(x).is_ok_and(|x| x <= n)
 }
 
 // The store of the record at `at`.

@@ -1,5 +1,5 @@
 // The block of a store, as a part of the channel's words.
-// Kept (facts): the words are a slice that a judge has just found well formed; a struct that says so would be built by each call for the one function that it goes on to.
+// Kept (facts): only find_store and the printers of listing ask for well-formed words: a struct of them, answered by `judge`, would be taken apart by all its other callers.
 ghost use Rattle.std.specs.Prelude.{◌≡◌, true, nat_abs};
 ghost use Rattle.channel.specs.Layout.{word, count_at};
 ghost use Rattle.channel.specs.WellFormed.{well_formed};
@@ -9,6 +9,7 @@ use super::layout::{EXPONENT, block_size, follow, read_store};
 use super::well_formed::judge;
 use store::{is_store, pack};
 
+// Kept: C is handed the start, which a slice does not tell; `lookup` makes the slice of it at once.
 // A part of a slice.
 #[derive(Clone, Copy, Debug, PartialEq, Eq)]
 pub struct Span {
@@ -16,6 +17,7 @@ pub struct Span {
     pub size: usize,
 }
 
+// Kept: count is the header's, and no length: the words may go on behind the last record.
 // The index of the record of a store in a well-formed channel of `count` blocks.
 fn find_store(s: &[i64], store: u64, count: usize) -> Option<usize>
     requires { (well_formed s.now ≡ true) × (count ≡ count_at s.now) }
@@ -41,7 +43,7 @@ pub fn locate(s: &[i64], store: &[u8]) -> Option<Span>
     if !is_store(store, h.bits) {
         return None;
     }
-    let at = find_store(s, pack(store, 0, store.len()), h.count)?;
+    let at = find_store(s, pack(store), h.count)?;
     let w = h.dim * h.dim;
     Some(Span {
         start: at + EXPONENT,

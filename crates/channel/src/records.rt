@@ -23,6 +23,7 @@ pub struct Record<'a> {
     ghost inside: { record_size form ≤ length words.now },
 }
 
+// Kept: no Record with a fact beside it: callers read its words and its form, and would name both through the record.
 // A record whose block is right.
 #[derive(Clone, Copy)]
 pub struct Block<'a> {
@@ -47,8 +48,9 @@ fn judge_words(low: i64, high: i64, m: u32) -> Option<u64>
     Some(store)
 }
 
+// Kept: a place in the words of its record: of a slice cut to the entry, its one caller, `Record::kept`, would show a length that hangs on `plain`.
 // The numerators of an entry whose words begin at p.
-fn read_kept(s: &[i64], p: usize, plain: bool) -> [i64; 4]
+pub fn read_kept(s: &[i64], p: usize, plain: bool) -> [i64; 4]
     requires { p + entry_size plain ≤ length s.now }
     ensures { result ≡ list_of (entry_from plain (λ (i : ℕ). word s.now (p + i))) }
 {

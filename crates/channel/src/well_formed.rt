@@ -21,12 +21,10 @@ fn is_dim(z: i64) -> bool
 fn rises(prev: Option<u64>, store: u64) -> bool
     ensures { result ≡ rises (is_none prev) (unwrap_or prev 0) store }
 {
-    match prev {
-        None => true,
-        Some(p) => comes_before(p, store),
-    }
+    prev.is_none_or(|p| comes_before(p, store))
 }
 
+// Kept: count is the header's, and no length: the words may go on behind the last record.
 // Whether one of `count` blocks is blank, if the chain visits their records in rising order of their stores, and ends.
 pub fn judge_chain(s: &[i64], form: Form, m: u32, count: usize) -> Option<bool>
     requires { Room form s.now m count }
@@ -51,6 +49,7 @@ pub fn judge_chain(s: &[i64], form: Form, m: u32, count: usize) -> Option<bool>
     if z == 0 { Some(blank) } else { None }
 }
 
+// Kept: words become numbers by `as`, behind the question of their bound: `try_from` would ask once more that they are not negative.
 // The header of words of a form, if it and the room for its records are right.
 pub fn header(s: &[i64], f: Parts) -> Result<Shape, Refusal>
     ensures { result ≡ header_of f s.now }

@@ -9,12 +9,11 @@ use native.Mathlib.Omega.{arith}
 use lib.ListN.{length, get_or, length-append, get_or-append}
 use lib.Seq.{sets, get_or-append-add}
 use lib.IntN.{ℤ}
-use Rattle.algebra.specs.Words.{blocks}
-use Rattle.algebra.proofs.Blocks.{Writing, begin, again, done, long, block_in_lem}
+use Rattle.algebra.proofs.Blocks.{Writing, begin, again, block_in_lem}
 use Rattle.channel.specs.Shared.{Shared}
 use Rattle.channel.specs.Layout.{header_size, record_size, channels, record_words}
 use Rattle.channel.proofs.Restore.{length-block}
-use Rattle.collect.specs.Inner.Bank.{store_of, starts, stores_of, shared_of, record_of, records, Bank, Begun}
+use Rattle.collect.specs.Inner.Bank.{store_of, starts, stores_of, shared_of, record_of, records, Begun}
 
 -- ---- one record
 pub length_record : (d next s : ℕ) (b : Shared) → length (record_words (channels d) next s b) ≡ record_size (channels d)
@@ -94,9 +93,6 @@ none-collected m l at d count = record { upto = omega arith; so_far = sym (no_st
     sized k = let s = get_or (stores_of l at d count) k 0 in omega (arith, length_record d 0 s (shared_of l at d count s))
 
 module _ {m l : List ℤ} {at d count : ℕ} {q : List ℤ} {n b : ℕ} (g : Collected m l at d count q n b) where
-  pub begun : Bank l at d count → header_size + length (stores_of l at d count) * record_size (channels d) ≤ length m → b < count → Begun q n l at d count b
-  begun bank room h = record { bank = bank; branch = h; so_far = g.so_far; room = omega (arith, long g.writing) }
-
   pub collected-more : b < count → {p : List ℤ} {k : ℕ} → k ≡ cond (starts l at d b) (n + 1) n → p ≡ cond (starts l at d b) (sets q (header_size + n * record_size (channels d)) (record_of l at d count (store_of l at d b))) q
       → Collected m l at d count p k (b + 1)
   collected-more h {p} {k} e f = go (starts l at d b) refl e f
@@ -114,12 +110,3 @@ module _ {m l : List ℤ} {at d count : ℕ} {q : List ℤ} {n b : ℕ} (g : Col
         writing = subst (Writing _ m header_size (length (stores_of l at d count)) (records l at d count) p) (sym e)
             (record { sized = g.writing.sized; count = g.writing.count; is = f ∙ g.writing.is });
       }
-
-  pub all-collected : count ≤ b → (n ≡ length (stores_of l at d count)) × (q ≡ blocks (record_size (channels d)) m header_size (length (stores_of l at d count)) (records l at d count))
-  all-collected h =
-      let e : b ≡ count = omega (arith, g.upto) in
-      let k : n ≡ length (stores_of l at d count) = g.so_far ∙ ap (λ (i : ℕ). length (stores_of l at d i)) e in
-      (k, done g.writing (omega arith))
-
-  pub collected_long : length q ≡ length m
-  collected_long = long g.writing

@@ -1,45 +1,57 @@
 // A bank's branches, read: their stores, and which survive.
 ghost use Rattle.std.specs.Prelude.{◌≡◌};
-ghost use Rattle.collect.specs.Inner.Bank.{store_of, survives, has, is_first, Branch, Branches};
+ghost use Rattle.collect.specs.Inner.Bank as held;
+ghost use Rattle.collect.specs.Inner.Bank.{store_of, survives, has, is_first, Branches};
 
 use branches::bank::Bank;
 use matrix::words::is_zero;
 use store::store_from;
 
-// The store of branch j.
-pub fn branch_store(work: &[i64], bank: Bank, j: usize) -> u64
-    requires { Branch work.now bank.at bank.d j }
-    ensures { result ≡ store_of work.now bank.at bank.d j }
-{
-    store_from(work, bank.store(j))
+// Branch j of a bank, which lies in the words.
+#[derive(Clone, Copy)]
+pub struct Branch<'a> {
+    pub work: &'a [i64],
+    pub bank: Bank,
+    pub j: usize,
+    pub ghost lies: { held.Branch work.now bank.at bank.d j },
 }
 
-// Whether some entry of branch j is not zero.
-pub fn is_alive(work: &[i64], bank: Bank, j: usize) -> bool
-    requires { Branch work.now bank.at bank.d j }
-    ensures { result ≡ survives work.now bank.at bank.d j }
-{
-    !is_zero(work, bank.branch(j), bank.d * bank.d)
-}
-
-// Whether branch j survives with this store.
-pub fn has_store(work: &[i64], bank: Bank, j: usize, store: u64) -> bool
-    requires { Branch work.now bank.at bank.d j }
-    ensures { result ≡ has work.now bank.at bank.d store j }
-{
-    branch_store(work, bank, j) == store && is_alive(work, bank, j)
-}
-
-// Whether no branch before branch b survives with its store.
-pub fn is_first(work: &[i64], bank: Bank, b: usize) -> bool
-    requires { Branches work.now bank.at bank.d b }
-    ensures { result ≡ is_first work.now bank.at bank.d b }
-{
-    let store = branch_store(work, bank, b);
-    for j in 0..b {
-        if has_store(work, bank, j, store) {
-            return false;
-        }
+impl<'a> Branch<'a> {
+    // Its store.
+    pub fn store(self) -> u64
+        ensures { let b = self.entry in result ≡ store_of b.work.now b.bank.at b.bank.d b.j }
+    {
+        store_from(self.work, self.bank.store(self.j))
     }
-    true
+
+    // Whether some entry of it is not zero.
+    pub fn is_alive(self) -> bool
+        ensures { let b = self.entry in result ≡ survives b.work.now b.bank.at b.bank.d b.j }
+    {
+        let d = self.bank.d;
+        !is_zero(self.work, self.bank.branch(self.j), d * d)
+    }
+
+    // Whether it survives with this store.
+    pub fn has_store(self, store: u64) -> bool
+        ensures { let b = self.entry in result ≡ has b.work.now b.bank.at b.bank.d store b.j }
+    {
+        self.store() == store && self.is_alive()
+    }
+
+    // Whether no branch before it survives with its store.
+    pub fn is_first(self) -> bool
+        requires { Branches self.work.now self.bank.at self.bank.d self.j }
+        ensures { let b = self.entry in result ≡ is_first b.work.now b.bank.at b.bank.d b.j }
+    {
+        let Branch { work, bank, j: b } = self;
+        let store = self.store();
+        for j in 0..b {
+            let before = Branch { work, bank, j };
+            if before.has_store(store) {
+                return false;
+            }
+        }
+        true
+    }
 }

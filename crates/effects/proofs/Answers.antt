@@ -4,11 +4,11 @@ use Rattle.std.specs.Result.{result_unwrap_or}
 use mathlib.Core.Path.{◌≡◌, refl, sym, ap, ◌∙◌, subst}
 use mathlib.Core.Bool.{Bool, true, false, cond, true≢false}
 use mathlib.Core.List.{List}
-use Prim.Native.Nat.{ℕ, ◌+◌, ◌*◌, ◌≤◌, ◌<◌}
+use Prim.Native.Nat.{ℕ, ◌+◌, ◌*◌, ◌≤◌}
 use lib.Dec.{leb}
 use lib.ListN.{length}
 use lib.IntN.{ℤ}
-use borrow.Author.Tests.{leb-true, lt-leb, le-leb}
+use borrow.Author.Tests.{leb-true, le-leb}
 use Rattle.verdict.specs.Questions.{Verdict}
 use Rattle.verdict.specs.declared.Refusal.{Refusal}
 use Rattle.verdict.specs.declared.Refusal.TheVariants.{ShortBuffer, TooLarge}
@@ -22,14 +22,7 @@ use Rattle.effects.specs.Inner.Readable.{Linked, Records, Ready}
 use Rattle.effects.proofs.Records.{first-linked, records-of}
 
 module _ (l res : List ℤ) where
-  -- a channel that is refused, one that finds too little room, one whose effects do not fit, and one that is accepted
-  pub form_refused : {r : Refusal} → Err r ≡ shape_of l → Err r ≡ shape_by (effects_verdict l res) l
-  form_refused {r} e = go (form_verdict l) e
-    where
-      go : (v : Verdict) → Err r ≡ shape_by v l → Err r ≡ shape_by (cond (is_ok v) (cond (leb (effects_size l) (length res)) (cond (sums_fit l (dim_at l) (count_at l)) (Ok tt) (Err TooLarge)) (Err ShortBuffer)) v) l
-      go (Ok x) e = absurd (true≢false (sym (ap is_ok e)))
-      go (Err s) e = e
-
+  -- a channel that is accepted: its records, and whether their effects fit
   module _ {h : Shape} (e : Ok h ≡ shape_of l) where
     pub form_accepted : is_ok (form_verdict l) ≡ true
     form_accepted = go (form_verdict l) e
@@ -59,9 +52,6 @@ module _ (l res : List ℤ) where
 
     sums : sums_fit l h.dim h.count ≡ sums_fit l (dim_at l) (count_at l)
     sums = ap (λ (g : Shape). sums_fit l g.dim g.count) shape_is
-
-    pub short : length res < header_size + h.count * record_size (effects h.dim) → Err ShortBuffer ≡ shape_by (effects_verdict l res) l
-    short f = answered false (sums_fit l (dim_at l) (count_at l)) (lt-leb _ _ (subst (λ (n : ℕ). length res < n) size f)) refl
 
     module _ (f : header_size + h.count * record_size (effects h.dim) ≤ length res) where
       roomy : leb (effects_size l) (length res) ≡ true

@@ -5,18 +5,14 @@ use Prim.Native.Nat.{ℕ, ◌+◌, ◌*◌, ◌-◌, ◌/◌, ◌≤◌}
 use native.Mathlib.Nat.{mul-le-mul, le_refl, div-add-mod'}
 use native.Mathlib.Omega.{arith}
 use lib.IntN.{ℤ, pos, nat_abs}
-use lib.Dec.{T, lit<}
+use lib.Dec.{T}
 use lib.Signed.{non_neg}
 use mir.Syntax.{w64}
 use mir.Val.{SFits, of_z}
 use borrow.Author.Tests.{ne_eqb}
-use Rattle.algebra.proofs.Signed.{word_inj}
 use Rattle.channel.specs.Layout.{channels, effects, header_size, record_size, record_at}
 use Rattle.channel.specs.Recast.{relink}
 use Rattle.effects.specs.Inner.Readable.{Dim, Linked}
-
-pub zero_word : (z : ℤ) → SFits w64 z → of_z w64 z ≡ 0 → z ≡ pos 0
-zero_word z f e = word_inj z (pos 0) f (record { sfits = lit< tt }) e
 
 pub link_start : (d : ℕ) (z : ℤ) → SFits w64 z → Linked d z → (of_z w64 z ≡ 0 → ⊥) → T (non_neg z) × (header_size ≤ nat_abs z)
 link_start d z f k n = (subst (λ (y : ℤ). T (non_neg y)) (sym k.index) tt, k.from (λ e. n (ap (of_z w64) e)))

@@ -7,6 +7,8 @@ use native.Mathlib.Nat.{div-lt_iff_lt-mul, mod-lt, div-add-mod'}
 use native.Mathlib.Omega.{arith}
 use lib.Arith.{digits_lt, digits_div, digits_mod}
 use lib.IntN.{ℤ, pos}
+use Rattle.std.proofs.Math.Logic.{∥∥₁_elim}
+use Rattle.std.proofs.Props.{props}
 use Rattle.algebra.specs.Dyadic.{frac}
 use Rattle.algebra.proofs.Blocks.{blocks-same}
 use Rattle.channel.specs.Shared.{Shared, shared_exponent, scaled}
@@ -15,9 +17,9 @@ use Rattle.channel.specs.Layout.{channels, effects, header_size, record_size, re
 use Rattle.channel.specs.Recast.{relink}
 use Rattle.channel.proofs.Shared.{exp_le, exponent_same, shared_same}
 use Rattle.channel.proofs.Restore.{block_same}
-use Rattle.effects.specs.Effects.{effect_at, povm_at, effect_shared, with_records}
+use Rattle.effects.specs.Effects.{effect_at, povm_at, record_fits, effect_shared, with_records}
 use Rattle.effects.specs.Inner.Readable.{Dim}
-use Rattle.effects.specs.Inner.Strides.{strided, strided_at, Strides, form_at, shared_words}
+use Rattle.effects.specs.Inner.Strides.{strided, strided_at, Strides, Effect, form_at, shared_words}
 use Rattle.effects.proofs.Entries.{exponent-most}
 
 pub strided_below : (d rows cols i : ℕ) → Strides d rows cols → i < d * d → strided d rows cols i < d * d
@@ -81,10 +83,21 @@ strided-exponent l at d rows cols s = omega (arith, less, more)
     more = exponent-most (d * d) (effect_at l at d) _ (λ k h.
         subst (λ (x : ℕ). (effect_at l at d x).exp ≤ shared_exponent (d * d) (strided_at rows cols l at d)) (s.back k h) (exp_le (d * d) (strided_at rows cols l at d) (s.turn k) (s.inside k h)))
 
--- so the numerators over the effect's exponent are those of the form that is asked for
-pub strided-words : (l : List ℤ) (at d rows cols e : ℕ) → Strides d rows cols → e ≡ shared_exponent (d * d) (effect_at l at d)
-    → shared_words d (frac (λ (i : ℕ). scaled e (strided_at rows cols l at d i)) e) ≡ shared_words d (effect_shared (strided_at rows cols) l at d)
-strided-words l at d rows cols e s q = ap (λ (e : ℕ). shared_words d (frac (λ (i : ℕ). scaled e (strided_at rows cols l at d i)) e)) (q ∙ sym (strided-exponent l at d rows cols s))
+-- ---- an effect that can be written by these strides
+module _ {l : List ℤ} {at d rows cols : ℕ} (f : ∥ Effect l at d rows cols ∥₁) where
+  pub effect_fit : record_fits l at d ≡ true
+  effect_fit = ∥∥₁_elim f (hlevel props) (λ e. e.fit)
+
+  pub place_inside : (i : ℕ) → i < d * d → strided d rows cols i < d * d
+  place_inside i h = ∥∥₁_elim f (hlevel props) (λ e. strided_below d rows cols i e.strides h)
+
+  own_exponent : shared_exponent (d * d) (strided_at rows cols l at d) ≡ shared_exponent (d * d) (effect_at l at d)
+  own_exponent = ∥∥₁_elim f (hlevel props) (λ e. strided-exponent l at d rows cols e.strides)
+
+  -- the numerators over the effect's exponent are those of the form that is asked for
+  pub strided-words : {e : ℕ} → e ≡ shared_exponent (d * d) (effect_at l at d)
+      → shared_words d (frac (λ (i : ℕ). scaled e (strided_at rows cols l at d i)) e) ≡ shared_words d (effect_shared (strided_at rows cols) l at d)
+  strided-words q = ap (λ (e : ℕ). shared_words d (frac (λ (i : ℕ). scaled e (strided_at rows cols l at d i)) e)) (q ∙ sym own_exponent)
 
 pub povm-exponent : (l : List ℤ) (at d : ℕ) → Dim d → shared_exponent (d * d) (povm_at l at d) ≡ shared_exponent (d * d) (effect_at l at d)
 povm-exponent l at d m = sym (exponent_same (d * d) (strided_at 1 d l at d) (povm_at l at d) (λ k h. turned-place l at d k m h)) ∙ strided-exponent l at d 1 d (turned m)

@@ -1,10 +1,10 @@
 -- Sums of scalars with a verdict at each step: the partial sums, in range as long as each step is accepted.
 use Rattle.std.specs.Prelude.{Ok, Err, is_ok, is_err}
 use Rattle.std.specs.Result.{result_unwrap_or}
-use mathlib.Core.Path.{◌≡◌, refl, sym, ap, ◌∙◌, subst}
+use mathlib.Core.Path.{◌≡◌, refl, sym, ap, ◌∙◌}
 use mathlib.Core.Bool.{Bool, true, false, cond, ◌&&◌, true≢false}
 use Prim.Native.Nat.{ℕ, zero, suc, ◌+◌, ◌*◌, ◌/◌, ◌%◌, ◌≤◌, ◌<◌}
-use native.Mathlib.Nat.{mul-le-mul, div-lt_iff_lt-mul, mod-lt}
+use native.Mathlib.Nat.{div-lt_iff_lt-mul, mod-lt}
 use native.Mathlib.Numerals.{add-one}
 use native.Mathlib.Omega.{arith}
 use lib.Arith.{digits_lt}
@@ -17,13 +17,11 @@ use Rattle.verdict.specs.declared.Refusal.{Refusal}
 use Rattle.verdict.specs.declared.Refusal.TheVariants.{TooLarge, Malformed}
 use Rattle.scalar.specs.Calls.{Answer, value, scalar_of, accepted, fitting, add_answer}
 use Rattle.channel.specs.Layout.{side, effect_place}
+use Rattle.channel.proofs.Words.{square_small}
 use Rattle.effects.specs.Effects.{partials_fit}
 use Rattle.effects.specs.Inner.Readable.{Dim}
 
 -- ---- the places that are summed
-square : (d : ℕ) → d ≤ 16 → d * d ≤ 256
-square d h = mul-le-mul h h
-
 module _ (d i : ℕ) (m : Dim d) (h : i < d * d) where
   pub row_below : i / d < d
   row_below = (div-lt_iff_lt-mul m.some).1 h
@@ -35,10 +33,7 @@ pub place_below : (d r c o : ℕ) → r < d → c < d → o < d → effect_place
 place_below d r c o p q k = digits_lt (digits_lt k p) (digits_lt k q)
 
 pub dim_square : {d : ℕ} → Dim d → d * d ≤ 256
-dim_square {d} m = square d m.small
-
-pub dim_fourth : {d : ℕ} → Dim d → side d * side d ≤ 65536
-dim_fourth m = mul-le-mul (dim_square m) (dim_square m)
+dim_square {d} m = square_small d m.small
 
 -- ---- one sum
 module _ (x y : Exact) (a : Answer) (p : well_formed x ≡ true) (q : well_formed y ≡ true) (e : a ≡ add_answer x y) where
@@ -78,9 +73,6 @@ pub record Summed (f : ℕ → Exact) (o : ℕ) (acc : Scalar) : Type 0 where
   pub is : acc ≡ scalar_of (sum exact o f)
   pub fit : partials_fit o f ≡ true
 
-pub none_summed : (f : ℕ → Exact) → Summed f 0 (scalar_of exact.𝟘)
-none_summed f = record { is = refl; fit = refl }
-
 module _ (f : ℕ → Exact) {o : ℕ} {acc : Scalar} (s : Summed f o acc) {x : Scalar} (q : well_formed (f o) ≡ true) (r : x ≡ scalar_of (f o)) where
   next : {a : Answer} → a ≡ add_answer (value acc) (value x) → a ≡ fitting (sum exact (suc o) f)
   next {a} e = is_fitting (sum exact o f) (f o) a (sum-formed f o s.fit) q (e ∙ (λ i. add_answer (value (s.is i)) (value (r i))))
@@ -95,8 +87,3 @@ module _ (f : ℕ → Exact) {o : ℕ} {acc : Scalar} (s : Summed f o acc) {x : 
   goes_on e =
       let (t, z) = handed_fit (in_range (sum exact (suc o) f)) _ (next e) in
       record { is = z ∙ ap (λ (m : ℕ). scalar_of (sum exact m f)) (sym (add-one o)); fit = all-step o (λ (m : ℕ). in_range (sum exact (suc m) f)) s.fit t }
-
-pub done : (f : ℕ → Exact) (d : ℕ) {o : ℕ} {acc : Scalar} → Summed f o acc → o ≡ d → Ok acc ≡ answer_of f d
-done f d s e =
-    ap Ok (s.is ∙ ap (λ (m : ℕ). scalar_of (sum exact m f)) e)
-    ∙ sym (ap (λ (b : Bool). cond b (accepted (sum exact d f)) (Err TooLarge)) (subst (λ (m : ℕ). partials_fit m f ≡ true) e s.fit))

@@ -1,5 +1,6 @@
 // The effects of a channel's blocks, transposed and as the textbook has them. The sums are tried before the first word is written, so that a refusal leaves the result as it was.
 // Kept (buffers): a place in the result. The contracts say what all of it becomes, record by record; a cut slice would tell of its own part alone. d beside the words is the dimension, and no length.
+// Kept (facts): e ≤ max_exponent, of a number that is a shift at once; a type for it would be opened in both functions.
 #![tactic(auto)]
 
 ghost use Rattle.std.specs.Prelude.{◌≡◌, true, cond, ℕ, ◌+◌, ◌*◌, ◌<◌, ◌≤◌, [], ◌∷◌, length, pos, Err};
@@ -53,6 +54,7 @@ struct Stride {
     cols: usize,
 }
 
+// Kept: a place in the channel's words, of which the sums are said; the Block of channel begins at its record's first word.
 // A block of a channel of dimension d, in its shared form: its record lies at `at` of the words.
 #[derive(Clone, Copy)]
 struct Block<'a> {
@@ -60,6 +62,21 @@ struct Block<'a> {
     at: usize,
     d: usize,
     ghost readable: { Readable words.now at d },
+}
+
+// A block of which every partial sum fits.
+#[derive(Clone, Copy)]
+struct Sums<'a> {
+    block: Block<'a>,
+    ghost fit: { terms_fit block.words.now block.at block.d ≡ true },
+}
+
+// An effect that fits, and the strides that it is written by.
+#[derive(Clone, Copy)]
+struct Finished<'a> {
+    sums: Sums<'a>,
+    strides: Stride,
+    ghost fits: { ∥ Effect sums.block.words.now sums.block.at sums.block.d strides.rows strides.cols ∥₁ },
 }
 
 impl<'a> Block<'a> {
@@ -91,21 +108,35 @@ impl<'a> Block<'a> {
         true
     }
 
-    // Entry i of an effect whose partial sums fit.
-    fn entry(self, i: usize) -> Scalar
-        requires { (i < self.d * self.d) × (terms_fit self.words.now self.at self.d ≡ true) }
-        ensures { let b = self.entry in result ≡ scalar_of (effect_at b.words.now b.at b.d i) }
+    // Whether every partial sum fits, and then the finished effect.
+    fn fits(self) -> bool
+        ensures { let b = self.entry in result ≡ record_fits b.words.now b.at b.d }
     {
-        self.sum_entry(i).unwrap()
+        if !self.terms_fit() {
+            return false;
+        }
+        let sums = Sums { block: self };
+        let e = sums.exponent();
+        sums.entries_fit(e)
+    }
+}
+
+impl<'a> Sums<'a> {
+    // Entry i of the effect.
+    fn entry(self, i: usize) -> Scalar
+        requires { i < self.block.d * self.block.d }
+        ensures { let b = self.entry.block in result ≡ scalar_of (effect_at b.words.now b.at b.d i) }
+    {
+        self.block.sum_entry(i).unwrap()
     }
 
     // The exponent that the entries of the effect share: the largest of theirs.
     fn exponent(self) -> u32
-        requires { terms_fit self.words.now self.at self.d ≡ true }
-        ensures { let b = self.entry in result ≡ shared_exponent (b.d * b.d) (effect_at b.words.now b.at b.d) }
+        ensures { let b = self.entry.block in result ≡ shared_exponent (b.d * b.d) (effect_at b.words.now b.at b.d) }
     {
+        let d = self.block.d;
         let mut e = 0u32;
-        for i in 0..self.d * self.d {
+        for i in 0..d * d {
             let x = self.entry(i);
             e = e.max(x.e);
         }
@@ -114,10 +145,11 @@ impl<'a> Block<'a> {
 
     // Whether the entries of the effect fit over 2^e, the exponent that they share.
     fn entries_fit(self, e: u32) -> bool
-        requires { (terms_fit self.words.now self.at self.d ≡ true) × (e ≡ shared_exponent (self.d * self.d) (effect_at self.words.now self.at self.d)) }
-        ensures { let b = self.entry in result ≡ all_below (b.d * b.d) (λ (i : ℕ). within max_numerator (scaled e (effect_at b.words.now b.at b.d i))) }
+        requires { let b = self.block in e ≡ shared_exponent (b.d * b.d) (effect_at b.words.now b.at b.d) }
+        ensures { let b = self.entry.block in result ≡ all_below (b.d * b.d) (λ (i : ℕ). within max_numerator (scaled e (effect_at b.words.now b.at b.d i))) }
     {
-        for i in 0..self.d * self.d {
+        let d = self.block.d;
+        for i in 0..d * d {
             let x = self.entry(i);
             if !fits_over(x, e) {
                 return false;
@@ -125,55 +157,50 @@ impl<'a> Block<'a> {
         }
         true
     }
+}
 
-    // Whether every partial sum fits, and then the finished effect.
-    fn fits(self) -> bool
-        ensures { let b = self.entry in result ≡ record_fits b.words.now b.at b.d }
+impl<'a> Finished<'a> {
+    // Which entry of the transposed effect is written as entry i: for i = r·d + c, entry r·rows + c·cols.
+    fn place(self, i: usize) -> usize
+        requires { i < self.sums.block.d * self.sums.block.d }
+        ensures { let s = self.entry.strides in result ≡ strided self.entry.sums.block.d s.rows s.cols i }
     {
-        if !self.terms_fit() {
-            return false;
-        }
-        let e = self.exponent();
-        self.entries_fit(e)
+        let d = self.sums.block.d;
+        i / d * self.strides.rows + i % d * self.strides.cols
     }
 
     // Write the d² entries of the effect, over 2^e, from `out` on.
-    fn write_entries(self, strides: Stride, e: u32, res: &mut [i64], out: usize)
-        requires { Effect self.words.now self.at self.d strides.rows strides.cols
-            × ((e ≡ shared_exponent (self.d * self.d) (effect_at self.words.now self.at self.d)) × (out + block_size (effects self.d) ≤ length res.old)) }
-        ensures { let b = self.entry in res.new ≡ with_numerators res.old out (b.d * b.d) (λ (i : ℕ). scaled e (strided_at strides.rows strides.cols b.words.now b.at b.d i)) }
+    fn write_entries(self, e: u32, res: &mut [i64], out: usize)
+        requires { let b = self.sums.block in (e ≡ shared_exponent (b.d * b.d) (effect_at b.words.now b.at b.d)) × (out + block_size (effects b.d) ≤ length res.old) }
+        ensures { let s = self.entry.strides in let b = self.entry.sums.block in res.new ≡ with_numerators res.old out (b.d * b.d) (λ (i : ℕ). scaled e (strided_at s.rows s.cols b.words.now b.at b.d i)) }
     {
-        for i in 0..self.d * self.d {
-            let k = strided(self.d, strides, i);
-            let x = self.entry(k);
+        let d = self.sums.block.d;
+        for i in 0..d * d {
+            let k = self.place(i);
+            let x = self.sums.entry(k);
             write_scaled(res, out + i * ENTRY, x, e);
         }
     }
 
     // Write the effect's shared exponent to `out`, and its numerators after it.
-    fn write(self, strides: Stride, res: &mut [i64], out: usize)
-        requires { Effect self.words.now self.at self.d strides.rows strides.cols × (out + 1 + block_size (effects self.d) ≤ length res.old) }
-        ensures { let b = self.entry in res.new ≡ sets res.old out (shared_words b.d (effect_shared (strided_at strides.rows strides.cols) b.words.now b.at b.d)) }
+    fn write(self, res: &mut [i64], out: usize)
+        requires { out + 1 + block_size (effects self.sums.block.d) ≤ length res.old }
+        ensures { let s = self.entry.strides in let b = self.entry.sums.block in res.new ≡ sets res.old out (shared_words b.d (effect_shared (strided_at s.rows s.cols) b.words.now b.at b.d)) }
     {
-        let e = self.exponent();
+        let e = self.sums.exponent();
         res[out] = e as i64;
-        self.write_entries(strides, e, res, out + 1);
+        self.write_entries(e, res, out + 1);
     }
 
     // Write the effect's record from `out` on.
-    fn write_record(self, strides: Stride, res: &mut [i64], out: usize)
-        requires { Effect self.words.now self.at self.d strides.rows strides.cols × (out + record_size (effects self.d) ≤ length res.old) }
-        ensures { let b = self.entry in res.new ≡ sets res.old out (effect_record (strided_at strides.rows strides.cols) b.words.now b.d b.at) }
+    fn write_record(self, res: &mut [i64], out: usize)
+        requires { out + record_size (effects self.sums.block.d) ≤ length res.old }
+        ensures { let s = self.entry.strides in let b = self.entry.sums.block in res.new ≡ sets res.old out (effect_record (strided_at s.rows s.cols) b.words.now b.d b.at) }
     {
-        let next = relinked(self.d, self.words[self.at]);
-        put_three(
-            res,
-            out,
-            next,
-            self.words[self.at + 1],
-            self.words[self.at + 2],
-        );
-        self.write(strides, res, out + EXPONENT);
+        let b = self.sums.block;
+        let next = relinked(b.d, b.words[b.at]);
+        put_three(res, out, next, b.words[b.at + 1], b.words[b.at + 2]);
+        self.write(res, out + EXPONENT);
     }
 }
 
@@ -196,6 +223,7 @@ fn sums_fit(s: &[i64], h: Shape) -> bool
     true
 }
 
+// Kept: recast has its twin, of two forms; effects does not lean on recast, and has a dimension and no forms.
 // The index among the effects' records that matches an index of the channel's chain.
 fn relinked(d: usize, z: i64) -> i64
     requires { Linked d z }
@@ -210,14 +238,6 @@ fn relinked(d: usize, z: i64) -> i64
     to as i64
 }
 
-// Which entry of the transposed effect is written as entry i: for i = r·d + c, entry r·rows + c·cols.
-fn strided(d: usize, strides: Stride, i: usize) -> usize
-    requires { Strides d strides.rows strides.cols × (i < d * d) }
-    ensures { result ≡ strided d strides.rows strides.cols i }
-{
-    i / d * strides.rows + i % d * strides.cols
-}
-
 // Write the numerators of x over 2^e from `at` on.
 fn write_scaled(res: &mut [i64], at: usize, x: Scalar, e: u32)
     requires { (at + 4 ≤ length res.old) × ((x.e ≤ e) × ((e ≤ max_exponent) × (within max_numerator (scaled e (value x)) ≡ true))) }
@@ -227,6 +247,7 @@ fn write_scaled(res: &mut [i64], at: usize, x: Scalar, e: u32)
     write_numerators(res, at, y);
 }
 
+// Kept: word by word, as `write_numerators` of cells.
 // Write three words from `at` on.
 fn put_three(res: &mut [i64], at: usize, a: i64, b: i64, c: i64)
     requires { at + 3 ≤ length res.old }
@@ -250,7 +271,9 @@ fn write_records(s: &[i64], h: Shape, strides: Stride, res: &mut [i64])
             at: HEADER + j * from,
             d: h.dim,
         };
-        block.write_record(strides, res, HEADER + j * to);
+        let sums = Sums { block };
+        let effect = Finished { sums, strides };
+        effect.write_record(res, HEADER + j * to);
     }
 }
 
@@ -287,6 +310,7 @@ fn write_effects(s: &[i64], h: Shape, strides: Stride, res: &mut [i64])
     write_records(s, h, strides, res);
 }
 
+// Kept: a bool, handed on within this file alone; an enum of the two would be matched on for each digit.
 // The stride of one of an entry's two digits: that of a row, or of a column.
 fn step_of(d: usize, row: bool) -> usize
     ensures { result ≡ cond row d 1 }

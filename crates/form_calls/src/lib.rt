@@ -16,6 +16,7 @@ use form_judge::{first_fault, judge_form};
 use recast::recast;
 use verdict::{Refusal, Verdict};
 
+// Kept: `half` is that of Parts, of which channel::forms says why it is a bool.
 // The refusal of the block at place i along the chain.
 fn refusal(half: bool, i: usize) -> Refusal
     ensures { result ≡ cond half (NotHermitianAt i) (NotPlainAt i) }

@@ -11,10 +11,6 @@ use Rattle.channel.specs.Layout.{form}
 use Rattle.channel.specs.Forms.{is_conjugate, has_root, restores}
 use Rattle.form_judge.specs.Inner.Judging.{cell_fits}
 
-pub twice : (b : Bool) → not (not b) ≡ b
-twice true = refl
-twice false = refl
-
 -- ---- what a form restores, entry by entry
 module _ (w : ℕ) (half plain : Bool) (z : ℕ → Number) where
   abbrev mirrored : ℕ → ℕ → Bool

@@ -1,5 +1,5 @@
 // Words of a form: whether they are well formed, and which block along their chain another form does not restore.
-// Kept (facts): r and c are rows and columns that a loop gives; a type for them would be made at each turn.
+// Kept (facts, together): r and c are rows and columns that a loop gives; a type for them, or for them and the block, would be made at each turn. That y is in range is asked for its sign, as in exact.
 #![tactic(auto)]
 
 ghost use Rattle.std.specs.Prelude.{◌≡◌, not, ◌<◌};
@@ -16,10 +16,12 @@ use channel::forms::{Form, Parts};
 use channel::layout::follow;
 use channel::records::Block;
 use channel::well_formed::{header, judge_chain};
-use recast::{conj4, read_number};
+use exact::numerators::conj4;
+use recast::read_number;
 use scalar::Scalar;
 use verdict::Refusal;
 
+// Kept: `judge` of channel::well_formed is its twin for ALL but for blocks of zeros, which it refuses; one function of both would take the parts and a bool.
 // The header of words of a form that are well formed.
 pub fn judge_form(s: &[i64], f: Parts) -> Result<Shape, Refusal>
     ensures { result ≡ shape_in f s.now }
@@ -41,6 +43,7 @@ fn are_conjugate(x: [i64; 4], y: [i64; 4]) -> bool
     a.equals(b)
 }
 
+// Kept: `is_real` of channel::records is its twin but for one place, which a function of both would take as a number.
 // Whether a number has no √2 part.
 fn is_plain(x: [i64; 4]) -> bool
     ensures { result ≡ not (has_root (number_of x)) }
@@ -102,6 +105,7 @@ fn block_fits(b: &Block, to: Parts) -> bool
     true
 }
 
+// Kept: count is the header's, and no length: the words may go on behind the last record.
 // The place along the chain of the first block that the form which keeps the parts `to` does not restore, if there is one.
 pub fn first_fault(s: &[i64], form: Form, to: Parts, count: usize) -> Option<usize>
     requires { Chained form s.now count }

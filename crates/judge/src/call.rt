@@ -59,7 +59,7 @@ pub fn circuit_channel(
     Ok(())
 }
 
-// Kept: a twin of `circuit_channel` but for its judge; they share `run_and_deliver`, and a function of what is left would be no plainer.
+// Kept: a twin of `circuit_channel` but for its judge; they share `run_and_deliver`, and a function of the three lines left would take the judge as a closure with a contract.
 // The channel of a layered circuit: `ends` are the ends of its layers, each the count of gates so far. A refusal leaves both buffers as they were.
 pub fn layered_channel(
     circuit: Circuit,

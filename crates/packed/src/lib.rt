@@ -1,4 +1,5 @@
 // Packed channels: half of each block. Blocks are Hermitian, so the entries (r, c) with r ≤ c decide them.
+// Kept (twins): plain_words is its twin but for what is kept; both are two calls of form_calls, under the names of the C interface.
 #![tactic(auto)]
 
 ghost use Rattle.std.specs.Prelude.{◌≡◌};

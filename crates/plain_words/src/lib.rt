@@ -1,4 +1,5 @@
 // Channels whose blocks have no √2 part, with n0 and n2 alone for each entry.
+// Kept (twins): packed is its twin but for what is kept; both are two calls of form_calls, under the names of the C interface.
 #![tactic(auto)]
 
 ghost use Rattle.std.specs.Prelude.{◌≡◌};

@@ -5,26 +5,18 @@
 
 ghost use Rattle.std.specs.Prelude.{◌≡◌, [], ◌∷◌, ℕ, ◌+◌, ◌*◌, ◌-◌, ◌<◌, ◌≤◌, length};
 ghost use Rattle.std.proofs.lemmas.List.Edits.{sets};
-ghost use Rattle.algebra.specs.Quadratic.{conjugate};
 ghost use Rattle.algebra.specs.Words.{blocks};
-ghost use Rattle.exact.specs.Exact.{root2, number_of, list_of, max_numerator};
-ghost use Rattle.exact.specs.Inner.Sizes.{Within};
+ghost use Rattle.exact.specs.Exact.{number_of, list_of};
 ghost use Rattle.channel.specs.Layout.{header_size, record_size, record_at, block_size, block_words, from, entry_size, entry_words, word, numbers_at, form_of};
 ghost use Rattle.channel.specs.Recast.{relink, recast_record};
 ghost use Rattle.recast.specs.Words.{recast_into};
 ghost use Rattle.recast.specs.Inner.Records.{Linked, Records, Ready};
 
+use cells::write_numerators;
 use channel::forms::{Form, Parts};
 use channel::layout::{EXPONENT, HEADER, RECORD_HEAD};
 use channel::records::Block;
-
-// The conjugate.
-pub fn conj4(x: [i64; 4]) -> [i64; 4]
-    requires { Within max_numerator (number_of x) }
-    ensures { result ≡ list_of (conjugate root2 (number_of x)) }
-{
-    [x[0], x[1], -x[2], -x[3]]
-}
+use exact::numerators::conj4;
 
 // The numerators of entry (r, c) of a block: what is not kept is the conjugate of entry (c, r).
 pub fn read_number(b: &Block, r: usize, c: usize) -> [i64; 4]
@@ -42,16 +34,12 @@ fn write_number(s: &mut [i64], p: usize, plain: bool, x: [i64; 4])
     requires { p + entry_size plain ≤ length s.old }
     ensures { s.new ≡ sets s.old p (entry_words plain (number_of x)) }
 {
-    let [a, b, c, d] = x;
     if plain {
-        s[p] = a;
-        s[p + 1] = c;
+        s[p] = x[0];
+        s[p + 1] = x[2];
         return;
     }
-    s[p] = a;
-    s[p + 1] = b;
-    s[p + 2] = c;
-    s[p + 3] = d;
+    write_numerators(s, p, x);
 }
 
 // Write the entries of row r of a block that the form `to` keeps, from `out` on.
@@ -93,18 +81,6 @@ fn relinked(from: Form, to: Form, z: i64) -> i64
     at as i64
 }
 
-// Write four words from `at` on.
-fn put_four(res: &mut [i64], at: usize, x: [i64; 4])
-    requires { at + 4 ≤ length res.old }
-    ensures { res.new ≡ sets res.old at x }
-{
-    let [a, b, c, d] = x;
-    res[at] = a;
-    res[at + 1] = b;
-    res[at + 2] = c;
-    res[at + 3] = d;
-}
-
 // Write the record of a block in the form that keeps the parts `to`, from `out` on.
 fn copy_record(b: &Block, to: Parts, res: &mut [i64], out: usize)
     requires { let m = b.now in let G = form_of m.form.side to in Linked m.form G (word m.words.now 0) × (out + record_size G ≤ length res.old) }
@@ -113,7 +89,7 @@ fn copy_record(b: &Block, to: Parts, res: &mut [i64], out: usize)
     let from = b.form;
     let s = b.words;
     let next = relinked(from, from.keeping(to), s[0]);
-    put_four(res, out, [next, s[1], s[2], s[EXPONENT]]);
+    write_numerators(res, out, [next, s[1], s[2], s[EXPONENT]]);
     copy_block(b, to, res, out + RECORD_HEAD);
 }
 
@@ -139,7 +115,7 @@ pub fn recast(s: &[i64], from: Form, n: usize, res: &mut [i64], to: Parts)
     let bits = s[1];
     let count = s[2];
     let first = s[3];
-    put_four(
+    write_numerators(
         res,
         0,
         [dim, bits, count, relinked(from, from.keeping(to), first)],

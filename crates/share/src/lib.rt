@@ -1,5 +1,5 @@
 // What brings numerators over one power of two to their shared form in place: the bits that some word has, and all words shifted.
-// Kept (buffers): a block lies in a result that is lent whole, and its words are counted from its first on, row after row: given a cut row, the caller would have to
+// Kept (buffers, loops): a block lies in a result that is lent whole, and its words are counted from its first on, row after row: given a cut row, the caller would have to
 // show of each row what its words are in the block, and what the shifted ones make of the result.
 // Kept (facts): t ≤ 63, the bits of a word, is what a shift itself asks.
 #![tactic(auto)]

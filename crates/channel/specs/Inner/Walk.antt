@@ -1,5 +1,6 @@
 -- The walk along two chains in step, as the code makes it: which side has the next store, and the blocks there.
-use Rattle.std.specs.Prelude.{◌≡◌, Bool, true, false, cond, List, ℕ, ◌-◌, eqb, ltb, ℤ, nat_abs}
+use Rattle.std.specs.Prelude.{◌≡◌, true, cond, List, ℕ, zero, suc, ◌-◌, ◌<◌, eqb, ℤ, nat_abs, Option, Some, None, drop}
+use Rattle.std.specs.Option.{option_map}
 use Rattle.exact.specs.Exact.{Exact, exact}
 use Rattle.channel.specs.declared.compare.Turn.{Turn}
 use Rattle.channel.specs.declared.compare.Cursor.{Cursor}
@@ -7,42 +8,52 @@ use Rattle.store.specs.Store.{before}
 use Rattle.channel.specs.Layout.{channels, side, dim_at, count_at, word, entry_at, store_at}
 use Rattle.channel.specs.WellFormed.{well_formed}
 use Rattle.channel.specs.Inner.Shapes.{Onward}
+use Rattle.channel.specs.Inner.Sides.{Side}
 use Rattle.channel.specs.Compare.{Both}
 
--- a side that takes part has its block at `at`; else its block is missing
-abbrev pub side_at : Bool → List ℤ → ℕ → ℕ → Exact
-side_at has l at k = cond has (entry_at (channels (dim_at l)) l at k) exact.𝟘
+-- a side that takes part has the block of its record; else its block is missing
+abbrev pub side_at : List ℤ → Option Cursor → ℕ → Exact
+side_at l None k = exact.𝟘
+side_at l (Some c) k = entry_at (channels (dim_at l)) l c.at k
 
-abbrev pub both_at : Turn → List ℤ → ℕ → List ℤ → ℕ → Both
-both_at t l i r j = record { store = t.store; left = side_at t.left l i; right = side_at t.right r j }
+-- the words of the record from its first on
+abbrev pub taken_of : List ℤ → Option Cursor → Side
+taken_of l side = option_map (λ (c : Cursor). drop c.at l) side
 
-abbrev pub on_left : ℕ → Turn
-on_left s = record { left = true; right = false; store = s }
+abbrev pub both_at : List ℤ → List ℤ → Turn → Both
+both_at l r t = record { store = t.store; left = side_at l t.left; right = side_at r t.right }
 
-abbrev pub on_right : ℕ → Turn
-on_right s = record { left = false; right = true; store = s }
+abbrev pub on_left : Cursor → Turn
+on_left a = record { store = a.store; left = Some a; right = None }
 
-abbrev pub on_both : ℕ → Turn
-on_both s = record { left = true; right = true; store = s }
+abbrev pub on_right : Cursor → Turn
+on_right b = record { store = b.store; left = None; right = Some b }
 
--- by whether each side has ended, and whether the stores are equal or the left one comes first
-abbrev pub turn_by : ℕ → ℕ → Bool → Bool → Bool → Bool → Turn
-turn_by x y noLeft noRight same less = cond noLeft (on_right y) (cond noRight (on_left x) (cond same (on_both x) (cond less (on_left x) (on_right y))))
+abbrev pub on_both : Cursor → Cursor → Turn
+on_both a b = record { store = a.store; left = Some a; right = Some b }
 
-abbrev pub turn_of : Cursor → Cursor → Turn
-turn_of a b = turn_by a.store b.store (eqb a.left 0) (eqb b.left 0) (eqb a.store b.store) (before a.store b.store)
+-- none where both chains have ended
+abbrev pub turn_of : Option Cursor → Option Cursor → Option Turn
+turn_of None None = None
+turn_of None (Some b) = Some (on_right b)
+turn_of (Some a) None = Some (on_left a)
+turn_of (Some a) (Some b) = Some (cond (eqb a.store b.store) (on_both a b) (cond (before a.store b.store) (on_left a) (on_right b)))
 
 -- n records are left, the next of them at `at`
-abbrev pub cursor_at : List ℤ → ℕ → ℕ → Cursor
-cursor_at l n at = record { at = at; left = n; store = cond (ltb 0 n) (store_at l at) 0 }
+abbrev pub cursor_at : List ℤ → ℕ → ℕ → Option Cursor
+cursor_at l zero at = None
+cursor_at l (suc n) at = Some (record { at = at; left = suc n; store = store_at l at })
 
-abbrev pub advance : Bool → List ℤ → Cursor → Cursor
-advance b l c = cond b (cursor_at l (c.left - 1) (nat_abs (word l c.at))) c
+-- the record after that of a side that takes part
+abbrev pub advance : List ℤ → Option Cursor → Option Cursor → Option Cursor
+advance l None c = c
+advance l (Some t) c = cursor_at l (t.left - 1) (nat_abs (word l t.at))
 
--- a cursor on a well-formed chain
+-- a record on a well-formed chain
 pub record On (l : List ℤ) (c : Cursor) : Type 0 where
   pub walk : Onward l c.left c.at
-  pub is : c ≡ cursor_at l c.left c.at
+  pub some : 0 < c.left
+  pub store : c.store ≡ store_at l c.at
 
 -- two well-formed channels of one dimension, with their block counts and the side of their blocks
 pub record Matched (l r : List ℤ) (m n w : ℕ) : Type 0 where

@@ -32,17 +32,13 @@ write_effects-requires c =
     let dim : Dim d = subst (λ (h : Shape). Dim h.dim) (sym (answer-shape l c.args.res.now c.in_ok-h.ensures)) (dim_of l able.form) in
     (able, subst (λ (r : ℕ). Strides d r c.step_of-cols.result) (sym c.step_of-rows.ensures) (subst (Strides d (cond (not c.args.textbook) d 1)) (sym c.step_of-cols.ensures) (form_strides c.args.textbook dim)))
 
-pub returns : goal.returns
-returns c =
+pub returns-clause-words : goal.returns-clause-words
+returns-clause-words c =
     let t = c.args.textbook in
     let l = c.args.channel.now in
     let room = c.args.res.now in
     let is = answer-shape l room c.in_ok-h.ensures in
-    let accepted = verdict_accepted l room c.in_ok-h.ensures in
-    record {
-      verdict = accepted;
-      words = c.write_effects.ensures ∙ (λ i. effects_words (strided_at (c.step_of-rows.ensures i) (c.step_of-cols.ensures i)) l room)
-          ∙ ap (λ (h : Shape). effects_words (strided_at (cond (not t) h.dim 1) (cond t h.dim 1)) l room) is
-          ∙ form-records t l (dim_at l) (count_at l) _ (dim_of l (ready l room c.in_ok-h.ensures).form)
-          ∙ ap (λ (v : Verdict). result_by (form_at t) v l room) accepted;
-    }
+    c.write_effects.ensures ∙ (λ i. effects_words (strided_at (c.step_of-rows.ensures i) (c.step_of-cols.ensures i)) l room)
+    ∙ ap (λ (h : Shape). effects_words (strided_at (cond (not t) h.dim 1) (cond t h.dim 1)) l room) is
+    ∙ form-records t l (dim_at l) (count_at l) _ (dim_of l (ready l room c.in_ok-h.ensures).form)
+    ∙ ap (λ (v : Verdict). result_by (form_at t) v l room) (verdict_accepted l room c.in_ok-h.ensures)

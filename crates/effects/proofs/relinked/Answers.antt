@@ -1,5 +1,5 @@
 -- `relinked` meets its contract.
-use mathlib.Core.Path.{sym, ap, ◌∙◌, subst}
+use mathlib.Core.Path.{sym, ◌∙◌, subst}
 use Prim.Native.Nat.{ℕ, ◌+◌, ◌*◌, ◌-◌, ◌/◌, ◌^◌, ◌≤◌, ◌<◌}
 use native.Mathlib.Nat.{lt_of_le_of_lt}
 use native.Mathlib.Omega.{arith}
@@ -10,10 +10,7 @@ use mir.Syntax.{w64}
 use mir.Val.{SFits, to_z, of_z}
 use mir.Facts.{to_z-of_z, to_z_pos}
 use Rattle.channel.specs.Layout.{channels, effects, header_size, record_size}
-use Rattle.channel.specs.Recast.{relink}
-use Rattle.store.proofs.Words.{Casts, read, fits-abs}
-use Rattle.effects.proofs.Summing.{dim_square}
-use Rattle.effects.proofs.Linking.{zero_word, link_start, relink-at, record_less, link_less}
+use Rattle.effects.proofs.Linking.{link_start, relink-at, record_less, link_less}
 use Rattle.effects.proofs.relinked.Goals as goal
 use Rattle.effects.proofs.relinked.Goals.{Else-z-eq0, After-record_size}
 
@@ -31,21 +28,6 @@ less c =
     small : (z : ℤ) → SFits w64 z → T (non_neg z) → nat_abs z < 2 ^ 63
     small (pos a) f t = f.sfits
     small (negsuc a) f t = absurd t
-
-pub returns-then-z-eq0 : goal.returns-then-z-eq0
-returns-then-z-eq0 c = sym (ap (relink (channels c.args.d) (effects c.args.d)) (zero_word c.args.z c.ranges.z c.if-z-eq0.true))
-
-pub overflow_mul-d : goal.overflow_mul-d
-overflow_mul-d c = let q = dim_square c.requires.dim in omega arith
-
-pub record_size-size-requires : goal.record_size-size-requires
-record_size-size-requires c = dim_square c.requires.dim
-
-pub overflow_cast-place : goal.overflow_cast-place
-overflow_cast-place c = let k = starts c.before in read c.ranges.z (Casts w64) (k.0, fits-abs c.args.z c.ranges.z k.0)
-
-pub overflow_sub-place : goal.overflow_sub-place
-overflow_sub-place c = read c.ranges.z (λ (z : ℤ). header_size ≤ nat_abs z) (starts c.before).1
 
 pub overflow_mul-to : goal.overflow_mul-to
 overflow_mul-to c = let q = less c in omega arith

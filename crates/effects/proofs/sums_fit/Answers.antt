@@ -1,7 +1,7 @@
 -- `sums_fit` meets its contract.
 use mathlib.Core.Path.{sym, ap, ◌∙◌}
 use Prim.Native.Nat.{ℕ, ◌+◌, ◌*◌}
-use Rattle.algebra.proofs.Tests.{all-step, all_no}
+use Rattle.algebra.proofs.Tests.{all_no}
 use Rattle.channel.specs.Layout.{channels, header_size, record_at}
 use Rattle.effects.specs.Effects.{record_fits}
 use Rattle.effects.proofs.sums_fit.Goals as goal
@@ -11,9 +11,3 @@ returns-then-not-fits c =
     let s = c.args in
     let tested = c.fits.ensures ∙ ap (λ (r : ℕ). record_fits s.s.now (header_size + c.loop-j.j * r) s.h.dim) c.record_size-size.ensures in
     sym (all_no s.h.count c.loop-j.j (λ (j : ℕ). record_fits s.s.now (record_at (channels s.h.dim) j) s.h.dim) c.loop-j-test.true (sym tested ∙ c.if-not-fits.true))
-
-pub loop-j-preserved : goal.loop-j-preserved
-loop-j-preserved c =
-    let s = c.args in
-    let tested = c.fits.ensures ∙ ap (λ (r : ℕ). record_fits s.s.now (header_size + c.loop-j.j * r) s.h.dim) c.record_size-size.ensures in
-    all-step c.loop-j.j (λ (j : ℕ). record_fits s.s.now (record_at (channels s.h.dim) j) s.h.dim) c.loop-j.invariant (sym tested ∙ c.if-not-fits.false)

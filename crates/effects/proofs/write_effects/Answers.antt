@@ -3,11 +3,8 @@ use mathlib.Core.Path.{◌≡◌, sym, ap, ◌∙◌, subst}
 use Prim.Native.Nat.{ℕ, ◌+◌, ◌*◌, ◌≤◌}
 use native.Mathlib.Omega.{arith}
 use lib.ListN.{length, length-set}
-use lib.Seq.{sets}
 use Rattle.channel.specs.Layout.{effects, header_size, record_size}
 use Rattle.channel.proofs.Chain.{header_long}
-use Rattle.effects.specs.Effects.{effect_header, with_records}
-use Rattle.effects.specs.Inner.Strides.{strided_at}
 use Rattle.effects.proofs.Answers.{ready_linked, ready_records, ready_fit, ready_room}
 use Rattle.effects.proofs.write_effects.Goals as goal
 
@@ -31,11 +28,3 @@ write_records-requires c =
         ),
       ),
     )
-
-pub returns : goal.returns
-returns c =
-    let a = c.args in
-    let r = c.requires.0 in
-    let records = with_records (strided_at a.strides.rows a.strides.cols) a.s.now in
-    c.write_records.ensures ∙ ap (records a.h.dim a.h.count) c.write_header.ensures
-    ∙ (λ i. records (r.dim i) (r.count i) (sets a.res.now 0 (effect_header a.s.now (r.dim i))))

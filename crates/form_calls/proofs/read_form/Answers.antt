@@ -33,16 +33,5 @@ module _ (f : Parts) (l res : List ℤ) where
     narrow : h.dim ≤ 16
     narrow = subst (λ (s : Shape). s.dim ≤ 16) (sym (given (shape_at l) (read_questions f l res) e)) (formed_in (form_in f l) l (read_ready f l res (sym (ap is_ok passes))).right).0.small
 
-pub returns-in_err-h : goal.returns-in_err-h
-returns-in_err-h c =
-    let s = c.args in
-    let e = refused_alike (shape_at s.words.now) tt (read_questions s.f s.words.now s.res.now) c.in_err-h.ensures in
-    record { verdict = returned _ c.from_residual.ensures.1 ∙ e; words = ap (words_by s.f s.words.now s.res.now) e }
-
-pub recast-requires : goal.recast-requires
-recast-requires c =
-    let s = c.args in
-    subst (λ (F : Form). Ready F (form_of F.side full) s.words.now c.in_ok-h.h.count s.res.now) (sym c.form.ensures) (able s.f s.words.now s.res.now c.in_ok-h.ensures)
-
 pub form-requires : goal.form-requires
 form-requires c = let s = c.args in narrow s.f s.words.now s.res.now c.in_ok-h.ensures

@@ -41,7 +41,7 @@ copy_records-requires c =
     let a = c.args in
     let G = form_of a.from.side a.to in
     let big : length a.res.now < 2 ^ 63 = omega arith in
-    let e : length c.put_four.new.res ≡ length a.res.now = ap length c.put_four.ensures ∙ simp length-set in
+    let e : length c.write_numerators.new.s ≡ length a.res.now = ap length c.write_numerators.ensures ∙ simp length-set in
     let room = subst (λ (n : ℕ). record_at G n ≤ length a.res.now) (sym c.requires.count) c.requires.room in
     (records-of a.from G a.s.now a.n a.res.now c.requires big, subst (λ (k : ℕ). record_at G a.n ≤ k) (sym e) room)
 
@@ -51,7 +51,7 @@ returns c =
     let l = a.s.now in
     let G = form_of a.from.side a.to in
     whole_is a.from G l a.res.now _ _ a.n c.requires.count
-    (c.put_four.ensures
+    (c.write_numerators.ensures
     ∙ (λ i. sets a.res.now 0
     (reads (word l 0) c.dim-1.given i ∷ reads (word l 1) c.bits-1.given i ∷ reads (word l 2) c.count-1.given i
     ∷ (reads c.relinked.result c.relinked.type_inv ∙ c.relinked.ensures ∙ (λ k. relink a.from (c.keeping.ensures k) (reads (word l 3) c.first-1.given k))) i ∷ [])))

@@ -21,9 +21,6 @@ one_more l at k i f x j q h = go (dec_lt j i)
     go (yes p) = f j q p
     go (no p) = let e : i ≡ j = omega arith in subst (λ (m : ℕ). SFits w64 (word l (at + m))) e x
 
-pub loop-i-init : goal.loop-i-init
-loop-i-init c = (of_z-to_z {w = w64} (Fits-of_z {w = w64} {z = c.args.g} c.ranges.g) ∙ c.requires.1, λ j p h. absurd (omega arith))
-
 pub loop-i-preserved : goal.loop-i-preserved
 loop-i-preserved c =
     let s = c.args in

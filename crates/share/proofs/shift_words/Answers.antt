@@ -6,18 +6,12 @@ use native.Mathlib.Omega.{arith}
 use lib.ListN.{get_or}
 use lib.IntN.{ℤ, pos}
 use lib.Signed.{shr_z}
-use Rattle.algebra.proofs.Blocks.{begin, again_word, done, long, rest}
+use Rattle.algebra.proofs.Blocks.{begin, again_word, rest}
 use Rattle.algebra.proofs.Signed.{shift_back}
 use Rattle.share.proofs.shift_words.Goals as goal
 
 pub loop-i-init : goal.loop-i-init
 loop-i-init c = begin (λ k. le_refl 1)
-
-pub slice_copy_out-x : goal.slice_copy_out-x
-slice_copy_out-x c = omega (arith, long c.loop-i.invariant)
-
-pub bounds-s-at : goal.bounds-s-at
-bounds-s-at c = omega (arith, long c.loop-i.invariant)
 
 pub loop-i-preserved : goal.loop-i-preserved
 loop-i-preserved c =
@@ -26,9 +20,3 @@ loop-i-preserved c =
     let same = (rest c.loop-i.invariant (b.at + i) 1 (omega arith)).word (b.at + i) (omega arith) (omega arith) in
     again_word (λ k. shr_z (get_or b.s.now (b.at + k) (pos 0)) (2 ^ b.t)) c.loop-i.invariant c.loop-i-test.true
     (shift_back (get_or c.loop-i.s (b.at + i) (pos 0)) (2 ^ b.t) (record { sfits = c.x-1.given }) ∙ ap (λ (z : ℤ). shr_z z (2 ^ b.t)) same)
-
-pub shape_of-s : goal.shape_of-s
-shape_of-s c = long c.loop-i.invariant
-
-pub returns : goal.returns
-returns c = done c.loop-i.invariant c.loop-i-test.false

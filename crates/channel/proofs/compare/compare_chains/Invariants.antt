@@ -1,10 +1,10 @@
 -- `compare::compare_chains` meets its contract.
 use Prim.Native.Nat.{◌+◌}
-use Rattle.channel.proofs.Merging.{Walking}
+use Rattle.channel.proofs.Merging.{Walking, size}
 use Rattle.channel.proofs.compare.compare_chains.Given as goal
 
-abbrev pub invariant-loop-a : goal.invariant-loop-a
-invariant-loop-a l = Walking l.left l.right l.w l.a l.b
+abbrev pub invariant-loop-turn : goal.invariant-loop-turn
+invariant-loop-turn l = Walking l.left l.right l.w l.a l.b
 
-abbrev pub decreases-loop-a : goal.decreases-loop-a
-decreases-loop-a l = l.a.left + l.b.left
+abbrev pub decreases-loop-turn : goal.decreases-loop-turn
+decreases-loop-turn l = size l.a + size l.b

@@ -1,5 +1,6 @@
 -- `compare::Sides::search` meets its contract.
 use Rattle.std.specs.Prelude.{Some}
+use Rattle.std.specs.Option.{option_copied}
 use mathlib.Core.Path.{◌≡◌, refl, sym, ap, ◌∙◌}
 use Prim.Native.Nat.{ℕ, ◌+◌, ◌*◌, ◌-◌, ◌<◌}
 use native.Mathlib.Omega.{arith}
@@ -23,7 +24,7 @@ returns-then-not-same_entry c =
     let col = c.loop-col.col in
     let inside : row * w + col < w * w = digits_lt c.loop-col.invariant.0 c.loop-col-test.true in
     (λ i. Some (found s.store row col (c.entry_or_zero.ensures i) (c.entry_or_zero-then-not-same_entry.ensures i)))
-    ∙ sym (c.loop-col.invariant.1 ∙ differs (blocks_of s.store s.left s.right) w (w * w) (row * w + col) inside row col refl c.loop-col-test.true (sym c.same_entry.ensures ∙ c.if-not-same_entry.true))
+    ∙ sym (c.loop-col.invariant.1 ∙ differs (blocks_of s.store (option_copied s.left) (option_copied s.right)) w (w * w) (row * w + col) inside row col refl c.loop-col-test.true (sym c.same_entry.ensures ∙ c.if-not-same_entry.true))
 
 pub loop-col-preserved : goal.loop-col-preserved
 loop-col-preserved c =
@@ -31,7 +32,7 @@ loop-col-preserved c =
     let w = s.side in
     let row = c.loop-row.row in
     let col = c.loop-col.col in
-    let b = blocks_of s.store s.left s.right in
+    let b = blocks_of s.store (option_copied s.left) (option_copied s.right) in
     let inside : row * w + col < w * w = digits_lt c.loop-col.invariant.0 c.loop-col-test.true in
     let next : row * w + col + 1 ≡ row * w + (col + 1) = omega arith in (
       c.loop-col.invariant.0,
@@ -44,4 +45,4 @@ returns c =
     let s = c.args.self.now in
     let w = s.side in
     let all : c.loop-row.row ≡ w = omega arith in
-    sym (c.loop-row.invariant ∙ done (blocks_of s.store s.left s.right) w (w * w) (c.loop-row.row * w) (ap (λ (x : ℕ). x * w) all))
+    sym (c.loop-row.invariant ∙ done (blocks_of s.store (option_copied s.left) (option_copied s.right)) w (w * w) (c.loop-row.row * w) (ap (λ (x : ℕ). x * w) all))

@@ -1,4 +1,5 @@
 -- `compare::Sides::search` meets its contract.
+use Rattle.std.specs.Option.{option_copied}
 use mathlib.Core.Path.{◌≡◌}
 use Prim.Native.Nat.{◌+◌, ◌*◌, ◌-◌, ◌<◌}
 use Rattle.channel.specs.Compare.{scan}
@@ -7,10 +8,10 @@ use Rattle.channel.proofs.compare.Sides.search.Given as goal
 
 abbrev pub invariant-loop-col : goal.invariant-loop-col
 invariant-loop-col l =
-    let b = blocks_of l.self.store l.self.left l.self.right in
+    let b = blocks_of l.self.store (option_copied l.self.left) (option_copied l.self.right) in
     (l.row < l.w) × (scan b l.w (l.w * l.w) 0 ≡ scan b l.w (l.w * l.w - (l.row * l.w + l.col)) (l.row * l.w + l.col))
 
 abbrev pub invariant-loop-row : goal.invariant-loop-row
 invariant-loop-row l =
-    let b = blocks_of l.self.store l.self.left l.self.right in
+    let b = blocks_of l.self.store (option_copied l.self.left) (option_copied l.self.right) in
     scan b l.w (l.w * l.w) 0 ≡ scan b l.w (l.w * l.w - l.row * l.w) (l.row * l.w)

@@ -1,8 +1,0 @@
--- `effect_exponent` meets its contract.
-use mathlib.Core.Path.{◌≡◌}
-use Rattle.channel.specs.Shared.{shared_exponent}
-use Rattle.effects.specs.Effects.{effect_at}
-use Rattle.effects.proofs.Block.exponent.Given as goal
-
-abbrev pub invariant-loop-i : goal.invariant-loop-i
-invariant-loop-i l = l.e ≡ shared_exponent l.i (effect_at l.self.words.now l.self.at l.self.d)

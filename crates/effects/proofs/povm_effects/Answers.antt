@@ -1,5 +1,0 @@
--- `povm_effects` meets its contract.
-use Rattle.effects.proofs.povm_effects.Goals as goal
-
-pub returns : goal.returns
-returns c = record { verdict = c.effects_in.ensures.verdict; words = c.effects_in.ensures.words }
