@@ -37,7 +37,6 @@ use Rattle.pauli_words.specs.Questions.{number_of, nodes_questions}
 use Rattle.pauli_words.specs.Inner.Masks.{max_nodes}
 use Rattle.pauli_judge.specs.Footprint.{named}
 use Rattle.pauli_judge.specs.Sizes.{program_work}
-use Rattle.pauli_judge.specs.Questions.{max_listed}
 use Rattle.pauli_program.specs.Program.{program_branches}
 use Rattle.pauli_program.proofs.Counting.{program_count, program_square}
 use Rattle.pauli_run.specs.Inner.Run.{run_size, Runs, Ran}
@@ -106,9 +105,6 @@ module _ {n m : ℕ} {σ ns os : List ℕ} {r w : List ℤ} (a : Accepted n m σ
 
   pub few-named : named n (operations_of os) ≤ max_nodes
   few-named = listed.named_few
-
-  pub few-listed : length ns / gate_size ≤ max_listed
-  few-listed = listed.few
 
   pub few-nodes : number_of n (length ns / gate_size) ≤ max_nodes
   few-nodes = omega (arith, listed.few, known.qubit_count)

@@ -1,5 +1,5 @@
 // pauli_channel: its questions, then the program run and its channel delivered.
-// Kept (together): limits and buffers, as in judge::call.
+// Kept (together): limits and buffers, as in judge::call; work, d and banks, as in pauli_run::run.
 ghost use Rattle.std.specs.Prelude.{◌≡◌, replicate, pos};
 ghost use Rattle.collect.specs.Delivered.{overwritten};
 ghost use Rattle.pauli_words.specs.Words.{nodes_of, operations_of};
@@ -54,6 +54,7 @@ fn run_and_deliver(f: ProgramFootprint, program: Program, res: &mut [i64], work:
 }
 
 // The channel of a Pauli program. A refusal leaves both buffers as they were.
+// Kept: `circuit_channel` of judge::call has these three lines as well, with a judge and a run of its own; a function of both would take these two as closures.
 pub fn pauli_channel(program: Program, limits: Limits, res: &mut [i64], work: &mut [i64]) -> Verdict
     ensures value { let p = program.entry in result ≡ verdict_of p.qubits p.bits p.store.now limits p.nodes.now p.operations.now res.old work.old }
     ensures res_after { let p = program.entry in res.new ≡ result_after p.qubits p.bits p.store.now limits p.nodes.now p.operations.now res.old work.old }

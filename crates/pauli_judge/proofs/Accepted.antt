@@ -110,7 +110,8 @@ module _ (n m : ℕ) (l : Limits) (ns os : List ℕ) where
   words_known = go (matrix_ceilings l && branch_ceilings l) (eqb (length ns % gate_size) 0) (eqb (length os % gate_size) 0) (few_operations n l ns os) refl refl
     where
       go : (a b c d : Bool) → (matrix_ceilings l && branch_ceilings l) ≡ a → few_operations n l ns os ≡ d
-          → is_ok (cond a (cond b (cond c (cond d (first_no (nodes_questions n 0 (gates_of ns) ++ operations_questions (axis_fits n (nodes_of ns)) m 0 0 (gates_of os))) (Err OverLimit)) (Err (MalformedAt 0))) (Err (MalformedAt 0))) (Err OverCeiling)) ≡ true
+          → is_ok (cond a (cond b (cond c (cond d (first_no (nodes_questions n 0 (gates_of ns) ++ operations_questions (axis_fits n (nodes_of ns)) m 0 0 (gates_of os)))
+          (Err OverLimit)) (Err (MalformedAt 0))) (Err (MalformedAt 0))) (Err OverCeiling)) ≡ true
           → Known
       go true true true true p q e = known p q e
       go true true true false p q e = absurd (true≢false (sym e))

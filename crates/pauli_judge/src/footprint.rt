@@ -1,8 +1,8 @@
 // What a Pauli program asks for, in one pass over the words of its operations.
-// Kept (buffers): the rest of the words as a slice would need, at each call, that the operations of a list's end are the last of its operations, which `gates_from` says of the index by definition.
-ghost use Rattle.std.specs.Prelude.{◌≡◌, ◌+◌, ◌*◌, ◌-◌, ◌/◌, ◌≤◌, cond, eqb, length};
+// Kept (twins): `circuit::footprint` goes over gates as this goes over operations; one walk for both would take a trait of bit, splits and weight, and each contract the law by which its definition of specs comes of it.
+ghost use Rattle.std.specs.Prelude.{◌≡◌, ◌+◌, ◌*◌, ◌≤◌, cond, eqb};
 ghost use Rattle.algebra.specs.Lists.{some};
-ghost use Rattle.gate.specs.Gate.{Gate, gate_size, gates_from, gates_of};
+ghost use Rattle.gate.specs.Gate.{Gate, gates_of};
 ghost use Rattle.pauli_nodes.specs.Operations.{turn_weight, weight};
 ghost use Rattle.pauli_words.specs.Words.{operation_of, operations_of};
 ghost use Rattle.pauli_words.specs.Inner.Code.{operation_in};
@@ -52,11 +52,11 @@ fn writes(operation: Operation, bit: u32) -> bool
     }
 }
 
-// Whether some operation from operation `from` on measures into the bit.
-fn is_written(words: &[u32], from: usize, bit: u32) -> bool
-    ensures { result ≡ some (λ (g : Gate). writes (operation_of g) bit) (gates_from words.now from (length words.now / gate_size - from)) }
+// Whether some operation measures into the bit.
+fn is_written(words: &[u32], bit: u32) -> bool
+    ensures { result ≡ some (λ (g : Gate). writes (operation_of g) bit) (gates_of words.now) }
 {
-    for i in from..words.len() / GATE {
+    for i in 0..words.len() / GATE {
         let operation = Operation::of(read_gate(words, i * GATE));
         if writes(operation, bit) {
             return true;
@@ -65,14 +65,13 @@ fn is_written(words: &[u32], from: usize, bit: u32) -> bool
     false
 }
 
-// 1 if the operation measures into one of the bits and no operation from operation `from` on does.
-fn newly_written(words: &[u32], from: usize, operation: Operation, bits: u32) -> u64
-    ensures { result ≡ newly bits (operation_in operation) (gates_from words.now from (length words.now / gate_size - from)) }
+// 1 if the operation measures into one of the bits and none of the operations after it does.
+fn newly_written(operation: Operation, after: &[u32], bits: u32) -> u64
+    ensures { result ≡ newly bits (operation_in operation) (gates_of after.now) }
 {
-    let is_new = operation
+    operation
         .bit()
-        .is_some_and(|bit| bit < bits && !is_written(words, from, bit));
-    is_new as u64
+        .is_some_and(|bit| bit < bits && !is_written(after, bit)) as u64
 }
 
 // What the output frame names: nodes 1 to 2n.
@@ -96,7 +95,7 @@ impl ProgramFootprint {
             let operation = Operation::of(read_gate(words, i * GATE));
             nodes = nodes.max(operation.axis().node as u64 + 1);
             splits += operation.splits() as u64;
-            written += newly_written(words, i + 1, operation, program.bits);
+            written += newly_written(operation, &words[(i + 1) * GATE..], program.bits);
             weight += weight_of(operation);
         }
         ProgramFootprint {

@@ -13,21 +13,16 @@ ghost use Rattle.pauli_judge.specs.Questions.{max_listed, few_operations, progra
 
 use crate::footprint::ProgramFootprint;
 use crate::sizes::ProgramSizes;
-use circuit::limits::Limits;
-use circuit::sizes::MAX_SPLITS;
+use circuit::limits::{Limits, MAX_QUBITS};
+use circuit::questions::{judge_counts, judge_sizes};
 use gate::GATE;
 use pauli_words::masks::Mask;
 use pauli_words::nodes::judge_nodes;
 use pauli_words::operations::judge_operations;
 use pauli_words::{MAX_NODES, Program};
-use store::is_store;
 use verdict::{Refusal, Verdict};
 
 const MAX_LISTED: usize = 1024;
-
-const MAX_QUBITS: u32 = 5;
-
-const MAX_WEIGHT: u64 = 56;
 
 // The questions of the nodes, then of the operations.
 fn judge_lists(program: Program) -> Verdict
@@ -49,7 +44,8 @@ fn are_few(program: Program, l: Limits) -> bool
 {
     let n = program.qubits;
     let p = (program.operations.len() / GATE) as u64 + 2 * (n as u64);
-    (p <= l.max_operations) & ((n <= MAX_QUBITS) & (program.nodes.len() / GATE <= MAX_LISTED))
+    (p <= l.max_operations)
+        & ((n as u64 <= MAX_QUBITS) & (program.nodes.len() / GATE <= MAX_LISTED))
 }
 
 // The questions of the words.
@@ -76,27 +72,9 @@ fn judge_numbers(f: ProgramFootprint, program: Program, l: Limits, res: u64, wor
     requires { (matrix_ceilings l && branch_ceilings l ≡ true) × (f.counts.gates ≤ l.max_operations) × (f.nodes ≤ max_nodes) }
     ensures { let p = program.entry in result ≡ first_no (program_number_questions f p.qubits p.bits p.store.now l res work) }
 {
-    let counts = f.counts;
-    let n = program.qubits;
-    if !is_store(program.store, program.bits) {
-        return Err(Refusal::BadStore);
-    }
-    if (program.bits as u64 > l.max_classical_bits)
-        | ((n as u64 > l.max_qubits) | (counts.splits > MAX_SPLITS))
-    {
-        return Err(Refusal::OverLimit);
-    }
-    let s = ProgramSizes::of(f, n);
-    if !s.is_within(counts.gates, l) {
-        return Err(Refusal::OverLimit);
-    }
-    if counts.weight > MAX_WEIGHT {
-        return Err(Refusal::TooHeavy);
-    }
-    if !s.has_room(res, work) {
-        return Err(Refusal::ShortBuffer);
-    }
-    Ok(())
+    let sizes = judge_counts(f.counts, program.qubits, program.bits, program.store, l)?;
+    let nodes = f.nodes;
+    judge_sizes(&ProgramSizes { nodes, sizes }, f.counts, l, res, work)
 }
 
 // All questions, and what a program that passes asks for; `res` and `work` are the lengths of the buffers.

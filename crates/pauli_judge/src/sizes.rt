@@ -1,16 +1,18 @@
 // The formulas of the questions, of a program that asks for little enough.
-// Kept (facts): n ≤ 5 and at most 1,024 operations are asked where they are multiplied; `ProgramSizes` holds what comes of n, and the operations are counted apart from it.
+// Kept (twins): cells, terms and work of `circuit::sizes` with the nodes of a program, and in work + 3 for + 2; the specification states each formula by itself.
+// Kept (facts): n ≤ 5 is asked by `of` alone, which makes the sizes of it; at most 1,024 operations where they are multiplied and in `is_within`, which `Fits` heads: they are counted apart from `ProgramSizes`.
 ghost use Rattle.std.specs.Prelude.{◌≡◌, ◌&&◌, ◌≤◌, leb};
 ghost use Rattle.circuit.specs.Questions.{sizes_of};
 ghost use Rattle.circuit.specs.Inner.Small.{max_splits, max_qubits, max_gates};
 ghost use Rattle.pauli_words.specs.Inner.Masks.{max_nodes};
+ghost use Rattle.pauli_judge.specs.Inner.Numbers.{few_program_cells};
 ghost use Rattle.pauli_judge.specs.Questions.{program_room};
 ghost use Rattle.pauli_judge.specs.Sizes.{program_cells, program_terms, program_work};
 
 use crate::footprint::ProgramFootprint;
 use cells::CELL;
 use circuit::limits::Limits;
-use circuit::sizes::{Sizes, result_words};
+use circuit::sizes::{Fits, Sizes, result_words};
 
 // The nodes that a program names, and its branches, stores and rows.
 #[derive(Clone, Copy)]
@@ -55,23 +57,21 @@ impl ProgramSizes {
         let s = &self.sizes;
         (2 * s.branches.count() + self.nodes + 2) * (CELL as u64 * s.rows.square() + 3)
     }
+}
 
-    // Question 8, but for the qubits and the classical bits.
-    pub fn is_within(&self, gates: u64, l: Limits) -> bool
-        requires { gates ≤ max_gates }
-        ensures { let s = self.now.sizes in
-            result ≡ leb s.branches l.max_branches && (leb (program_cells self.now.nodes s.branches s.stores s.rows) l.max_matrix_cells && leb (program_terms self.now.nodes gates s.branches s.rows) l.max_multiply_terms) }
-    {
+impl Fits for ProgramSizes {
+    ghost within = { λ s p l. leb s.sizes.branches l.max_branches && few_program_cells s.nodes l p s.sizes };
+
+    ghost room = { λ s res work. program_room s.nodes s.sizes res work };
+
+    fn is_within(&self, gates: u64, l: Limits) -> bool {
         let cells = self.cells_needed();
         let terms = self.terms_needed(gates);
         (self.sizes.branches.count() <= l.max_branches)
             & ((cells <= l.max_matrix_cells) & (terms <= l.max_multiply_terms))
     }
 
-    // Question 10.
-    pub fn has_room(&self, res: u64, work: u64) -> bool
-        ensures { result ≡ program_room self.now.nodes self.now.sizes res work }
-    {
+    fn has_room(&self, res: u64, work: u64) -> bool {
         let needed = result_words(self.sizes.stores, self.sizes.rows);
         let scratch = self.work_words();
         (needed <= res) & (scratch <= work)

@@ -36,11 +36,6 @@ splits_le (rotate a k) = omega arith
 splits_le (rotate_if a k j) = omega arith
 splits_le (measure a bs) = omega arith
 
-pub splits-two : (o : Operation) → 2 ^ splits o ≤ 2
-splits-two (rotate a k) = omega arith
-splits-two (rotate_if a k j) = omega arith
-splits-two (measure a bs) = omega arith
-
 pub ops_is : (o : Operation) → splits o + 1 ≡ 2 ^ splits o
 ops_is (rotate a k) = refl
 ops_is (rotate_if a k j) = refl

@@ -43,7 +43,10 @@ module _ {b : List ℤ} {ws : List ℕ} {ms : List Mask} {σ : Store} {n d banks
       ready =
           subst (λ (x : Operation). Operating l ms x made (2 * (banks * size)) from (banks * size - from) d count) (sym read)
           (subst (λ (s : ℕ). Operating l ms (operation_of (gate_at ws (i * gate_size))) made (2 * (banks * s)) from (banks * s - from) d count) (sym e)
-          (subst (λ (d : ℕ). Runs b ws ms σ n d banks nodes → Running b ws σ n d banks nodes l from count made i → Operating l ms (operation_of (gate_at ws (i * gate_size))) made (2 * (banks * branch_size d)) from (banks * branch_size d - from) d count) (sym r₀.dim)
+          (subst
+          (λ (d : ℕ). Runs b ws ms σ n d banks nodes → Running b ws σ n d banks nodes l from count made i
+          → Operating l ms (operation_of (gate_at ws (i * gate_size))) made (2 * (banks * branch_size d)) from (banks * branch_size d - from) d count)
+          (sym r₀.dim)
           (λ r w. running_ready r w h) r₀ w))
 
       pub more : {q : List ℤ} {c s : ℕ} → c ≡ count * 2 ^ splits x → s ≡ made + splits x

@@ -1,4 +1,6 @@
 // The two operators of an operation, by their rows.
+// Kept (kinds): v is the number of an operator, 0 or 1, as in branches::outcome; a bool or an enum would be made of it in each clause.
+// Kept (buffers): the rows go to a slot of the one lent work area, as in gate::rows.
 // Kept (facts): d ≤ 32, as in branches::bank.
 // Kept (switches): a match on what an operation is, each arm with numbers of its own; a closure would be chosen by the same match.
 ghost use Rattle.std.specs.Prelude.{◌≡◌, cond, ◌+◌, ◌*◌, ◌≤◌, ◌<◌, eqb, length};
@@ -12,7 +14,7 @@ ghost use Rattle.pauli_run.specs.Inner.Operators.{coefficients_of, with_rows};
 use branches::bank::ROW;
 use gate::rows::Pair;
 use pauli_steps::coefficients::{projecting, turning};
-use pauli_steps::rows::axis_rows;
+use pauli_steps::rows::{Axis, axis_rows};
 use pauli_words::masks::Mask;
 use pauli_words::operations::Operation;
 
@@ -44,6 +46,7 @@ pub fn write_operators(work: &mut [i64], slots: usize, d: usize, operation: Oper
     requires { Eighths (operation_in operation) × ((d ≤ 32) × (slots + 2 * (d * row_size) ≤ length work.old)) }
     ensures { work.new ≡ with_rows work.old slots d m (operation_in operation) }
 {
-    axis_rows(work, slots, d, m, coefficients(operation, 0));
-    axis_rows(work, slots + d * ROW, d, m, coefficients(operation, 1));
+    let axis = Axis::from(m);
+    axis_rows(work, slots, d, axis, coefficients(operation, 0));
+    axis_rows(work, slots + d * ROW, d, axis, coefficients(operation, 1));
 }

@@ -1,5 +1,6 @@
 // A program's operations, run one after the other on the branches.
-// Kept (buffers): d is the dimension of the branches, not a length of the masks beside it.
+// Kept (buffers): d is the dimension of the branches, not a length of the masks beside it; `slots`, `at` and `to` are places in the one lent work area.
+// Kept (together): work is lent to be written; a struct of it and of places in it would be made for each step, and taken apart there.
 ghost use Rattle.std.specs.Prelude.{◌≡◌, List, ◌-◌, ◌*◌, ◌^◌};
 ghost use Rattle.pauli_nodes.specs.Nodes.{Node};
 ghost use Rattle.pauli_nodes.specs.Operations.{axis, splits};
@@ -54,6 +55,7 @@ fn step_operation(
 }
 
 // Run a program from the identity with its store; answers where the last bank lies.
+// Kept: `at` and `count` change with each operation and d does not; a Bank is made of the three for each step.
 pub fn run_operations(
     work: &mut [i64],
     program: Program,

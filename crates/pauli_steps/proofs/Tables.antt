@@ -19,7 +19,7 @@ use Rattle.exact.proofs.Sizes.{within_of}
 use Rattle.gate.specs.declared.rows.Pair.{Pair}
 use Rattle.gate.specs.Operators.{one}
 use Rattle.pauli_nodes.specs.Nodes.{turned}
-use Rattle.pauli_nodes.specs.Inner.Masks.{Mask, mask, parity}
+use Rattle.pauli_nodes.specs.Inner.Masks.{Mask, parity}
 use Rattle.pauli_program.specs.Operators.{Coefficients, turn_by, onto}
 use Rattle.pauli_program.proofs.Steps.{table, entry, table_is}
 use Rattle.pauli_steps.specs.Inner.Rows.{pair_of, axis_row}
@@ -92,12 +92,12 @@ written-other p plus minus x z r =
 two_parities : (m : ℕ) → parity m < 2
 two_parities m = mod-lt (m + m / 2 + m / 4 + m / 8 + m / 16) (omega arith)
 
-pub written_is : (p q : Exact) (m : Mask) {x z t : ℕ} {plus minus : Exact} → x ≡ m.x → z ≡ m.z → t ≡ m.turns → plus ≡ exact.◌⊗◌ q (turned t) → minus ≡ exact.◌⊗◌ q (turned (t + 2)) → (i : ℕ)
-    → written p plus minus x z i ≡ axis_row m p q i
-written_is p q m {x} {z} {t} {plus} {minus} a b c e f i =
-    ap (cond (eqb (i % 2) 0) p) (go (parity (bit_and z (bit_xor (i / 2) x))) (two_parities (bit_and z (bit_xor (i / 2) x)))) ∙ (λ j. axis_row (mask (a j) (b j) (c j)) p q i)
+pub written_is : (p q : Exact) (m : Mask) {plus minus : Exact} → plus ≡ exact.◌⊗◌ q (turned m.turns) → minus ≡ exact.◌⊗◌ q (turned (m.turns + 2)) → (i : ℕ)
+    → written p plus minus m.x m.z i ≡ axis_row m p q i
+written_is p q m {plus} {minus} e f i =
+    ap (cond (eqb (i % 2) 0) p) (go (parity (bit_and m.z (bit_xor (i / 2) m.x))) (two_parities (bit_and m.z (bit_xor (i / 2) m.x))))
   where
-    go : (s : ℕ) → s < 2 → cond (eqb s 0) plus minus ≡ exact.◌⊗◌ q (turned (t + 2 * s))
-    go zero l = let g : t ≡ t + 2 * 0 = omega arith in e ∙ ap (λ (k : ℕ). exact.◌⊗◌ q (turned k)) g
+    go : (s : ℕ) → s < 2 → cond (eqb s 0) plus minus ≡ exact.◌⊗◌ q (turned (m.turns + 2 * s))
+    go zero l = let g : m.turns ≡ m.turns + 2 * 0 = omega arith in e ∙ ap (λ (k : ℕ). exact.◌⊗◌ q (turned k)) g
     go (suc zero) l = f
     go (suc (suc s)) l = absurd (omega arith)

@@ -87,6 +87,7 @@ pub fn turning(k: u32) -> Pair
 }
 
 // Of the projector onto outcome v.
+// Kept: v is the number of an operator, 0 or 1, as in branches::outcome; a bool or an enum would be made of it in each clause.
 pub fn projecting(v: u32) -> Pair
     ensures { result ≡ pair_of (onto v) }
 {

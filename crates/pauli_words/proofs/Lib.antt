@@ -1,3 +1,4 @@
 pub mod Held
+pub mod Parity
 pub mod Forms
 pub mod Asked

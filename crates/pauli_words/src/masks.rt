@@ -29,11 +29,12 @@ impl Model for Mask {
 }
 
 // How many of five bits are 1, modulo 2.
+#[tactic(auto, using(crate::proofs::Parity::ones_parity))]
 fn parity_of(m: u8) -> u8
     requires { m < 32 }
     ensures { (result ≡ parity m) × (result < 2) }
 {
-    (m + m / 2 + m / 4 + m / 8 + m / 16) % 2
+    (m.count_ones() % 2) as u8
 }
 
 impl Mask {

@@ -1,7 +1,7 @@
 // The listed nodes, read from their words and judged in order, and the mask forms of all nodes.
-// Kept (kinds, switches): a word's number becomes a Pauli in one match, that of `try_from`; everything else asks for the Pauli.
+// Kept (kinds, switches): a word's number becomes a Pauli in one match, that of `try_from`; the one number that is no Pauli's, TIMES, is asked for in `read` alone.
 // Kept (buffers): n counts the qubits, not the words beside it.
-// Kept (facts): n ≤ 5 bounds a shift and the first node; n is a number of qubits that each node is compared with, and a type for it would be opened in all four.
+// Kept (facts): n ≤ 5 bounds a shift and the first node; n is a number of qubits that a Single's qubit is compared with, and three of the four that ask it would open a type for it: `mask` hands it on.
 ghost use Rattle.std.specs.Prelude.{◌≡◌, true, ◌+◌, ◌*◌, ◌/◌, ◌≤◌, ◌<◌, ◌^◌, ◌-◌, length, take, is_ok};
 ghost use Rattle.verdict.specs.Questions.{first_no};
 ghost use Rattle.gate.specs.Gate.{gate_size, gates_of};
@@ -64,6 +64,7 @@ impl TryFrom<u32> for Pauli {
 }
 
 // The weight of qubit q in a row number.
+// Kept: gate::rows has this shift of a usize; a function of both would be public, over a trait of integers that shift, for the one line.
 fn weight_of(n: u32, q: u32) -> u8
     requires { (q < n) × (n ≤ 5) }
     ensures { (result ≡ 2 ^ (n - 1 - q)) × (result < 32) }

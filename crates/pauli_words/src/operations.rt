@@ -34,6 +34,7 @@ pub enum Operation {
 }
 
 // The kind words.
+// Kept: with an enum of the four kinds, `is_formed` and `of` would match on it as they do on these names, and a third match would make it of the word; all else asks for an Operation.
 const ROTATE: u32 = 0;
 
 const ROTATE_IF: u32 = 1;

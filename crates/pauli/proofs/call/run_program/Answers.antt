@@ -2,11 +2,8 @@
 use Rattle.std.specs.Prelude.{is_ok}
 use Rattle.std.proofs.Common.{arith, ap, ◌∙◌}
 use Rattle.pauli_words.specs.Words.{nodes_of}
-use Rattle.pauli.proofs.Running.{few_qubits, few-listed, few-nodes, nodes-accepted, runs}
+use Rattle.pauli.proofs.Running.{few-nodes, nodes-accepted, runs}
 use Rattle.pauli.proofs.call.run_program.Goals as goal
-
-pub node_count-requires : goal.node_count-requires
-node_count-requires c = let a = c.requires.accepted in (omega (arith, few_qubits a), few-listed a)
 
 pub run_operations-requires : goal.run_operations-requires
 run_operations-requires c =

@@ -14,4 +14,4 @@ abbrev pub had : List ℕ → ℕ → ℕ → Bool
 had ws bit i = some (λ (g : Gate). writes (operation_of g) bit) (gates_from ws i (length ws / gate_size - i))
 
 abbrev pub invariant-loop-i : goal.invariant-loop-i
-invariant-loop-i l = had l.words l.bit l.from ≡ had l.words l.bit l.i
+invariant-loop-i l = had l.words l.bit 0 ≡ had l.words l.bit l.i

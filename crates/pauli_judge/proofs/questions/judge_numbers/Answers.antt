@@ -1,10 +1,23 @@
--- A bit, a qubit or a split too many.
-use mathlib.Core.Path.{sym, ◌∙◌}
-use Rattle.circuit.proofs.Numbers.{all-low}
-use Rattle.pauli_judge.proofs.Numbers.{too_many}
+-- What is asked before the sizes decides, or what is asked of them.
+use mathlib.Core.Path.{◌∙◌}
+use Rattle.verdict.proofs.Questions.{returned}
+use Rattle.circuit.specs.declared.sizes.Sizes.{Sizes}
+use Rattle.circuit.proofs.Numbers.{all-low, counts_refuse, sizes_decide}
+use Rattle.pauli_judge.specs.Inner.Numbers.{few_program_cells}
+use Rattle.pauli_judge.specs.Questions.{program_room}
 use Rattle.pauli_judge.proofs.questions.judge_numbers.Goals as goal
 
-pub returns-then-program-l : goal.returns-then-program-l
-returns-then-program-l c =
+pub returns-in_err-sizes : goal.returns-in_err-sizes
+returns-in_err-sizes c =
     let a = c.args in
-    simp (sym c.is_store.ensures ∙ c.if-not-is_store.false, too_many a.l a.f a.program.qubits a.program.bits (all-low a.l c.requires.0) c.if-program-l.true)
+    let p = a.program in
+    returned _ c.from_residual.ensures.1
+    ∙ counts_refuse a.l a.f.counts p.qubits p.bits p.store.now (few_program_cells a.f.nodes a.l a.f.counts.gates) (λ (s : Sizes). program_room a.f.nodes s a.res a.work)
+    (all-low a.l c.requires.0) c.in_err-sizes.ensures
+
+pub returns : goal.returns
+returns c =
+    let a = c.args in
+    let p = a.program in
+    sizes_decide a.l a.f.counts p.qubits p.bits p.store.now (few_program_cells a.f.nodes a.l a.f.counts.gates) (λ (s : Sizes). program_room a.f.nodes s a.res a.work)
+    (all-low a.l c.requires.0) c.in_ok-sizes.ensures c.judge_sizes.ensures

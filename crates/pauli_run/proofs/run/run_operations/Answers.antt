@@ -1,6 +1,6 @@
 -- `run_operations` meets its contract.
 use mathlib.Core.Path.{◌≡◌, ap, ◌∙◌}
-use Prim.Native.Nat.{ℕ, ◌+◌, ◌*◌, ◌^◌, ◌≤◌}
+use Prim.Native.Nat.{ℕ, ◌+◌, ◌^◌, ◌≤◌}
 use native.Mathlib.Omega.{arith}
 use lib.Pow.{pow_mono}
 use Rattle.pauli_words.specs.Words.{operation_of}
@@ -13,12 +13,6 @@ dim_small n e few = omega (arith, e, pow_mono {i = n} {j = 5} few)
 
 pub branch_size-requires : goal.branch_size-requires
 branch_size-requires c = dim_small c.args.program.qubits c.requires.1.dim c.requires.1.sound.few
-
-pub overflow_mul-bank : goal.overflow_mul-bank
-overflow_mul-bank c = omega (arith, c.requires.1.room, ap (λ (k : ℕ). c.args.banks * k) c.branch_size.ensures)
-
-pub overflow_mul-slots : goal.overflow_mul-slots
-overflow_mul-slots c = omega (arith, c.requires.1.room, ap (λ (k : ℕ). c.args.banks * k) c.branch_size.ensures)
 
 pub start_branch-requires : goal.start_branch-requires
 start_branch-requires c = (dim_small c.args.program.qubits c.requires.1.dim c.requires.1.sound.few, (omega (arith, first_fits c.requires.1), (c.requires.1.short, c.requires.1.bytes)))

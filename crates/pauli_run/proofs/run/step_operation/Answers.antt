@@ -11,12 +11,6 @@ use Rattle.pauli_words.specs.Inner.Code.{operation_in}
 use Rattle.pauli_run.proofs.Forms.{ops_is, operating_ready, operating_done}
 use Rattle.pauli_run.proofs.run.step_operation.Goals as goal
 
-pub write_operators-requires : goal.write_operators-requires
-write_operators-requires c = (c.requires.fits.eighths, (c.requires.dim, c.requires.room))
-
-pub shift_of-requires : goal.shift_of-requires
-shift_of-requires c = c.requires.fits.outcome
-
 -- how many operators an operation has
 ops_are : (o : Operation) {k : ℕ} → k ≡ splits o → k + 1 ≡ 2 ^ splits o
 ops_are o e = ap (λ (k : ℕ). k + 1) e ∙ ops_is o

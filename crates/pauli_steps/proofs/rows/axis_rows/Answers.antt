@@ -10,7 +10,7 @@ use Rattle.algebra.proofs.Blocks.{Writing, begin, again, done, blocks-same}
 use Rattle.scalar.specs.declared.Scalar.{Scalar}
 use Rattle.scalar.specs.Calls.{value}
 use Rattle.cells.specs.Cells.{cell_size, cell_words}
-use Rattle.pauli_nodes.specs.Inner.Masks.{parity}
+use Rattle.pauli_nodes.specs.Inner.Masks.{mask, parity}
 use Rattle.pauli_steps.proofs.Tables.{written, written-own, written-other, written_is}
 use Rattle.pauli_steps.proofs.rows.axis_rows.Goals as goal
 
@@ -34,8 +34,8 @@ pub loop-r-preserved : goal.loop-r-preserved
 loop-r-preserved c =
     let a = c.args in
     let p = a.pair.own in
-    let x = c.flips-x.result in
-    let z = c.signs-z.result in
+    let x = a.axis.flips in
+    let z = a.axis.signs in
     let r = c.loop-r.r in
     let plus = c.turn-plus.result in
     let minus = c.turn-minus.result in
@@ -51,4 +51,4 @@ returns c =
     let all : a.d * 2 ≤ c.loop-r.r * 2 = omega (arith, c.loop-r-test.false) in
     done c.loop-r.invariant all
     ∙ blocks-same cell_size a.buf.now a.at (a.d * 2) _ _ (λ i k. ap cell_words
-    (written_is (value a.pair.own) (value a.pair.other) a.m c.flips-x.ensures.0 c.signs-z.ensures.0 c.turns-t.ensures.0 (ap value c.turn-plus.ensures) (ap value c.turn-minus.ensures) i))
+    (written_is (value a.pair.own) (value a.pair.other) (mask a.axis.flips a.axis.signs a.axis.turns) (ap value c.turn-plus.ensures) (ap value c.turn-minus.ensures) i))
