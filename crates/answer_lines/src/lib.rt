@@ -1,6 +1,6 @@
 // The bytes of an answer on two texts: a first line for scripts, then lines for people, put into lent room.
 // Kept (buffers): the number beside a label is put behind it, and the room beside a gate's words is the room lent for all gates: neither is a length of the bytes, or a place in them.
-// Kept (together): a writer with both counts; a struct of two counts would serve `put_head` and its caller alone.
+// Kept (together): a writer with both counts, as in `qasm_writer::printer`; `put_different` takes them apart, one for `put_after` and one for `put_bra_ket`.
 #![tactic(auto)]
 
 ghost use Rattle.std.specs.Prelude.{◌≡◌, ◌++◌, Err};
@@ -20,6 +20,7 @@ use text::page::Writer;
 use verdict::Refusal;
 
 // Why a text or its circuit is refused: the byte at fault with its line and column, or the place of the gate at fault; how many gates a text has that has too many. Each is 0 where there is none.
+// Kept: the C interface answers these numbers, and the first line shows the position, 0 where there is none; an Option would be turned back into that 0 there, and asked for here where 0 is.
 #[derive(Clone, Copy)]
 pub struct Fault {
     pub refusal: Refusal,
@@ -120,6 +121,7 @@ fn put_first(out: &mut Writer<'_>, which: Which, refusal: Refusal, position: usi
     out.put(b'\n');
 }
 
+// Kept: no gate is no words, as `gate_end` of the specs has it; an Option of a slice would have two forms of none.
 fn put_gate_end(out: &mut Writer<'_>, gate: &[u32])
     ensures { Puts out.old (gate_end gate.now) out.new }
 {
@@ -151,6 +153,7 @@ fn put_room(out: &mut Writer<'_>, gates: usize, room: usize)
     }
 }
 
+// Kept: `gate` is empty where there is none, as in `put_gate_end`.
 // A refusal; `gate` has the words of the gate at fault, if there is one, and `room` says for how many gates room is lent.
 pub fn put_refused(out: &mut Writer<'_>, which: Which, r: Fault, gate: &[u32], room: usize)
     ensures { Puts out.old (refused_text which r gate.now room) out.new }

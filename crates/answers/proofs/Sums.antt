@@ -19,7 +19,9 @@ use Rattle.exact.specs.Exact.{Number, number, max_exponent}
 use Rattle.text.specs.Decimal.{decimal}
 use Rattle.text.specs.declared.page.Writer.{Writer}
 use Rattle.text.specs.Inner.Puts.{Puts}
-use Rattle.text.proofs.Put.{text}
+use Rattle.text.proofs.Put as Put
+use Rattle.text.proofs.Put.{text, then}
+use Rattle.answers.specs.Utf8.{utf8}
 use Rattle.answers.specs.Numbers.{Term, term, is_zero, terms, sign, sized, term_text, is_sum, sum_text, numerator, denominator, number_text}
 use Rattle.answers.specs.Inner.Sums.{shown, count_of}
 use Rattle.answers.proofs.Bits.{power}
@@ -165,3 +167,31 @@ module _ (w x y z : ℤ) where
   pub sum-counted : {a b c d : ℕ} → a ≡ count_of w → b ≡ count_of x → c ≡ count_of y → d ≡ count_of z → ltb 1 (a + b + c + d) ≡ is_sum (terms (number w x y z))
   unfolding terms
   sum-counted {a} {b} {c} {d} e f g h = let t : a + b + c + d ≡ length (terms (number w x y z)) = omega (arith, counted four) in ap (ltb 1) t
+
+-- ---- the four words of a number, which the code reads
+pub record Fitting (v : Number) : Type 0 where
+  pub w : SFits w64 v.re.re
+  pub x : SFits w64 v.re.im
+  pub y : SFits w64 v.im.re
+  pub z : SFits w64 v.im.im
+
+pub fitting : (v : Number) → mag v.re.re < 2 ^ 63 → mag v.re.im < 2 ^ 63 → mag v.im.re < 2 ^ 63 → mag v.im.im < 2 ^ 63 → Fitting v
+fitting v w x y z = record { w = record { sfits = w }; x = record { sfits = x }; y = record { sfits = y }; z = record { sfits = z } }
+
+abbrev read : ℤ → ℤ
+read z = to_z w64 (of_z w64 z)
+
+module _ (v : Number) (fit : Fitting v) where
+  module _ {f g h k : Bool} (e : f ≡ is_zero (read v.re.re)) (p : g ≡ is_zero (read v.re.im)) (q : h ≡ is_zero (read v.im.re)) (r : k ≡ is_zero (read v.im.im)) where
+    pub none_read : (((f && g) && h) && k) ≡ true → 48 ∷ [] ≡ sum_text (terms v)
+    none_read = sum-none v.re.re v.re.im v.im.re v.im.im (read-absent fit.w e) (read-absent fit.x p) (read-absent fit.y q) (read-absent fit.z r)
+
+    pub sum_read : (((f && g) && h) && k) ≡ false → {o a b c d : Writer} → Puts o (shown true (term (read v.re.re) "")) a → Puts a (shown f (term (read v.re.im) "√2")) b
+        → Puts b (shown (f && g) (term (read v.im.re) "i")) c → Puts c (shown ((f && g) && h) (term (read v.im.im) "i√2")) d → Puts o (sum_text (terms v)) d
+    sum_read t a b c d =
+        text (sum_is v.re.re v.re.im v.im.re v.im.im (read-absent fit.w e) (read-absent fit.x p) (read-absent fit.y q) (read-absent fit.z r) t)
+        (then (read-term true (utf8 "") fit.w a) (then (read-term f (utf8 "√2") fit.x b) (then (read-term (f && g) (utf8 "i") fit.y c) (then (read-term ((f && g) && h) (utf8 "i√2") fit.z d) (Put.none _)))))
+
+  pub counted_read : {a b c d : ℕ} → a ≡ count_of (read v.re.re) → b ≡ count_of (read v.re.im) → c ≡ count_of (read v.im.re) → d ≡ count_of (read v.im.im) → ltb 1 (a + b + c + d) ≡ is_sum (terms v)
+  counted_read a b c d =
+      sum-counted v.re.re v.re.im v.im.re v.im.im (a ∙ ap count_of (to_z-of_z fit.w)) (b ∙ ap count_of (to_z-of_z fit.x)) (c ∙ ap count_of (to_z-of_z fit.y)) (d ∙ ap count_of (to_z-of_z fit.z))

@@ -20,6 +20,7 @@ pub fn put_store(out: &mut Writer<'_>, store: u64, m: u32)
     }
 }
 
+// Kept: `high` and `low` part a number at one place, by the same test; `checked_shr` would serve `high` alone.
 // The quotient by 2^k, whatever k is.
 fn high(x: usize, k: u32) -> usize
     ensures { result ≡ x / 2 ^ k }

@@ -2,7 +2,7 @@
 use mathlib.Core.Path.{◌≡◌, refl, sym, ap, ◌∙◌, subst}
 use mathlib.Core.Bool.{Bool, true, false, cond, ◌&&◌}
 use mathlib.Core.List.{List, map}
-use Prim.Native.Nat.{ℕ, ◌+◌, ◌<◌, ◌≤◌}
+use Prim.Native.Nat.{ℕ, ◌+◌, ◌<◌}
 use native.Mathlib.Omega.{arith}
 use lib.ListN.{length, get_or, length-map}
 use Rattle.algebra.specs.Lists.{every}
@@ -15,7 +15,7 @@ use Rattle.circuit_text.specs.Text.{pieces}
 use Rattle.circuit_text.specs.Input.{circuit_in, is_input}
 use Rattle.circuit_text.specs.Inner.Reading.{seen_next, fits_store, seen_with, seen_input, input_in}
 use Rattle.text.proofs.Read.{number_some, number_none}
-use Rattle.circuit_text.proofs.Pieces.{pieces-few, Along, along-all, along_bad, along-value, along-more}
+use Rattle.circuit_text.proofs.Pieces.{Along, along-all, along_bad, along-value, along-more}
 use Rattle.circuit_text.proofs.Shapes.{Seeing, seeing_more, seeing_bad, seen_input_lem}
 
 -- s is what the first n numbers of the text t say
@@ -32,9 +32,6 @@ module _ (t : List ℕ) where
   answer a b = cond (a && b) (Some (circuit_in (map value ps))) None
 
   module _ {n : ℕ} {s : Seen} (j : Judging t n s) where
-    pub judging-few : n < length ps → s.count ≤ length t
-    judging-few h = omega (arith, j.count, pieces-few t)
-
     -- the next piece is p
     module _ {p : List ℕ} (h : n < length ps) (e : p ≡ get_or ps n p) where
       pub judging_bad : None ≡ number_of p → None ≡ input_in (pieces t)

@@ -15,7 +15,17 @@ use Rattle.algebra.specs.Lists.{every}
 use Rattle.algebra.proofs.Tests.{and_split}
 use Rattle.text.specs.Decimal.{is_blank, value, is_number}
 use Rattle.circuit_text.specs.Text.{body_length, onto, pieces}
+use Rattle.std.specs.Prelude.{Option, Some, None}
 use Rattle.std.specs.List.{slice_split}
+use Rattle.std.specs.Fn.{CalledAt}
+use Rattle.std.specs.Iterator.{Yields}
+use Rattle.std.specs.declared.slice.Split.{Split}
+use Rattle.std.specs.Slice.Iter.{split_steps, split_rest, split_done, split_callee}
+use Rattle.std.proofs.lemmas.Iterator.{YieldsList}
+use Rattle.std.proofs.lemmas.Iterator.Splits.{YieldsList-from_slice_split}
+use Rattle.std.proofs.lemmas.Iterator.Consumers.{YieldsList-turn, YieldsList-end}
+use denote.Ref.{Bor}
+use denote.Param.Members.{Mut}
 
 -- ---- the text without its last newline
 module _ (t : List ℕ) where
@@ -49,23 +59,17 @@ unfolding pieces
 pieces_split [] = refl
 pieces_split (b ∷ bs) = ap (λ (ps : List (List ℕ)). cond (is_blank b) ([] ∷ ps) (onto b ps)) (pieces_split bs)
 
--- p is piece n, and n pieces are all
-module _ (t : List ℕ) {n : ℕ} where
-  pub piece_at : {p : List ℕ} → (n < length (slice_split is_blank t)) × (p ≡ get_or (slice_split is_blank t) n p) → (n < length (pieces t)) × (p ≡ get_or (pieces t) n p)
-  piece_at {p} h = subst (λ (ps : List (List ℕ)). (n < length ps) × (p ≡ get_or ps n p)) (pieces_split t) h
+-- the pieces xs are given, and then r: the next piece, or none, as they are all
+module _ {F : Type 0} (g : Mut F (Bor ℕ × Unit {0}) Bool) {f : F} (s u : Split ℕ F) (t : List ℕ) (xs : List (Bor (List ℕ))) (given : Yields (split_steps g) s xs u)
+    (rest : split_rest s ≡ t) (more : split_done s ≡ false) (callee : split_callee s ≡ f) (tests : (x : ℕ) (b : Bool) (q : F) → CalledAt g f x b q → (q ≡ f) × (b ≡ is_blank x)) where
+  abbrev cut : YieldsList (split_steps g) (λ x. x.now) s (slice_split is_blank t)
+  cut = YieldsList-from_slice_split g is_blank t rest more callee tests
 
-  pub pieces_end : n ≡ length (slice_split is_blank t) → n ≡ length (pieces t)
-  pieces_end e = e ∙ ap length (pieces_split t)
+  pub next_piece : {r : Option (Bor (List ℕ))} (v : Split ℕ F) (x : Bor (List ℕ)) → r ≡ Some x → split_steps g u r v → (length xs < length (pieces t)) × (x.now ≡ get_or (pieces t) (length xs) x.now)
+  next_piece {r} v x e step = subst (λ (ps : List (List ℕ)). (length xs < length ps) × (x.now ≡ get_or ps (length xs) x.now)) (pieces_split t) (YieldsList-turn cut xs u given r v x e step)
 
-pub pieces-few : (t : List ℕ) → length (pieces t) ≤ length t + 1
-unfolding pieces
-pieces-few [] = omega arith
-pieces-few (b ∷ bs) = by (is_blank b) (pieces bs) (pieces-few bs)
-  where
-    by : (c : Bool) (ps : List (List ℕ)) → length ps ≤ length bs + 1 → length (cond c ([] ∷ ps) (onto b ps)) ≤ suc (length bs) + 1
-    by true ps h = omega arith
-    by false [] h = omega arith
-    by false (p ∷ ps) h = omega arith
+  pub no_piece : {r : Option (Bor (List ℕ))} (v : Split ℕ F) → r ≡ None → split_steps g u r v → length xs ≡ length (pieces t)
+  no_piece {r} v e step = (YieldsList-end cut xs u given r v e step).1 ∙ ap length (pieces_split t)
 
 -- ---- lists
 drop-map : {A B : Type 0} (f : A → B) (xs : List A) (n : ℕ) → drop n (map f xs) ≡ map f (drop n xs)
@@ -80,9 +84,6 @@ first-drop xs n = get_or-drop n xs 0 0 ∙ ap (λ (k : ℕ). get_or xs k 0) (add
 pub record Along (ps : List (List ℕ)) (n : ℕ) : Type 0 where
   pub few : n ≤ length ps
   pub numbers : every is_number ps ≡ every is_number (drop n ps)
-
-pub along-none : (ps : List (List ℕ)) → Along ps 0
-along-none ps = record { few = omega arith; numbers = refl }
 
 module _ (ps : List (List ℕ)) {n : ℕ} (a : Along ps n) where
   pub along-all : n ≡ length ps → every is_number ps ≡ true

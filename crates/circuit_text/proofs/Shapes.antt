@@ -9,7 +9,7 @@ use native.Mathlib.Omega.{arith}
 use lib.Dec.{eqb, leb, ltb}
 use lib.ListN.{length, get_or, take, drop, set, length-set, length-map}
 use lib.Seq.{sets, sets-eq, length-sets, take_at, drop-cons}
-use borrow.Author.Tests.{leb-true, eqb-true, eqb-false, ne_eqb, le-leb, lt-leb, lt-ltb, le-ltb}
+use borrow.Author.Tests.{leb-true, eqb-true, eqb-false, eq-eqb, ne_eqb, le-leb, lt-leb, lt-ltb, le-ltb}
 use Rattle.algebra.specs.Lists.{every}
 use Rattle.algebra.proofs.Tests.{and_split, and_no, or_right, all-at}
 use Rattle.std.specs.Prelude.{Option, Some, None}
@@ -40,6 +40,10 @@ module _ (ns : List ℕ) where
         size = eqb-true (length ns) (number_count (bits_in ns) (gates_in ns)) v.0;
         store = v.1;
       }
+
+  pub is_input_lem : Right ns → is_input ns ≡ true
+  unfolding is_input
+  is_input_lem r = λ i. (le-leb (bits_in ns) max_bits r.bits i && le-leb (gates_in ns) max_gates r.gates i) && (eq-eqb (length ns) (number_count (bits_in ns) (gates_in ns)) r.size i && r.store i)
 
   pub not_input : (Right ns → ⊥) → is_input ns ≡ false
   not_input f = by (is_input ns) refl

@@ -1,9 +1,10 @@
 // The program's input: a circuit, in the numbers of a text.
+// Kept (buffers): there is no heap, and the rooms are lent arrays of fixed length (docs/DECISIONS.md): counts say how much of them is used, and the places in them follow from these.
 ghost use Rattle.std.specs.Prelude.{◌≡◌, true, cond, ◌+◌, ◌≤◌, length, take, drop};
 ghost use Rattle.std.proofs.lemmas.List.Edits.{sets};
 ghost use Rattle.circuit_text.specs.Text.{max_bytes, pieces};
 ghost use Rattle.circuit_text.specs.Input.{max_bits, bytes, input_of};
-ghost use Rattle.circuit_text.specs.Inner.Reading.{filled, stored, max_numbers, none_seen, seen_with, seen_input, input_in};
+ghost use Rattle.circuit_text.specs.Inner.Reading.{filled, stored, max_numbers, seen_with, seen_input, input_in};
 
 use super::numbers::{body_length, read_numbers};
 use gate::GATE;
@@ -32,7 +33,8 @@ pub struct Circuit {
 }
 
 // What the first numbers of an input say.
-#[derive(Clone, Copy)]
+// Kept: `count` tells which of the others are read; an enum of how far it is would repeat in each variant the fields of those before.
+#[derive(Clone, Copy, Default)]
 struct Seen {
     count: usize,
     qubits: u32,
@@ -41,17 +43,6 @@ struct Seen {
 }
 
 impl Seen {
-    fn none() -> Seen
-        ensures { result ≡ none_seen }
-    {
-        Seen {
-            count: 0,
-            qubits: 0,
-            bits: 0,
-            gates: 0,
-        }
-    }
-
     // With one more number, if it is no number of the store or a byte.
     fn with(self, v: u32) -> Option<Seen>
         requires { self.count ≤ max_bytes }
@@ -88,7 +79,7 @@ fn judge(text: &[u8]) -> Option<Circuit>
     requires { length text.now ≤ max_bytes }
     ensures { result ≡ input_in (pieces text.now) }
 {
-    let mut seen = Seen::none();
+    let mut seen = Seen::default();
     for piece in text.split(|&b| is_blank(b)) {
         let number = number_in(piece)?;
         seen = seen.with(number)?;

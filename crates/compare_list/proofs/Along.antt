@@ -4,7 +4,7 @@ use mathlib.Core.Path.{◌≡◌, refl, sym, ap, ◌∙◌, subst}
 use mathlib.Core.Bool.{Bool, true, false, cond, true≢false}
 use mathlib.Core.List.{List, [], ◌∷◌, ◌++◌}
 use Prim.Native.Nat.{ℕ, suc, ◌+◌, ◌*◌, ◌-◌, ◌<◌, ◌≤◌}
-use native.Mathlib.Nat.{add_assoc, add-zero, zero-add}
+use native.Mathlib.Nat.{add_assoc, add-zero}
 use native.Mathlib.Numerals.{add-one}
 use native.Mathlib.Omega.{arith}
 use lib.ListN.{length}
@@ -14,7 +14,7 @@ use Rattle.algebra.specs.Lists.{total, concat_map}
 use Rattle.algebra.proofs.Blocks.{sets_append}
 use Rattle.verdict.specs.declared.Refusal.{Refusal}
 use Rattle.verdict.specs.declared.Refusal.TheVariants.{MalformedAt}
-use Rattle.pair_list.specs.Pairs.{pair_words, pair_bytes, pair_at, framed, pairs_from, pairs_of, framing_from, framing}
+use Rattle.pair_list.specs.Pairs.{pair_words, pair_bytes, pair_at, framed, pairs_from, pairs_of, framing_from}
 use Rattle.pair_list.specs.Inner.Spots.{Framed}
 use Rattle.pair_list.proofs.Framing.{framed-room}
 use Rattle.channel.specs.declared.compare.Difference.{Difference}
@@ -87,22 +87,6 @@ module _ (ws bs : List ℕ) (t : Lent) (count : ℕ) where
     pub scalars_long : length z ≡ length z₀
 
   module _ (o₀ : List ℕ) (z₀ : List ℤ) where
-    along-none : is_ok (framing ws bs count) ≡ true → Along o₀ z₀ 0 0 0 0 o₀ z₀
-    along-none h =
-        let e : count ≡ count - 0 = omega arith in record {
-          passed = omega arith;
-          pairs = ap (λ (k : ℕ). is_ok (framing_from ws bs k 0 0 0)) (sym e) ∙ h;
-          within = omega arith;
-          answers = ap (λ (k : ℕ). sets o₀ 0 (concat_map answer_words (answers_from t 0 (pairs_from ws bs k 0 0)))) e;
-          scalars = ap (λ (k : ℕ). sets z₀ 0 (concat_map entry_words (answers_from t 0 (pairs_from ws bs k 0 0)))) e;
-          spending = ap (λ (k : ℕ). total charge (answers_from t 0 (pairs_from ws bs k 0 0))) e ∙ sym (zero-add (total charge (rest 0 0 0 0)));
-          answers_long = refl;
-          scalars_long = refl;
-        }
-
-    pub along-start : {at from : ℕ} → at ≡ 0 → from ≡ 0 → is_ok (framing ws bs count) ≡ true → Along o₀ z₀ 0 at from 0 o₀ z₀
-    along-start {at} p q h = subst (λ (k : ℕ). Along o₀ z₀ 0 at k 0 o₀ z₀) (sym q) (subst (λ (k : ℕ). Along o₀ z₀ 0 k 0 0 o₀ z₀) (sym p) (along-none h))
-
     module _ {i at from spent : ℕ} {o : List ℕ} {z : List ℤ} (g : Along o₀ z₀ i at from spent o z) where
       module _ (h : i < count) where
         left : count - i ≡ suc (count - (i + 1))

@@ -1,16 +1,12 @@
 -- The claims on a call of compare_list.
 use Rattle.std.specs.Prelude.{Ok, Err, IfOk}
 use Rattle.std.specs.Result.{result_and}
-use mathlib.Core.Path.{◌≡◌, refl, sym, ap, ◌∙◌}
-use mathlib.Core.Bool.{Bool, true, false, cond}
-use mathlib.Core.List.{List}
-use Prim.Native.Nat.{ℕ, ◌≤◌}
-use native.Mathlib.Omega.{arith}
+use mathlib.Core.Path.{◌≡◌, ap}
+use Prim.Native.Nat.{◌≤◌}
 use lib.ListN.{length}
 use Rattle.algebra.specs.Lists.{total}
 use Rattle.verdict.specs.Questions.{Verdict}
 use Rattle.pair_list.specs.Pairs.{pairs_of}
-use Rattle.work_list.specs.declared.Answer.{Answer}
 use Rattle.work_list.specs.Serving.{charge, Lent, lent, answers_to}
 use Rattle.work_list.proofs.Claims.{within-allowance}
 use Rattle.compare_list.specs.Call.{list_verdict, verdict_of, answers_of}

@@ -1,5 +1,5 @@
 // compare_list: pairs of circuits compared in list order, under one allowance of multiply terms.
-// Kept (together): the buffers are lent to be written; of a struct of such loans each clause would name the last values by their nesting, `lent.exit.1.1.0.now`, in place of `work.new`.
+// Kept (together): the lent buffers, as in `work_list::serving`.
 #![tactic(auto)]
 
 pub mod words;

@@ -17,6 +17,7 @@ pub const ANSWER: usize = 7;
 pub const SCALARS: usize = 10;
 
 // The reply of a pair that is passed over.
+// Kept: a number of the C interface, beside those of `c_words::replies`; a list alone answers it.
 const PASSED_OVER: u32 = 107;
 
 fn reply_number(answer: Answer) -> u32

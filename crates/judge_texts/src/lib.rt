@@ -30,6 +30,7 @@ pub enum Answer {
 }
 
 // An answer, and how many bytes say it.
+// Kept: the bytes lie in the lent room; a slice of them would hold that loan, and the C interface answers how many there are.
 #[derive(Clone, Copy)]
 pub struct Judgement {
     pub answer: Answer,
@@ -37,6 +38,7 @@ pub struct Judgement {
 }
 
 // Puts the answer of a comparison of the channels of two circuits.
+// Kept: each finding has a text of its own, of other arguments: a match is the plain form.
 fn put_compared(out: &mut Writer<'_>, l: Reading, r: Reading, answer: Result<Comparison, Refusal>)
     ensures { Puts out.old (compared_text l r answer) out.new }
 {

@@ -4,4 +4,3 @@ pub mod Asked
 pub mod Head
 pub mod Started
 pub mod Listed
-pub mod Ranges

@@ -22,7 +22,8 @@ use Rattle.verdict.specs.Questions.{first_no}
 use Rattle.verdict.proofs.Questions.{all_yes}
 use Rattle.gate.specs.Gate.{Gate, gate_size, measure, bits, bit_of, weight, splits, qubits, distinct, formed, placed}
 use Rattle.circuit.proofs.Counts.{splits-one, weight-one}
-use Rattle.kept_circuit.specs.Kept.{qubits_place, bits_place, gates_place, weight_place, splits_place, written_place, measures_place, max_qubits, max_bits, max_gates, head_size, gate_place, count_at, qubits_of, bits_of, gates_of, room, all_up_to, sound}
+use Rattle.kept_circuit.specs.Kept.{qubits_place, bits_place, gates_place, weight_place, splits_place, written_place, measures_place, gate_place}
+use Rattle.kept_circuit.specs.Kept.{max_qubits, max_bits, max_gates, head_size, count_at, qubits_of, bits_of, gates_of, room, all_up_to, sound}
 use Rattle.kept_circuit.specs.Edits.{moved, move_at, mark, mark_all, counted, ask_gate, gate_in, covers, takeable}
 use Rattle.kept_circuit.specs.Inner.Within.{Within}
 

@@ -9,7 +9,8 @@ use Rattle.verdict.specs.Questions.{Question, question, first_no}
 use Rattle.gate.specs.declared.judge.Asking.TheVariants.{Channel}
 use Rattle.gate.specs.Gate.{Gate, gate, gate_size, bits, weight, splits}
 use Rattle.gate.specs.Questions.{gate_questions}
-use Rattle.kept_circuit.specs.Kept.{gates_place, weight_place, splits_place, written_place, measures_place, max_qubits, max_bits, head_size, gate_place, gate_words, kept_words, count_at, qubits_of, bits_of, gates_of, kept_gate, room, all_up_to, sound}
+use Rattle.kept_circuit.specs.Kept.{gates_place, weight_place, splits_place, written_place, measures_place, gate_place}
+use Rattle.kept_circuit.specs.Kept.{max_qubits, max_bits, head_size, gate_words, kept_words, count_at, qubits_of, bits_of, gates_of, kept_gate, room, all_up_to, sound}
 
 -- ---- one gate more in the counts (true), or one less (false)
 abbrev pub moved : Bool → ℕ → ℕ → ℕ

@@ -1,6 +1,8 @@
 // The counts: whether they may be those of a circuit, and a gate more or less in them.
-// Kept (buffers): the layout of the C interface gives each count its word.
-// Kept (facts): that the bit of a gate has a count stands in four functions: questions 4 to 6 answer it, with a verdict. A type for such a gate would hold the gate and this fact, and be made where they are asked, at three places.
+// Kept (buffers): the layout of the C interface gives each count its word; `are_up_to` cuts a part, as `all_up_to` of the specs has it, that each of its callers would have to cut.
+// Kept (facts): that the bit of a gate has a count stands in four functions. `ask_gate` could answer a gate of a type that says so; each word would be read out of that type, and one caller wants the verdict alone.
+// Kept (facts): `Within` stands with 4000, 3000 and 2000, as the counts may grow at each step: a type with its bound as a parameter, as `Few` of circuit, would be made anew of the lent words at each.
+// Kept (kinds): one more or one less is a bool in `moved`, `move_at`, `mark` and `counted` of the specs, too: an enum of two would be turned into it in each clause.
 ghost use Rattle.std.specs.Prelude.{◌≡◌, true, ℕ, ◌+◌, ◌^◌, ◌≤◌, ◌<◌, ltb, length};
 ghost use Rattle.std.specs.List.{list_all};
 ghost use Rattle.algebra.specs.Lists.{every};

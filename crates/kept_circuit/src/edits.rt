@@ -18,6 +18,7 @@ use gate::judge::GateWords;
 use verdict::{Refusal, Verdict};
 
 // What stands in a place without a gate.
+// Kept: the layout has zeros there. They are written as the words of a gate are, and read as none.
 const NO_GATE: GateWords = GateWords {
     kind: 0,
     a: 0,

@@ -1,5 +1,6 @@
 // The gates' places: five words each, read and written.
 // Kept (buffers): a gate's place is known by its position in the words that the caller lends; what is read and written there is said of the whole words.
+// Kept (twins): `gate::judge::read_gate` reads words of 32 bits, of which any will do; these have 64, and must be found small before.
 ghost use Rattle.std.specs.Prelude.{◌≡◌, true, ◌+◌, ◌≤◌, length};
 ghost use Rattle.std.proofs.lemmas.List.Edits.{sets};
 ghost use Rattle.store.specs.Store.{max_word};

@@ -46,6 +46,7 @@ pub fn judge_kept(words: &[i64], store: &[u8], l: Limits, res: u64, work: u64) -
 }
 
 // The words of gates, as circuit_channel takes them.
+// Kept: the clause is `sets` at 0 of an `out` that may be longer, and `follow` reads a word by its place; a zip of `out` with the words would need beside it what it leaves of `out`.
 fn copy_words(words: &[i64], out: &mut [u32])
     requires { (length words.now ≤ length out.old) × (all_up_to words.now 0 (length words.now) max_word ≡ true) }
     ensures { out.new ≡ sets out.old 0 (map nat_abs words.now) }

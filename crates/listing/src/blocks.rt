@@ -1,5 +1,6 @@
 // The lines of a well-formed channel.
-// Kept (facts): the words are a slice that a judge has just found well formed; a struct that says so would ask the same fact of each caller of `put_channel`, where it is built, and serve these three functions alone.
+// Kept (facts): `write_listing` asks a judge whether the words are well formed, `list_circuit` has it from `circuit_channel`: a struct that the judge answers would judge once more there. The bound of w is asked where a record is walked.
+// Kept (buffers): a record is the channel and a place in it, as `layout::read_entry` and the facts of the walk have it; a `channel::records::Block` has the words cut from there on, and the facts would be moved to them for each record.
 ghost use Rattle.std.specs.Prelude.{◌≡◌, true, ◌*◌, ◌≤◌};
 ghost use Rattle.algebra.specs.Lists.{concat_map};
 ghost use Rattle.cells.specs.Cells.{cell_words};
@@ -26,6 +27,7 @@ fn put_store_line(out: &mut Writer<'_>, store: u64, m: u32)
 }
 
 // The numerators and the exponent of a scalar, each after a space.
+// Kept: four numbers, as `cell_words` of the specs lists them; a `for` over them would be shorter by a line or two, and need an invariant.
 fn put_scalar(out: &mut Writer<'_>, x: Scalar)
     ensures { Puts out.old (concat_map spaced (cell_words (value x))) out.new }
 {
@@ -49,7 +51,6 @@ fn put_entry(out: &mut Writer<'_>, x: Scalar, row: usize, column: usize)
     }
 }
 
-// Kept (buffers): a record is the channel and a place in it, as `layout::read_entry` and the facts of the walk have it; a `channel::records::Block` has the words cut from there on, so that the facts of the walk would be moved to those words for each record.
 // The entries of the record of side w at `place`, rows then columns.
 fn put_entries(out: &mut Writer<'_>, s: &[i64], place: usize, w: usize)
     requires { (w ≤ 256) × Entries s.now place (w * w) }

@@ -1,5 +1,6 @@
 // The job of the program that lists a channel: the text of a circuit in, the bytes of its answer out.
 // Kept (together): three lent buffers, each written; a struct of them would be built for the call, and each clause would name them by their nesting in it.
+// Kept (buffers): as in lines.rt, the answer says how many bytes lie in the lent room.
 #![tactic(auto)]
 
 mod blocks;

@@ -1,4 +1,5 @@
 // What the program writes: a channel's listing, or the line of a refusal.
+// Kept (buffers): the bytes lie in the lent room, and the answer says how many they are; a slice of them would hold that loan.
 ghost use Rattle.std.specs.Prelude.{◌≡◌};
 ghost use Rattle.text.specs.Page.{page, write};
 ghost use Rattle.listing.specs.Listing.{listing_of, refusal_line, input_line};
@@ -21,6 +22,7 @@ pub fn write_listing(out: &mut [u8], channel: &[i64]) -> usize
 }
 
 // Puts the line of a refusal into `out`: its number and its index.
+// Kept: each pair of numbers has its line; a `Refusal` would take fewer of them.
 pub fn write_refusal(out: &mut [u8], number: u64, index: u64) -> usize
     ensures { page out.new result ≡ write (page out.old 0) (refusal_line number index) }
 {

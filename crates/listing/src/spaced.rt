@@ -1,4 +1,5 @@
 // A space, then a number.
+// Kept (twins): numbers of i64 and of u64: no type that a writer puts holds both, and a trait over them would be more than the two lines.
 ghost use Rattle.std.specs.Prelude.{pos};
 ghost use Rattle.text.specs.Inner.Puts.{Puts};
 ghost use Rattle.listing.specs.Listing.{spaced};

@@ -1,5 +1,5 @@
 // Where the pairs of a list, and the circuits of a pair, lie in words and bytes.
-// Kept (buffers): heads lie among the words of other pairs, and a place is a place in all of them.
+// Kept (buffers): a pair, its heads and its gates have places in all words, in `Framed`, `Placed` and the specs; of words cut from a place on each of these would be said anew.
 #![tactic(auto)]
 
 ghost use Rattle.std.specs.Prelude.{◌≡◌, ◌+◌, ◌≤◌, length};

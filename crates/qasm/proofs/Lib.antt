@@ -7,6 +7,7 @@ pub mod Sound
 pub mod Length
 pub mod Same
 pub mod Scanning
+pub mod First
 pub mod Named
 pub mod Words
 pub mod Moves

@@ -1,4 +1,5 @@
 -- The entry with a name, as the code finds it and as it is defined.
+use Rattle.std.proofs.Common.{Bor}
 use mathlib.Core.Path.{◌≡◌, refl, sym, ap, ◌∙◌}
 use mathlib.Core.Bool.{Bool, true, false, cond}
 use mathlib.Core.List.{List, [], ◌∷◌}
@@ -12,19 +13,27 @@ use lib.Seq.{drop-cons}
 use Rattle.std.specs.Prelude.{Option, Some, None, map}
 use Rattle.algebra.specs.Lists.{every, filter_by}
 use Rattle.algebra.proofs.Tests.{and_split}
-use Rattle.qasm.specs.declared.names.Entry as code
+use Rattle.gate.specs.declared.kinds.Kind.{Kind}
+use Rattle.qasm.specs.declared.pieces.Form.{Form}
 use Rattle.qasm.specs.Tokens.{same, Token}
 use Rattle.qasm.specs.Forms.{Entry}
 use Rattle.qasm.specs.Reading.{Seen, State, opened}
 use Rattle.qasm.specs.Inner.Pieces.{entry_of, entry_named}
 
+-- an entry of the code's table
+abbrev Row : Type 0
+Row = Bor (List ℕ) × Kind × Form
+
+abbrev pub entry_in : Row → Entry
+entry_in r = entry_of r.0.now r.1 r.2
+
 -- an entry with another name is passed over
-pub named_later : (w : List ℕ) (es : List code.Entry) {i : ℕ} (d : code.Entry) → i < length es → {r : Bool} → r ≡ pointwise eqb (get_or es i d).0.now w → r ≡ false
-    → entry_named w (map entry_of (drop i es)) ≡ entry_named w (map entry_of (drop (i + 1) es))
+pub named_later : (w : List ℕ) (es : List Row) {i : ℕ} (d : Row) → i < length es → {r : Bool} → r ≡ pointwise eqb (get_or es i d).0.now w → r ≡ false
+    → entry_named w (map entry_in (drop i es)) ≡ entry_named w (map entry_in (drop (i + 1) es))
 named_later w es {i} d h {r} e f =
-    ap (λ (es : List code.Entry). entry_named w (map entry_of es)) (drop-cons es i d h)
-    ∙ ap (λ (c : Bool). cond c (Some (entry_of (get_or es i d))) (entry_named w (map entry_of (drop (suc i) es)))) (sym (same_pointwise (get_or es i d).0.now w) ∙ sym e ∙ f)
-    ∙ ap (λ (k : ℕ). entry_named w (map entry_of (drop k es))) (sym (add-one i))
+    ap (λ (es : List Row). entry_named w (map entry_in es)) (drop-cons es i d h)
+    ∙ ap (λ (c : Bool). cond c (Some (entry_in (get_or es i d))) (entry_named w (map entry_in (drop (suc i) es)))) (sym (same_pointwise (get_or es i d).0.now w) ∙ sym e ∙ f)
+    ∙ ap (λ (k : ℕ). entry_named w (map entry_in (drop k es))) (sym (add-one i))
 
 -- what a test says of all entries it says of the one that is found
 pub entry-passes : (p : Entry → Bool) (w : List ℕ) (es : List Entry) {e : Entry} → every p es ≡ true → Some e ≡ entry_named w es → p e ≡ true

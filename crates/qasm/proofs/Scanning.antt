@@ -34,6 +34,14 @@ more-run p b bs = by (p b)
 pub run_is : (p : ℕ → Bool) (bs : List ℕ) (i : ℕ) → i ≤ length bs → ((k : ℕ) → k < i → not (p (get_or bs k 0)) ≡ false) → (i < length bs → not (p (get_or bs i 0)) ≡ true) → i ≡ run p bs
 run_is p bs i h before here = sym (position_or_len_is (λ b. not (p b)) bs i 0 h before here) ∙ sym (is_position_or_len (run p) (λ b. not (p b)) (run-none p) (more-run p) bs)
 
+-- one byte more passes
+pub pass_more : (p : ℕ → Bool) (bs : List ℕ) (i : ℕ) → ((k : ℕ) → k < i → p (get_or bs k 0) ≡ true) → p (get_or bs i 0) ≡ true → (k : ℕ) → k < i + 1 → p (get_or bs k 0) ≡ true
+pass_more p bs i before here k h = by (dec_lt k i)
+  where
+    by : Dec (k < i) → p (get_or bs k 0) ≡ true
+    by (yes l) = before k l
+    by (no l) = let m : k ≡ i = omega arith in ap (λ (j : ℕ). p (get_or bs j 0)) m ∙ here
+
 pub run_most : (p : ℕ → Bool) (bs : List ℕ) → run p bs ≤ length bs
 unfolding run
 run_most p [] = omega arith
@@ -70,10 +78,10 @@ pub record Front (bs : List ℕ) (n : ℕ) : Type 0 where
 after : (b : ℕ) (bs : List ℕ) (at : ℕ) → tokens (suc at) (more b bs) bs ≡ tokens (at + suc (more b bs)) 0 (drop (more b bs) bs)
 after b bs at = let n : suc at + more b bs ≡ at + suc (more b bs) = omega arith in tokens-inside (suc at) (more b bs) bs ∙ ap (λ (a : ℕ). tokens a 0 (drop (more b bs) bs)) n
 
-abbrev Passed : List ℕ → ℕ → Type 0
+abbrev pub Passed : List ℕ → ℕ → Type 0
 Passed bs n = Front bs n × ((at : ℕ) → tokens at 0 bs ≡ tokens (at + n) 0 (drop n bs))
 
-abbrev Taken : List ℕ → ℕ → Type 0
+abbrev pub Taken : List ℕ → ℕ → Type 0
 Taken bs n = Front bs n × ((at : ℕ) → tokens at 0 bs ≡ token at (take n bs) ∷ tokens (at + n) 0 (drop n bs))
 
 module _ (b : ℕ) (bs : List ℕ) where
@@ -86,11 +94,11 @@ module _ (b : ℕ) (bs : List ℕ) where
   abbrev shape : ℕ → Bool → List Token
   shape at c = cond c (tokens (suc at) (more b bs) bs) (token at (b ∷ take (more b bs) bs) ∷ tokens (suc at) (more b bs) bs)
 
-  passed : is_gap b bs ≡ true → Passed (b ∷ bs) m
+  pub passed : is_gap b bs ≡ true → Passed (b ∷ bs) m
   unfolding tokens
   passed e = (front, λ at. ap (shape at) e ∙ after b bs at)
 
-  taken : is_gap b bs ≡ false → Taken (b ∷ bs) m
+  pub taken : is_gap b bs ≡ false → Taken (b ∷ bs) m
   unfolding tokens
   taken e = (front, λ at. ap (shape at) e ∙ ap (λ (ts : List Token). token at (b ∷ take (more b bs) bs) ∷ ts) (after b bs at))
 

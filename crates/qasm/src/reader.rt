@@ -9,6 +9,7 @@ use super::tokens::{HEADER, Tokens, blanks};
 use verdict::Refusal;
 
 // What a text says: how many qubits and bits it declares, and how many words its gates have.
+// Kept: the words lie in the lent room; a slice of them would hold that loan, and the C interface answers how many there are.
 #[derive(Clone, Copy, Debug, PartialEq, Eq)]
 pub struct Reading {
     pub qubits: u32,
@@ -17,6 +18,7 @@ pub struct Reading {
 }
 
 // Why a text is refused, and the position of the fault.
+// Kept: the C interface answers a position with each refusal, and 0 with the one that has none, ShortBuffer; an Option would be turned back into that 0.
 #[derive(Clone, Copy, Debug, PartialEq, Eq)]
 pub struct Fault {
     pub refusal: Refusal,
@@ -24,6 +26,7 @@ pub struct Fault {
 }
 
 // The tokens behind the header of a text of `size` bytes: judged without writing a word, and then read once more.
+// Kept: the size is where a text faults that ends too early; `Tokens` shows the tokens that are left, and no length.
 fn read_body(tokens: Tokens, size: usize, gates: &mut [u32]) -> Result<Reading, Fault>
     ensures reply { result ≡ reply (length gates.old) (ended size (foldl step start (tokens_left tokens.entry))) }
     ensures gates { gates.new ≡ filled gates.old (ended size (foldl step start (tokens_left tokens.entry))) }

@@ -1,19 +1,21 @@
 // One token after the other.
-// Kept (facts): that the words fit, asked by three functions. In a ghost field of Progress it would forbid `..s`, by which each step says what it changes.
 // Kept (buffers): a gate's word goes to its place in the lent room, or is left out where the room ends before it.
-ghost use Rattle.std.specs.Prelude.{◌≡◌, [], ◌∷◌, List, ℕ, ◌+◌, ◌^◌, ◌<◌, length, set, is_some, IfSome, MatchOption};
+// Kept (together): the room is lent to be written, the state and the token are values; a struct of the three would be made for each token and taken apart at once.
+ghost use Rattle.std.specs.Prelude.{◌≡◌, true, [], ◌∷◌, List, ℕ, ◌+◌, ◌^◌, ◌<◌, length, set, is_some, IfSome, MatchOption};
 ghost use mathlib.Core.List.{foldl};
 ghost use Rattle.std.proofs.lemmas.List.Edits.{sets};
+ghost use Rattle.algebra.specs.Lists.{every};
+ghost use Rattle.gate.specs.Gate.{gate_size};
 ghost use Rattle.gate.specs.Kinds.{number_of};
 ghost use Rattle.qasm.specs.Tokens.{same, token, is_small};
 ghost use Rattle.qasm.specs.Reading.{fits, taken, wrong, unknown, step, start};
 ghost use Rattle.qasm.specs.Forms.{fresh};
 ghost use Rattle.qasm.specs.Inner.Left.{token_of, tokens_left};
-ghost use Rattle.qasm.specs.Inner.Pieces.{place_of, piece_of};
-ghost use Rattle.qasm.specs.Inner.Progress.{index_in, with_word, names_of, seen_of, declares, Sees, Stepped};
+ghost use Rattle.qasm.specs.Inner.Pieces.{piece_of, pieces_of};
+ghost use Rattle.qasm.specs.Inner.Progress.{index_in, with_word, opened_for, names_of, seen_of, declares, Sees, Stepped};
 
 use super::bytes::{is_small, opens_word};
-use super::names::{Entry, gate_named};
+use super::names::gate_named;
 use super::pieces::{CREG, Piece, Register, TOP};
 use super::reader::Fault;
 use super::tokens::{Token, Tokens};
@@ -23,6 +25,7 @@ use text::number::number_in;
 use verdict::Refusal;
 
 // What has been read: the pieces that are due before the statement ends (none between statements), the registers' names (none: no bytes) and sizes, and how many words the gates have.
+// Kept: a register that is not declared has a name of no bytes, as `Seen` of the specs has it, and so equals no token; with Options each test would be of `Some` of the bytes, and no plainer.
 #[derive(Clone, Copy, Debug)]
 pub struct Progress<'a> {
     pub due: &'static [Piece],
@@ -53,6 +56,7 @@ fn is_new_name(s: Progress, token: Token) -> bool
 }
 
 // A word, if there is room for it.
+// Kept: three lines, as `replay::words::put` has them for words of 64 bits and places of them; one function would be generic over both and need a crate below both.
 fn put(gates: &mut [u32], at: usize, v: u32)
     ensures { gates.new ≡ set gates.old at v }
 {
@@ -63,7 +67,7 @@ fn put(gates: &mut [u32], at: usize, v: u32)
 
 // The words of a gate that begins: its kind and zeros.
 fn put_gate(gates: &mut [u32], at: usize, kind: Kind)
-    requires { at + 256 < 2 ^ 64 }
+    requires { at + gate_size < 2 ^ 64 }
     ensures { gates.new ≡ sets gates.old at (number_of kind ∷ 0 ∷ 0 ∷ 0 ∷ 0 ∷ []) }
 {
     put(gates, at, u32::from(kind));
@@ -81,7 +85,7 @@ fn take<'a>(
     piece: Piece,
     token: Token<'a>,
 ) -> Option<Progress<'a>>
-    requires { s.words + 256 < 2 ^ 64 }
+    requires { opened_for s.words (piece_of piece) ≡ true }
     ensures fitting { is_some result ≡ fits (piece_of piece) (names_of s.entry) (token_of token.entry) }
     ensures stays { IfSome result (λ r. (r.due ≡ s.entry.due) × (r.words ≡ s.entry.words)) }
     ensures seen { IfSome result (λ r. (ws : List ℕ) → seen_of r (with_word (piece_of piece) (token_of token.entry) (length ws) ws)
@@ -112,13 +116,14 @@ fn take<'a>(
         Piece::Used(Register::Classical) => (s.classical == token.bytes).then_some(s),
         Piece::Index(word) => {
             let value = index_in(token.bytes)?;
-            put(gates, s.words.saturating_sub(GATE) + word as usize, value);
+            put(gates, s.words - GATE + word as usize, value);
             Some(s)
         }
     }
 }
 
 // The refusal of a token where the name of a gate or of a register is due.
+// Kept: the index is that of a gate which is written; in a text the position of the `Fault` says where, and the C interface answers 0 for the index.
 fn unknown(token: Token) -> Refusal
     ensures { result ≡ unknown (token_of token.entry) }
 {
@@ -148,14 +153,14 @@ fn declares(s: Progress, word: &[u8]) -> bool
 // The first token of a statement: creg, or a gate's name.
 fn open<'a>(gates: &mut [u32], s: Progress<'a>, token: Token<'a>) -> Result<Progress<'a>, Fault>
     requires due { s.due.now ≡ [] }
-    requires few { s.words + 256 < 2 ^ 64 }
+    requires few { s.words + gate_size < 2 ^ 64 }
     ensures { Stepped s.entry gates.old (token_of token.entry) result gates.new }
 {
     if declares(s, token.bytes) {
         return Ok(Progress { due: &CREG, ..s });
     }
     match gate_named(token.bytes) {
-        Some(&Entry(_, kind, form)) => {
+        Some((kind, form)) => {
             put_gate(gates, s.words, kind);
             Ok(Progress {
                 due: form.pieces(),
@@ -172,7 +177,8 @@ fn open<'a>(gates: &mut [u32], s: Progress<'a>, token: Token<'a>) -> Result<Prog
 
 // One token.
 fn step<'a>(gates: &mut [u32], s: Progress<'a>, token: Token<'a>) -> Result<Progress<'a>, Fault>
-    requires { s.words + 256 < 2 ^ 64 }
+    requires few { s.words + gate_size < 2 ^ 64 }
+    requires opened { every (opened_for s.words) (pieces_of s.due.now) ≡ true }
     ensures { Stepped s.entry gates.old (token_of token.entry) result gates.new }
 {
     let Some((&piece, due)) = s.due.split_first() else {

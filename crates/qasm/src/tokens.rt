@@ -1,7 +1,6 @@
 // A text as tokens, one after the other.
-ghost use Rattle.std.specs.Prelude.{◌≡◌, ◌≤◌, length};
-ghost use Rattle.text.specs.Decimal.{is_digit};
-ghost use Rattle.qasm.specs.Tokens.{is_blank, in_word, in_line, run};
+ghost use Rattle.std.specs.Prelude.{◌≡◌, Bool, ℕ, ◌≤◌, ◌<◌, length};
+ghost use Rattle.qasm.specs.Tokens.{is_blank, in_word, run};
 ghost use Rattle.qasm.specs.Inner.Scanning.{first_part};
 
 use super::bytes::{is_blank, opens_word};
@@ -18,6 +17,7 @@ pub struct Token<'a> {
 }
 
 // The tokens of a text from `at` on.
+// Kept: each token is given with its position in the whole text, which a slice of the rest would not tell.
 #[derive(Clone, Copy, Debug)]
 pub struct Tokens<'a> {
     text: &'a [u8],
@@ -32,50 +32,32 @@ pub enum Part {
     Bytes(usize),
 }
 
+// How many bytes of a text stand before the first that fails the test.
+// Kept: `text.iter().position(|&b| !test(b))` was tried; for a test that is any closure its proof did not close.
+fn run<F: Fn(u8) -> bool>(text: &[u8], test: F) -> usize
+    requires { (b : ℕ) → F.pre test b }
+    ensures value { (p : ℕ → Bool) → ((b : ℕ) (r : Bool) → b < 256 → F.post test b r → r ≡ p b) → result ≡ run p text.now }
+    ensures most { result ≤ length text.now }
+{
+    for i in 0..text.len() {
+        if !test(text[i]) {
+            return i;
+        }
+    }
+    text.len()
+}
+
 // How many blanks a text begins with.
 pub fn blanks(text: &[u8]) -> usize
     ensures { result ≡ run is_blank text.now }
 {
-    match text.iter().position(|&b| !is_blank(b)) {
-        Some(n) => n,
-        None => text.len(),
-    }
-}
-
-// The bytes before the newline that ends a comment.
-fn line(text: &[u8]) -> usize
-    ensures { result ≡ run in_line text.now }
-{
-    match text.iter().position(|&b| b == b'\n') {
-        Some(n) => n,
-        None => text.len(),
-    }
-}
-
-// The bytes of a number.
-fn digits(text: &[u8]) -> usize
-    ensures { result ≡ run is_digit text.now }
-{
-    match text.iter().position(|&b| !is_digit(b)) {
-        Some(n) => n,
-        None => text.len(),
-    }
+    run(text, is_blank)
 }
 
 fn is_in_word(b: u8) -> bool
     ensures { result ≡ in_word b }
 {
     opens_word(b) || is_digit(b)
-}
-
-// The bytes of a word.
-fn letters(text: &[u8]) -> usize
-    ensures { result ≡ run in_word text.now }
-{
-    match text.iter().position(|&b| !is_in_word(b)) {
-        Some(n) => n,
-        None => text.len(),
-    }
 }
 
 // The gap or the token at the front of a text that has not ended.
@@ -88,13 +70,13 @@ fn first_part(text: &[u8]) -> Option<Part>
         return Some(Part::Gap(1));
     }
     if text.starts_with(b"//") {
-        return Some(Part::Gap(1 + line(later)));
+        return Some(Part::Gap(1 + run(later, |b| b != b'\n')));
     }
     if is_digit(b) {
-        return Some(Part::Bytes(1 + digits(later)));
+        return Some(Part::Bytes(1 + run(later, is_digit)));
     }
     if opens_word(b) {
-        return Some(Part::Bytes(1 + letters(later)));
+        return Some(Part::Bytes(1 + run(later, is_in_word)));
     }
     if text.starts_with(b"->") {
         return Some(Part::Bytes(2));
@@ -112,14 +94,21 @@ impl<'a> Tokens<'a> {
     ghost use Rattle.qasm.specs.Inner.Scanning.{from};
     ghost use Rattle.qasm.specs.Inner.Left.{tokens_left};
 
+    // The tokens behind the first `at` bytes; none behind the end.
+    pub fn behind(text: &'a [u8], at: usize) -> Tokens<'a>
+        ensures { tokens_left result ≡ from text.now at }
+    {
+        Tokens {
+            text,
+            at: at.min(text.len()),
+        }
+    }
+
     // The tokens behind the header.
     pub fn behind_header(text: &'a [u8]) -> Tokens<'a>
         ensures { tokens_left result ≡ from text.now (run is_blank text.now + length header) }
     {
-        Tokens {
-            text,
-            at: (blanks(text) + HEADER.len()).min(text.len()),
-        }
+        Tokens::behind(text, blanks(text) + HEADER.len())
     }
 }
 

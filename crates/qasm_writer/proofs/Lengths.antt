@@ -53,6 +53,3 @@ module _ (ws : List ℕ) where
 
   pub none_left : (i room : ℕ) → length ws / gate_size ≤ i → leb (bytes_from ws i) room ≡ true
   none_left i room l = ap (λ (gs : List Gate). leb (total (λ (g : Gate). length (gate_text g)) gs) room) (gates-none ws (length ws / gate_size) i l) ∙ le-leb 0 room (omega arith)
-
-pub less : {i n : ℕ} → i < n → n - (i + 1) < n - i
-less h = omega arith

@@ -23,13 +23,6 @@ module _ (g : Gate) where
   abbrev qubits_of : ℕ → List ℕ
   qubits_of count = qubit_if (leb 2 count) g.b ++ qubit_if (leb 3 count) g.c
 
-  pub others-bit : {bit : ℕ} → bit_of g ≡ Some bit → indexed (ascii "->c[") bit ≡ others g
-  others-bit {bit} = by (eqb g.kind measure)
-    where
-      by : (t : Bool) → cond t (Some g.b) None ≡ Some bit → indexed (ascii "->c[") bit ≡ cond t (indexed (ascii "->c[") g.b) (qubits_of (arity g.kind))
-      by true e = let same : g.b ≡ bit = cc in ap (indexed (ascii "->c[")) (sym same)
-      by false e = absurd cc
-
   pub others-qubits : {count : ℕ} → bit_of g ≡ None → count ≡ arity g.kind → qubits_of count ≡ others g
   others-qubits {count} h e = ap qubits_of e ∙ by (eqb g.kind measure) h
     where

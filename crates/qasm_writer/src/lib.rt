@@ -16,6 +16,7 @@ use gate::judge::read_gate;
 use text::page::Writer;
 use verdict::{Refusal, Verdict};
 
+// Kept: the test and the refusal of `judge_formed` and `judge_named` are their own; one function would take both as closures, and its clause would say what they answer, for two callers.
 fn judge_formed(words: &[u32]) -> Verdict
     ensures { result ≡ first_no (along formed_at 0 (gates_of words.now)) }
 {
@@ -51,6 +52,7 @@ fn judge_words(words: &[u32]) -> Verdict
     judge_named(words)
 }
 
+// Kept: the bytes lie in the lent room: how many there are is the answer, and that of the C interface.
 // Writes the text of a circuit into `out`: how many bytes it has. A refusal leaves `out` as it was.
 // Kept (together): the two counts and the words go on to `is_within` and `put_text` alone; a struct for them, with no store, would be built by each caller of this one function to be taken apart here.
 pub fn write_qasm(qubits: u32, bits: u32, gates: &[u32], out: &mut [u8]) -> Result<usize, Refusal>

@@ -1,6 +1,6 @@
 // The bytes of a text, put one after the other into lent room.
 // Kept (buffers): the number beside the bytes that open a bracket is put behind them: it is no length of them, and no place in them.
-// Kept (together): a writer, or the words, with both counts; a struct of two counts would serve these functions alone.
+// Kept (together): a writer, or the words, with both counts, as `write_qasm` takes them; `put_head` puts one after the other, so that a struct of two counts would be made to be taken apart.
 ghost use Rattle.std.specs.Prelude.{◌≡◌, ◌≤◌, length, MatchOption, Some, None};
 ghost use Rattle.algebra.specs.Lists.{concat_map};
 ghost use Rattle.gate.specs.Gate.{gates_of};
@@ -45,10 +45,7 @@ fn name_of(kind: Kind) -> Option<&'static [u8]>
 pub fn name(g: GateWords) -> Option<&'static [u8]>
     ensures { MatchOption result (name_of g.kind ≡ None) (λ name. (name_of g.kind ≡ Some name.now) × (length name.now ≤ 8)) }
 {
-    match g.known_kind() {
-        Some(kind) => name_of(kind),
-        None => None,
-    }
+    name_of(g.known_kind()?)
 }
 
 // A number in brackets, behind the bytes that open it.
@@ -61,6 +58,7 @@ fn put_indexed(out: &mut Writer<'_>, opening: &[u8], n: u32)
 }
 
 // One more qubit, if there is one.
+// Kept: an Option of a qubit would be made for each call from the same test, as `(2 <= count).then_some(g.b)`.
 fn put_qubit(out: &mut Writer<'_>, used: bool, n: u32)
     ensures { Puts out.old (qubit_if used n) out.new }
 {
@@ -103,7 +101,6 @@ pub fn put_gates(out: &mut Writer<'_>, words: &[u32])
     }
 }
 
-// Kept (together): a writer with both counts; a struct of two counts would serve these two functions alone.
 // The header and both declarations.
 fn put_head(out: &mut Writer<'_>, qubits: u32, bits: u32)
     ensures { Puts out.old (head qubits bits) out.new }

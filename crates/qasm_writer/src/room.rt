@@ -1,5 +1,6 @@
 // How many bytes a text needs.
 // Kept (together): the counts and the words, as `write_qasm` takes them.
+// Kept (twins): it walks as the printer does, to count: a writer with no room counts no byte, since it leaves each out.
 ghost use Rattle.std.specs.Prelude.{◌≡◌, ◌≤◌, leb, length};
 ghost use Rattle.gate.specs.Gate.{gates_of};
 ghost use Rattle.gate.specs.Inner.Words.{gate_of};
@@ -21,6 +22,7 @@ const QUBIT: usize = 4;
 
 const BIT: usize = 5;
 
+// Kept: digits are counted as `put_decimal` puts them; `checked_ilog10` says between which powers of ten a number lies, and 0, which has a digit, would be a case of its own.
 fn decimal_length(n: u32) -> usize
     ensures value { result ≡ length (decimal n) }
     ensures few { result ≤ word_digits }
@@ -33,6 +35,7 @@ fn decimal_length(n: u32) -> usize
 }
 
 // The bytes of one more qubit, if there is one.
+// Kept: an Option of a qubit would be made for each call from the same test, as in the printer.
 fn qubit_length(used: bool, n: u32) -> usize
     ensures value { result ≡ length (qubit_if used n) }
     ensures few { result ≤ 24 }

@@ -7,6 +7,7 @@ ghost use Rattle.statements.specs.Statements.{declares, gate_count, gate_positio
 use qasm::tokens::Tokens;
 
 // A gate's position, and how many gates stand before it. Beyond the last gate: the text's end, and how many there are.
+// Kept: the end of the text is the place that is shown where no gate is, as `gate_position` of the specs has it; an Option would be unwrapped to it.
 #[derive(Clone, Copy, Debug, PartialEq, Eq)]
 pub struct Spot {
     pub position: usize,
@@ -19,6 +20,7 @@ fn is_declaration(word: &[u8]) -> bool
     word == b"include".as_slice() || word == b"qreg".as_slice() || word == b"creg".as_slice()
 }
 
+// Kept: `before` goes up at the first token of a gate alone, and `opening` is carried from token to token: `enumerate` would count every token.
 // Finds gate `index` among the statements of a text, numbered from 0.
 pub fn find_gate(text: &[u8], index: usize) -> Spot
     ensures position { result.position ≡ gate_position text.now index }

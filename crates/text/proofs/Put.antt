@@ -57,6 +57,20 @@ lent {bs = bs} {v = v} e f w a = ap (λ (l : List ℕ). page l v.at) a ∙ w.is 
 pub lent_is : {after l m : List ℕ} → l ≡ m → after ≡ l → after ≡ m
 lent_is e a = a ∙ e
 
+-- the room stays as long as it was
+pub put_long : (p : Page) (b : ℕ) → length (put p b).room ≡ length p.room
+unfolding put
+put_long p b = by (ltb p.at (length p.room))
+  where
+    by : (t : Bool) → length (cond t (page (set p.room p.at b) (p.at + 1)) p).room ≡ length p.room
+    by true = length-set p.room p.at b
+    by false = refl
+
+pub write_long : (p : Page) (bs : List ℕ) → length (write p bs).room ≡ length p.room
+unfolding write
+write_long p [] = refl
+write_long p (b ∷ bs) = write_long (put p b) bs ∙ put_long p b
+
 -- the next byte's place is inside the room, or its end
 put-inside : (p : Page) (b : ℕ) → p.at ≤ length p.room → (put p b).at ≤ length (put p b).room
 unfolding put

@@ -4,7 +4,7 @@ ghost use Rattle.text.specs.Decimal.{decimal, signed};
 ghost use Rattle.text.specs.Inner.Puts.{Puts};
 
 // Lent room, and where its next byte goes. A byte for which there is no room is left out.
-// Kept: no Display and write!: the library promises their text only where they answer Ok, and no clause says when that is; these calls always write.
+// Kept: no Display and write!: the library promises their text only where they answer Ok, and no clause says when that is; these calls cannot fail.
 #[derive(Drop)]
 pub struct Writer<'a> {
     pub room: &'a mut [u8],

@@ -1,5 +1,5 @@
 // The channel of the circuit in a text of OpenQASM 2, or why there is none, in words.
-// Kept (together): the lent buffers. In one struct they would be lent anew for each text, and each contract would say of each buffer that it is the same one, beside what it holds.
+// Kept (together): the lent buffers. Of one struct each contract would say of each buffer that it is the same one, beside what it holds.
 #![tactic(auto)]
 
 pub mod refusals;
@@ -19,6 +19,7 @@ use verdict::Refusal;
 pub const MAX_ANSWER: usize = 1024;
 
 // Why there is no channel, and how many bytes say it.
+// Kept: the bytes lie in the lent room; a slice of them would hold that loan, and the C interface answers how many there are.
 #[derive(Clone, Copy)]
 pub struct Refused {
     pub fault: Fault,

@@ -29,7 +29,8 @@ fn gate_of(refusal: Refusal) -> Option<usize>
 }
 
 // A refusal that points at no byte.
-pub fn no_place(refusal: Refusal, gates: usize) -> Fault
+// Kept: the zeros are those of `Fault`, which the C interface answers.
+pub(super) fn no_place(refusal: Refusal, gates: usize) -> Fault
     ensures { result ≡ fault refusal 0 no_place gates }
 {
     Fault {
@@ -63,7 +64,7 @@ fn gates_in(text: &[u8]) -> usize
 }
 
 // Why a text has no channel.
-pub fn fault_of(text: &[u8], why: NoChannel) -> Fault
+fn fault_of(text: &[u8], why: NoChannel) -> Fault
     ensures { result ≡ fault_of text.now why }
 {
     match why {
@@ -81,6 +82,7 @@ pub fn fault_of(text: &[u8], why: NoChannel) -> Fault
 }
 
 // The words of the gate at fault, if one is named, among those read.
+// Kept: empty where none is named, as `put_refused` takes it.
 fn faulty_gate(gates: &[u32], why: NoChannel) -> &[u32]
     requires { words_read why ≤ length gates.now }
     ensures { result.now ≡ faulty_gate gates.now why }

@@ -1,12 +1,11 @@
 -- A store at the start of a longer row of zeros, and the part of it that is the store of a circuit.
-use mathlib.Core.Path.{◌≡◌, refl, sym, ap, ◌∙◌, subst}
+use mathlib.Core.Path.{◌≡◌, sym, ap, ◌∙◌, subst}
 use mathlib.Core.List.{List, ◌++◌, append-nil}
 use Prim.Native.Nat.{ℕ, ◌+◌, ◌-◌, ◌<◌, ◌≤◌, min}
 use native.Mathlib.Nat.{zero-add}
-use native.Mathlib.Numerals.{add-one}
 use native.Mathlib.Omega.{arith}
-use lib.ListN.{length, get_or, take, drop, set, length-set, replicate, length-replicate, replicate-append-replicate}
-use lib.Seq.{sets, sets-eq, drop-cons, drop-length, take-append-add, take-append_seam, take_at, drop_at}
+use lib.ListN.{length, take, drop, replicate, length-replicate, replicate-append-replicate}
+use lib.Seq.{sets, sets-eq, take-append-add, take-append_seam, take_at, drop_at}
 use lib.IntN.{ℤ}
 use Rattle.verdict.specs.Questions.{Verdict}
 use Rattle.circuit.specs.declared.limits.Limits.{Limits}

@@ -1,7 +1,7 @@
 -- What is read of a text, from the reader's reply: a circuit that is run, or a fault.
-use Rattle.std.specs.Prelude.{Result, Ok, Err}
+use Rattle.std.specs.Prelude.{Result, Ok, Err, MatchResult, IsErrAnd}
 use Rattle.std.specs.Result.{result_map_both}
-use mathlib.Core.Path.{◌≡◌, refl, sym, ap, ◌∙◌}
+use mathlib.Core.Path.{◌≡◌, refl, sym, ap, ◌∙◌, subst}
 use mathlib.Core.Bool.{Bool, true, false, cond}
 use mathlib.Core.List.{List}
 use Prim.Native.Nat.{ℕ, ◌≤◌}
@@ -91,14 +91,32 @@ module _ (σ : List ℕ) (l : Limits) {g : List ℕ} (res w : List ℤ) {o : Out
       → Run σ l g res w o (result_map_both (λ _. r) (Refused r) v) x y
   run {v} p q s = record { side = side-run v p; res = result_run q; work = work_run s }
 
+-- ---- what the reader replies, with a fault of it as the reason that there is no channel
+abbrev pub Handed : Result Reading Fault → Result Reading NoChannel → Type 0
+Handed q m = MatchResult q (λ x. m ≡ Ok x) (λ f. m ≡ Err (Faulty f))
+
+module _ {m : Result Reading NoChannel} where
+  pub reads : (q : Result Reading Fault) {x : Reading} → Handed q m → m ≡ Ok x → q ≡ Ok x
+  reads (Ok y) h e = cc
+  reads (Err f) h e = absurd (cc)
+
+  faulty : (q : Result Reading Fault) {a : NoChannel} → Handed q m → m ≡ Err a → (f : Fault) × ((q ≡ Err f) × (a ≡ Faulty f))
+  faulty (Ok y) h e = absurd (cc)
+  faulty (Err f) h e = (f, (refl, cc))
+
+-- and that reason returned
+is_returned : (v : Result Reading NoChannel) {a : NoChannel} {f : Fault} → IsErrAnd v (λ x. x ≡ a) → a ≡ Faulty f → v ≡ Err (Faulty f)
+is_returned (Ok x) h e = absurd h
+is_returned (Err x) h e = ap Err (h ∙ e)
+
 -- ---- a text that is faulty leaves both buffers as they were
 abbrev read_as : ℕ → ℕ → List ℕ → Reading
 read_as n m ws = record { qubits = n; bits = m; words = length ws }
 
-module _ (σ : List ℕ) (l : Limits) (g : List ℕ) (res w : List ℤ) {f : Fault} where
-  pub untouched : (o : Outcome) → Err f ≡ reply (length g) o → Run σ l g res w o (Err (Faulty f)) res w
-  untouched (refused x at) e = let q : f ≡ fault_at x at = (cc) in record { side = ap (λ (f : Fault). Err (Faulty f)) q; res = refl; work = refl }
-  untouched (circuit n m ws) e = by (leb (length ws) (length g)) refl e
+module _ (σ : List ℕ) (l : Limits) (g : List ℕ) (res w : List ℤ) where
+  untouched : {f : Fault} (o : Outcome) → Err f ≡ reply (length g) o → Run σ l g res w o (Err (Faulty f)) res w
+  untouched {f} (refused x at) e = let q : f ≡ fault_at x at = (cc) in record { side = ap (λ (f : Fault). Err (Faulty f)) q; res = refl; work = refl }
+  untouched {f} (circuit n m ws) e = by (leb (length ws) (length g)) refl e
     where
       by : (b : Bool) → leb (length ws) (length g) ≡ b → Err f ≡ cond b (Ok (read_as n m ws)) (Err (fault_at ShortBuffer 0)) → Run σ l g res w (circuit n m ws) (Err (Faulty f)) res w
       by true k e = absurd (cc)
@@ -109,3 +127,6 @@ module _ (σ : List ℕ) (l : Limits) (g : List ℕ) (res w : List ℤ) {f : Fau
             res = ap (λ (b : Bool). cond b (result_after n m (store_for m σ) l ws res w) res) (sym k);
             work = ap (λ (b : Bool). cond b (work_after n m (store_for m σ) l ws res w) w) (sym k);
           }
+
+  pub unread : (o : Outcome) {q : Result Reading Fault} {m v : Result Reading NoChannel} {a : NoChannel} → q ≡ reply (length g) o → Handed q m → m ≡ Err a → IsErrAnd v (λ x. x ≡ a) → Run σ l g res w o v res w
+  unread o {q} {v = v} r h e k = let f = faulty q h e in subst (λ (v : Result Reading NoChannel). Run σ l g res w o v res w) (sym (is_returned v k f.1.1)) (untouched o (sym f.1.0 ∙ r))

@@ -1,5 +1,5 @@
 // A text of OpenQASM 2: its circuit read, judged and run.
-// Kept (together): the lent buffers. In one struct they would be lent anew for each text, and each contract would say of each buffer that it is the same one, beside what it holds.
+// Kept (together): the lent buffers. Of one struct each contract would say of each buffer that it is the same one, beside what it holds.
 #![tactic(auto)]
 
 ghost use Rattle.std.specs.Prelude.{◌≡◌, ◌≤◌, length};
@@ -39,10 +39,8 @@ fn run_circuit(circuit: Circuit, limits: Limits, res: &mut [i64], work: &mut [i6
     let mut padded = [0u8; MAX_BITS];
     padded[..given].copy_from_slice(circuit.store);
     let filled = Circuit {
-        qubits: circuit.qubits,
-        bits: circuit.bits,
         store: &padded[..all],
-        gates: circuit.gates,
+        ..circuit
     };
     circuit_channel(filled, limits, res, work)
 }
@@ -62,16 +60,14 @@ pub fn run_side(
     ensures res { res.new ≡ result_by store.now limits gates.old res.old work.old (read_of text.now) }
     ensures work { work.new ≡ work_by store.now limits gates.old res.old work.old (read_of text.now) }
 {
-    let reading = match read_qasm(text, gates) {
-        Ok(reading) => reading,
-        Err(fault) => return Err(NoChannel::Faulty(fault)),
-    };
+    let reading = read_qasm(text, gates).map_err(NoChannel::Faulty)?;
     let circuit = Circuit {
         qubits: reading.qubits,
         bits: reading.bits,
         store,
         gates: &gates[..reading.words],
     };
+    // Kept: both arms hand on the reading; `map_err` with a closure over it, `?` and `Ok` would be no plainer.
     match run_circuit(circuit, limits, res, work) {
         Ok(()) => Ok(reading),
         Err(refusal) => Err(NoChannel::Refused(reading, refusal)),

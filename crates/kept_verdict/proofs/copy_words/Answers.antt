@@ -2,7 +2,7 @@
 use Rattle.std.proofs.Common.{arith, length}
 use Rattle.store.specs.Store.{max_word}
 use Rattle.kept_circuit.proofs.Sound.{up_there, up_small}
-use Rattle.kept_verdict.proofs.Copied.{copy_more, copy_all}
+use Rattle.kept_verdict.proofs.Copied.{copy_more}
 use Rattle.kept_verdict.proofs.copy_words.Goals as goal
 
 pub follow-requires : goal.follow-requires
@@ -13,6 +13,3 @@ overflow_cast-out c = record { fits = omega (arith, up_small c.args.words.now 0 
 
 pub loop-k-preserved : goal.loop-k-preserved
 loop-k-preserved c = copy_more c.args.words.now c.args.out.now c.loop-k.out c.loop-k.k c.follow.result c.loop-k.invariant (omega arith) c.follow.ensures
-
-pub returns : goal.returns
-returns c = copy_all c.args.words.now c.args.out.now c.loop-k.out c.loop-k.k c.loop-k.invariant (omega arith)

@@ -1,8 +1,7 @@
 -- The pieces as the code has them, and how the statement of a gate goes on.
 use Rattle.std.specs.Prelude.{cond, List, [], ◌∷◌, map, ℕ, Option, Some, None}
-use denote.Ref.{Bor}
+use Rattle.gate.specs.declared.kinds.Kind.{Kind}
 use Rattle.gate.specs.Kinds.{number_of}
-use Rattle.qasm.specs.declared.names.Entry as code-entry
 use Rattle.qasm.specs.declared.pieces.Form.{Form}
 use Rattle.qasm.specs.declared.pieces.Form.TheVariants.{One, Two, Three, Measured}
 use Rattle.qasm.specs.declared.pieces.Register.{Register}
@@ -33,15 +32,15 @@ form_of Two = two
 form_of Three = three
 form_of Measured = measured
 
-abbrev pub entry_of : code-entry.Entry → Entry
-entry_of e = record { name = e.0.now; kind = number_of e.1; form = form_of e.2 }
+abbrev pub entry_of : List ℕ → Kind → Form → Entry
+entry_of name kind form = record { name = name; kind = number_of kind; form = form_of form }
 
 -- the first entry with this name
 abbrev pub entry_named : List ℕ → List Entry → Option Entry
 entry_named word [] = None
 entry_named word (e ∷ es) = cond (same e.name word) (Some e) (entry_named word es)
 
--- what the code answers
-abbrev pub shown : Option (Bor code-entry.Entry) → Option Entry
-shown None = None
-shown (Some e) = Some (entry_of e.now)
+-- what the code answers, asked for a name
+abbrev pub shown : List ℕ → Option (Kind × Form) → Option Entry
+shown name None = None
+shown name (Some e) = Some (entry_of name e.0 e.1)

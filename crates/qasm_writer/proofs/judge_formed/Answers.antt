@@ -1,11 +1,8 @@
 -- `judge_formed` meets its contract.
 use mathlib.Core.Path.{sym, ◌∙◌}
 use Rattle.qasm_writer.specs.Call.{formed_at}
-use Rattle.qasm_writer.proofs.Asked.{ask_all, ask_yes, ask_no, ask_none}
+use Rattle.qasm_writer.proofs.Asked.{ask_yes, ask_no}
 use Rattle.qasm_writer.proofs.judge_formed.Goals as goal
-
-pub loop-i-init : goal.loop-i-init
-loop-i-init c = ask_all formed_at c.args.words.now
 
 pub returns-then-not-is_formed : goal.returns-then-not-is_formed
 returns-then-not-is_formed c =
@@ -14,6 +11,3 @@ returns-then-not-is_formed c =
 pub loop-i-preserved : goal.loop-i-preserved
 loop-i-preserved c =
     c.loop-i.invariant ∙ ask_yes formed_at c.args.words.now c.loop-i-test.true c.read_gate-g.ensures (sym c.if-not-is_formed.ensures)
-
-pub returns : goal.returns
-returns c = sym (c.loop-i.invariant ∙ ask_none formed_at c.args.words.now c.loop-i.i c.loop-i-test.false)

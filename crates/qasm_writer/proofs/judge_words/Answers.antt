@@ -1,11 +1,8 @@
 -- `judge_words` meets its contract.
 use mathlib.Core.Path.{◌∙◌}
 use Rattle.verdict.proofs.Questions.{returned}
-use Rattle.qasm_writer.proofs.Asked.{words_broken, words-malformed, words-formed}
+use Rattle.qasm_writer.proofs.Asked.{words-malformed, words-formed}
 use Rattle.qasm_writer.proofs.judge_words.Goals as goal
-
-pub returns-then-words-ne0 : goal.returns-then-words-ne0
-returns-then-words-ne0 c = words_broken c.args.words.now c.if-words-ne0.true
 
 pub returns-in_err-judge_formed : goal.returns-in_err-judge_formed
 returns-in_err-judge_formed c = returned c.from_residual.result c.from_residual.ensures.1 ∙ words-malformed c.args.words.now c.if-words-ne0.false c.in_err-judge_formed.ensures

@@ -1,14 +1,10 @@
 -- `find_gate` meets its contract.
-use Rattle.std.proofs.Common.{◌≡◌, ap, ◌∙◌, rules}
+use Rattle.std.proofs.Common.{◌≡◌, rules}
 use Rattle.text.specs.Ascii.{ascii}
 use Rattle.qasm.specs.Tokens.{same}
-use Rattle.qasm.specs.Inner.Left.{tokens_left}
-use Rattle.statements.proofs.Counting.{counting_top, counting_end, counting_found, counting_more, counting_same}
+use Rattle.statements.proofs.Counting.{counting_end, counting_found, counting_more, counting_same}
 use Rattle.statements.proofs.find_gate.Goals as goal
 use Rattle.statements.proofs.find_gate.Goals.{then-opening-is_declaration+else-before-index, else-opening-is_declaration}
-
-pub loop-token-init : goal.loop-token-init
-loop-token-init c = counting_top c.args.text.now c.args.index (ap tokens_left c.into_iter-token-iterator.ensures.into_iter_gives ∙ c.behind_header-token-items.ensures)
 
 pub returns-then-before-index : goal.returns-then-before-index
 returns-then-before-index c =

@@ -1,19 +1,11 @@
 -- `run_circuit` meets its contract.
-use mathlib.Core.Path.{◌≡◌, ap}
+use mathlib.Core.Path.{ap}
 use mathlib.Core.List.{List, ◌++◌}
 use Prim.Native.Nat.{ℕ}
-use lib.ListN.{length, drop, take, replicate}
+use lib.ListN.{length, drop, replicate}
 use Rattle.text_sides.specs.Sides.{max_bits}
-use Rattle.text_sides.proofs.Padding.{filled-up, as_given, ran}
+use Rattle.text_sides.proofs.Padding.{filled-up, ran}
 use Rattle.text_sides.proofs.run_circuit.Goals as goal
-
-pub returns-then-all-given : goal.returns-then-all-given
-returns-then-all-given c =
-    let a = c.args in
-    let k = a.circuit in
-    let e = c.circuit_channel.ensures in
-    let all = ran k.qubits k.bits a.limits k.gates.now a.res.now a.work.now (as_given k.store.now k.bits c.min-all.ensures c.if-all-given.true) _ _ _ (e.value, (e.res_after, e.work_after)) in
-    record { value = all.0; res_after = all.1.0; work_after = all.1.1 }
 
 pub returns : goal.returns
 returns c =

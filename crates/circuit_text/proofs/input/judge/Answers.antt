@@ -1,32 +1,29 @@
 -- `input::judge` meets its contract.
 use Rattle.std.proofs.Common.{sym, subst, ◌∙◌, rules, tests}
 use Rattle.std.proofs.lemmas.List.{length_push}
-use Rattle.std.proofs.lemmas.Iterator.Splits.{YieldsList-from_slice_split}
-use Rattle.std.proofs.lemmas.Iterator.Consumers.{YieldsList-turn, YieldsList-end}
-use Rattle.text.specs.Decimal.{is_blank}
-use Rattle.circuit_text.proofs.Pieces.{piece_at, pieces_end}
+use Rattle.circuit_text.proofs.Pieces.{next_piece, no_piece}
 use Rattle.circuit_text.proofs.Judging.{Judging, judging_bad, judging_more, judging_no_byte, judging_all}
 use Rattle.circuit_text.proofs.input.judge.Goals as goal
 
 pub returns-in_err-number : goal.returns-in_err-number
 returns-in_err-number c =
-    let h = piece_at c.args.text.now (YieldsList-turn (YieldsList-from_slice_split _ is_blank c.args.text.now (cc) (cc) (cc) (λ x b q k. search (rules, tests))) c.loop-piece.yielded _ c.loop-piece.yielded_by _ _ c.in-Some.piece c.in-Some.is c.next.ensures.steps) in
+    let h = next_piece _ _ _ c.args.text.now c.loop-piece.yielded c.loop-piece.yielded_by (cc) (cc) (cc) (λ x b q k. search (rules, tests)) _ _ c.in-Some.is c.next.ensures.steps in
     let none = judging_bad c.args.text.now c.loop-piece.invariant h.0 h.1 (sym c.in_err-number.was ∙ c.number_in.ensures) in
     cc
 
 pub returns-in_err-seen : goal.returns-in_err-seen
 returns-in_err-seen c =
-    let h = piece_at c.args.text.now (YieldsList-turn (YieldsList-from_slice_split _ is_blank c.args.text.now (cc) (cc) (cc) (λ x b q k. search (rules, tests))) c.loop-piece.yielded _ c.loop-piece.yielded_by _ _ c.in-Some.piece c.in-Some.is c.next.ensures.steps) in
+    let h = next_piece _ _ _ c.args.text.now c.loop-piece.yielded c.loop-piece.yielded_by (cc) (cc) (cc) (λ x b q k. search (rules, tests)) _ _ c.in-Some.is c.next.ensures.steps in
     let none = judging_no_byte c.args.text.now c.loop-piece.invariant h.0 h.1 (sym c.in_ok-number.was ∙ c.number_in.ensures) (sym c.in_err-seen.was ∙ c.with.ensures) in
     cc
 
 pub loop-piece-preserved : goal.loop-piece-preserved
 loop-piece-preserved c =
-    let h = piece_at c.args.text.now (YieldsList-turn (YieldsList-from_slice_split _ is_blank c.args.text.now (cc) (cc) (cc) (λ x b q k. search (rules, tests))) c.loop-piece.yielded _ c.loop-piece.yielded_by _ _ c.in-Some.piece c.in-Some.is c.next.ensures.steps) in
+    let h = next_piece _ _ _ c.args.text.now c.loop-piece.yielded c.loop-piece.yielded_by (cc) (cc) (cc) (λ x b q k. search (rules, tests)) _ _ c.in-Some.is c.next.ensures.steps in
     subst (λ n. Judging c.args.text.now n c.in_ok-seen.seen) (sym (length_push c.loop-piece.yielded c.in-Some.piece))
     (judging_more c.args.text.now c.loop-piece.invariant h.0 h.1 (sym c.in_ok-number.was ∙ c.number_in.ensures) (sym c.in_ok-seen.was ∙ c.with.ensures))
 
 pub returns : goal.returns
 returns c =
-    let h = YieldsList-end (YieldsList-from_slice_split _ is_blank c.args.text.now (cc) (cc) (cc) (λ x b q k. search (rules, tests))) c.loop-piece.yielded _ c.loop-piece.yielded_by _ _ c.in-None.is c.next.ensures.steps in
-    judging_all c.args.text.now c.loop-piece.invariant (pieces_end c.args.text.now h.1) c.circuit.ensures
+    let all = no_piece _ _ _ c.args.text.now c.loop-piece.yielded c.loop-piece.yielded_by (cc) (cc) (cc) (λ x b q k. search (rules, tests)) _ c.in-None.is c.next.ensures.steps in
+    judging_all c.args.text.now c.loop-piece.invariant all c.circuit.ensures

@@ -59,9 +59,6 @@ returns-then-text-gt-MAX_BYTES c =
 pub slice_bounds-judge-end : goal.slice_bounds-judge-end
 slice_bounds-judge-end c = sym (part_long c.args.text.now c.body_length-e.ensures)
 
-pub judge-requires : goal.judge-requires
-judge-requires c = omega (arith, part_long c.args.text.now c.body_length-e.ensures, inside c.args.text.now c.body_length-e.ensures, c.if-text-gt-MAX_BYTES.false)
-
 pub returns-in_err-circuit : goal.returns-in_err-circuit
 returns-in_err-circuit c =
     let a = c.args in
@@ -80,10 +77,8 @@ read_numbers-count-requires c =
     let h = c.body_length-e.ensures in
     let y = yes t h c.if-text-gt-MAX_BYTES.false c.judge.ensures c.in_ok-circuit.was in
     let q = few-numbers t y in
-    let long = c.requires.0 in (
-      omega (arith, part_long t h, inside t h, c.if-text-gt-MAX_BYTES.false),
-      (ap (λ (t : List ℕ). every is_number (pieces t)) (body_is t h) ∙ all-numbers t y, subst (λ (t : List ℕ). length (pieces t) ≤ length a.numbers.now) (sym (body_is t h)) (omega arith)),
-    )
+    let long = c.requires.0 in
+    (ap (λ (t : List ℕ). every is_number (pieces t)) (body_is t h) ∙ all-numbers t y, subst (λ (t : List ℕ). length (pieces t) ≤ length a.numbers.now) (sym (body_is t h)) (omega arith))
 
 pub slice_bounds-copy_store-end : goal.slice_bounds-copy_store-end
 slice_bounds-copy_store-end c =

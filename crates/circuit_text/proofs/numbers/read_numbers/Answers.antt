@@ -1,30 +1,27 @@
 -- `numbers::read_numbers` meets its contract.
 use Rattle.std.proofs.Common.{◌+◌, sym, ap, ◌∙◌, rules, tests, arith}
 use Rattle.std.proofs.lemmas.List.{length_push}
-use Rattle.std.proofs.lemmas.Iterator.Splits.{YieldsList-from_slice_split}
-use Rattle.std.proofs.lemmas.Iterator.Consumers.{YieldsList-turn, YieldsList-end}
-use Rattle.text.specs.Decimal.{is_blank}
 use Rattle.std.specs.Prelude.{is_some}
 use Rattle.text.proofs.Read.{some_number, number_some}
 use Rattle.circuit_text.specs.Text.{pieces}
-use Rattle.circuit_text.proofs.Pieces.{piece_at, pieces_end, along-sound, taken-all, taken_more}
+use Rattle.circuit_text.proofs.Pieces.{next_piece, no_piece, along-sound, taken-all, taken_more}
 use Rattle.circuit_text.proofs.numbers.read_numbers.Goals as goal
 
 pub unwrap-requires : goal.unwrap-requires
 unwrap-requires c =
-    let h = piece_at c.args.text.now (YieldsList-turn (YieldsList-from_slice_split _ is_blank c.args.text.now (cc) (cc) (cc) (λ x b q k. search (rules, tests))) c.loop-piece.yielded _ c.loop-piece.yielded_by _ _ c.in-Some.piece c.in-Some.is c.next.ensures.steps) in
+    let h = next_piece _ _ _ c.args.text.now c.loop-piece.yielded c.loop-piece.yielded_by (cc) (cc) (cc) (λ x b q k. search (rules, tests)) _ _ c.in-Some.is c.next.ensures.steps in
     let i = c.loop-piece.invariant in
-    let good = along-sound (pieces c.args.text.now) i.taken.along (rw i.count h.0) (rw i.count h.1) c.requires.1.0 in
+    let good = along-sound (pieces c.args.text.now) i.taken.along (rw i.count h.0) (rw i.count h.1) c.requires.0 in
     ap is_some (c.number_in.ensures ∙ some_number _ good)
 
 pub bounds-numbers-count : goal.bounds-numbers-count
 bounds-numbers-count c =
-    let h = piece_at c.args.text.now (YieldsList-turn (YieldsList-from_slice_split _ is_blank c.args.text.now (cc) (cc) (cc) (λ x b q k. search (rules, tests))) c.loop-piece.yielded _ c.loop-piece.yielded_by _ _ c.in-Some.piece c.in-Some.is c.next.ensures.steps) in
-    omega (arith, h.0, c.loop-piece.invariant.count, c.loop-piece.invariant.taken.same, c.requires.1.1)
+    let h = next_piece _ _ _ c.args.text.now c.loop-piece.yielded c.loop-piece.yielded_by (cc) (cc) (cc) (λ x b q k. search (rules, tests)) _ _ c.in-Some.is c.next.ensures.steps in
+    omega (arith, h.0, c.loop-piece.invariant.count, c.loop-piece.invariant.taken.same, c.requires.1)
 
 pub loop-piece-preserved : goal.loop-piece-preserved
 loop-piece-preserved c =
-    let h = piece_at c.args.text.now (YieldsList-turn (YieldsList-from_slice_split _ is_blank c.args.text.now (cc) (cc) (cc) (λ x b q k. search (rules, tests))) c.loop-piece.yielded _ c.loop-piece.yielded_by _ _ c.in-Some.piece c.in-Some.is c.next.ensures.steps) in
+    let h = next_piece _ _ _ c.args.text.now c.loop-piece.yielded c.loop-piece.yielded_by (cc) (cc) (cc) (λ x b q k. search (rules, tests)) _ _ c.in-Some.is c.next.ensures.steps in
     let i = c.loop-piece.invariant in
     let is = number_some _ (sym c.unwrap.ensures ∙ c.number_in.ensures) in
     record {
@@ -34,6 +31,6 @@ loop-piece-preserved c =
 
 pub returns : goal.returns
 returns c =
-    let h = YieldsList-end (YieldsList-from_slice_split _ is_blank c.args.text.now (cc) (cc) (cc) (λ x b q k. search (rules, tests))) c.loop-piece.yielded _ c.loop-piece.yielded_by _ _ c.in-None.is c.next.ensures.steps in
-    let e = c.loop-piece.invariant.count ∙ pieces_end c.args.text.now h.1 in
+    let all = no_piece _ _ _ c.args.text.now c.loop-piece.yielded c.loop-piece.yielded_by (cc) (cc) (cc) (λ x b q k. search (rules, tests)) _ c.in-None.is c.next.ensures.steps in
+    let e = c.loop-piece.invariant.count ∙ all in
     record { count = e; room = taken-all (pieces c.args.text.now) c.args.numbers.now c.loop-piece.numbers c.loop-piece.invariant.taken e }

@@ -4,7 +4,7 @@ use native.Mathlib.Omega.{arith}
 use Rattle.c_channels.specs.Channels.{scalar_words}
 use Rattle.compare_list.specs.Words.{answer_words, entry_words}
 use Rattle.compare_list.proofs.Along.{answer_long, entry_long}
-use Rattle.compare_list.proofs.Copying.{copied_here}
+use Rattle.algebra.proofs.Copying.{copied_here}
 use Rattle.compare_list.proofs.words.put.Goals as goal
 
 pub returns-clause-answers_after : goal.returns-clause-answers_after

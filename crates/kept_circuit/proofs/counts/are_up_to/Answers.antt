@@ -6,7 +6,7 @@ use Prim.Native.Nat.{ℕ}
 use lib.ListN.{take, drop}
 use Rattle.algebra.specs.Words.{up_to}
 use Rattle.kept_circuit.specs.Kept.{all_up_to}
-use Rattle.kept_circuit.proofs.Ranges.{all_in}
+use Rattle.algebra.proofs.Ranges.{all_in}
 use Rattle.kept_circuit.proofs.counts.are_up_to.Goals as goal
 
 pub returns : goal.returns

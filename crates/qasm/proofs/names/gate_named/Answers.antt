@@ -3,5 +3,5 @@ use Rattle.std.proofs.Common.{◌∙◌}
 use Rattle.qasm.proofs.Named.{named_later}
 use Rattle.qasm.proofs.names.gate_named.Goals as goal
 
-pub loop-entry-preserved : goal.loop-entry-preserved
-loop-entry-preserved c = c.loop-entry.invariant ∙ named_later c.args.word.now _ _ c.loop-entry-test.true c.eq.ensures c.if-eq.false
+pub loop-name-preserved : goal.loop-name-preserved
+loop-name-preserved c = c.loop-name.invariant ∙ named_later c.args.word.now _ _ c.loop-name-test.true c.eq.ensures c.if-eq.false

@@ -15,7 +15,10 @@ pub loop-token-init : goal.loop-token-init
 loop-token-init c = going_top (tokens_left c.args.tokens) c.args.gates.now (ap tokens_left c.into_iter-token-iterator.ensures.into_iter_gives) refl (record { words = refl; opened = refl })
 
 pub step-requires : goal.step-requires
-step-requires c = let t = c.args.tokens in omega (arith, c.loop-token.invariant.few, from-few t.text.now t.at)
+step-requires c =
+    let t = c.args.tokens in
+    let i = c.loop-token.invariant in
+    record { few = omega (arith, i.few, from-few t.text.now t.at); opened = i.sees.counts.opened }
 
 pub returns-in_err-s : goal.returns-in_err-s
 returns-in_err-s c =

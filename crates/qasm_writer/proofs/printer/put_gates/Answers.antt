@@ -5,13 +5,9 @@ use lib.ListN.{length}
 use Rattle.algebra.specs.Lists.{concat_map}
 use Rattle.gate.specs.Gate.{gate_size}
 use Rattle.gate.proofs.Listed.{gates-more, gates-none}
-use Rattle.text.proofs.Put.{text, left-all, left_less, left-none, left_is}
+use Rattle.text.proofs.Put.{text, left_less, left-none, left_is}
 use Rattle.qasm.specs.Writing.{gate_text}
-use Rattle.qasm_writer.proofs.Asked.{from_all}
 use Rattle.qasm_writer.proofs.printer.put_gates.Goals as goal
-
-pub loop-i-init : goal.loop-i-init
-loop-i-init c = left_is (ap (concat_map gate_text) (from_all c.args.words.now)) (left-all _ _)
 
 pub loop-i-preserved : goal.loop-i-preserved
 loop-i-preserved c =

@@ -2,11 +2,8 @@
 use mathlib.Core.Path.{sym, ◌∙◌}
 use Rattle.gate.specs.Inner.Words.{gate_of}
 use Rattle.text.proofs.Put.{then, text}
-use Rattle.qasm_writer.proofs.Lines.{others-bit, others-qubits}
+use Rattle.qasm_writer.proofs.Lines.{others-qubits}
 use Rattle.qasm_writer.proofs.printer.put_others.Goals as goal
-
-pub returns-in-Some : goal.returns-in-Some
-returns-in-Some c = text (others-bit (gate_of c.args.g) (sym c.bit.ensures ∙ c.in-Some.is)) c.put_indexed.ensures
 
 pub returns-in-None : goal.returns-in-None
 returns-in-None c =

@@ -5,9 +5,5 @@ use Rattle.text.proofs.Put.{text, none}
 use Rattle.qasm_writer.specs.Inner.Print.{qubit_if}
 use Rattle.qasm_writer.proofs.printer.put_qubit.Goals as goal
 
-pub returns-then-used : goal.returns-then-used
-returns-then-used c =
-    text (ap (λ (u : Bool). qubit_if u c.args.n) (sym c.if-used.true)) c.put_indexed.ensures
-
 pub returns-else-used : goal.returns-else-used
 returns-else-used c = text (ap (λ (u : Bool). qubit_if u c.args.n) (sym c.if-used.false)) (none _)

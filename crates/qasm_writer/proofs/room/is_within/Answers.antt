@@ -1,12 +1,7 @@
 -- `room::is_within` meets its contract.
 use mathlib.Core.Path.{sym, ◌∙◌}
-use Rattle.qasm_writer.proofs.Lengths.{no_room, room-left, head-before, line_before, none_left}
+use Rattle.qasm_writer.proofs.Lengths.{no_room, room-left, head-before, line_before}
 use Rattle.qasm_writer.proofs.room.is_within.Goals as goal
-
-pub returns-then-bytes-head : goal.returns-then-bytes-head
-returns-then-bytes-head c =
-    let a = c.args in
-    no_room _ _ (head-before a.qubits a.bits a.words.now c.decimal_length.ensures.value c.decimal_length-2.ensures.value) c.if-bytes-head.true
 
 pub loop-i-init : goal.loop-i-init
 loop-i-init c =
@@ -22,7 +17,3 @@ pub loop-i-preserved : goal.loop-i-preserved
 loop-i-preserved c =
     let ws = c.args.words.now in
     c.loop-i.invariant ∙ room-left _ _ (line_before ws c.loop-i-test.true c.read_gate-g.ensures c.line_length-n.ensures) c.if-left-n.false
-
-pub returns : goal.returns
-returns c =
-    sym (c.loop-i.invariant ∙ none_left c.args.words.now c.loop-i.i c.loop-i.left c.loop-i-test.false)

@@ -14,7 +14,11 @@ some : {n : ℕ} → false ≡ eqb n 0 → 1 ≤ n
 some {n} e = let d = eqb-false n 0 (sym e) in omega arith
 
 pub returns-then-is_empty : goal.returns-then-is_empty
-returns-then-is_empty c = elim c.then-is_empty.branch [ then-is_empty-via-then-is_empty w ↦ too_short c.args.piece.now (eqb-true _ 0 (sym w.if-is_empty.ensures)) | then-is_empty-via-else-is_empty+then-piece-gt-MAX_DIGITS w ↦ too_long c.args.piece.now w.if-piece-gt-MAX_DIGITS.true ]
+returns-then-is_empty c =
+    elim c.then-is_empty.branch [
+      | then-is_empty-via-then-is_empty w ↦ too_short c.args.piece.now (eqb-true _ 0 (sym w.if-is_empty.ensures))
+      | then-is_empty-via-else-is_empty+then-piece-gt-MAX_DIGITS w ↦ too_long c.args.piece.now w.if-piece-gt-MAX_DIGITS.true
+    ]
 
 pub loop-b-init : goal.loop-b-init
 loop-b-init c = read_none c.args.piece.now

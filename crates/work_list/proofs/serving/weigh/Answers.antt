@@ -26,9 +26,6 @@ of-requires c =
 pub of-requires-2 : goal.of-requires-2
 of-requires-2 c = let a = c.args in (few (circuit_in a.c) a.limits a.res a.work c.in_ok-splits.ensures).qubits
 
-pub terms_needed-requires : goal.terms_needed-requires
-terms_needed-requires c = let a = c.args in (few (circuit_in a.c) a.limits a.res a.work c.in_ok-splits.ensures).gates
-
 pub returns-clause-value : goal.returns-clause-value
 returns-clause-value c =
     let a = c.args in

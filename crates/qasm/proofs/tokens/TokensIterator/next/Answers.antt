@@ -13,9 +13,6 @@ invariant_of-self c = let s = c.loop-part.self in let q = gap_next s.text.now s.
 pub loop-part-preserved : goal.loop-part-preserved
 loop-part-preserved c = let s = c.loop-part.self in c.loop-part.invariant ∙ (gap_next s.text.now s.at s.inside {n = c.in-Gap.n} (cc)).1
 
-pub loop-part-smaller : goal.loop-part-smaller
-loop-part-smaller c = let s = c.loop-part.self in let q = gap_next s.text.now s.at s.inside {n = c.in-Gap.n} (cc) in omega (arith, q.0.inside, q.0.some)
-
 pub overflow_add-self-in-Bytes : goal.overflow_add-self-in-Bytes
 overflow_add-self-in-Bytes c = let s = c.loop-part.self in let q = token_next s.text.now s.at s.inside {n = c.in-Bytes.n} (cc) in omega (arith, q.0.inside)
 
