@@ -101,6 +101,7 @@ pub fn povm_effects(channel: &[i64], res: &mut [i64]) -> u32
     verdict::number(&effects::povm_effects(channel, res))
 }
 
+// Kept: 0 for none is the C interface's; `locate` of channel answers an Option.
 // The index of a store's block, its exponent and then its numerators, or 0 where there is none.
 pub fn lookup(channel: &[i64], store: &[u8]) -> usize
     ensures { result ≡ start_of (span_of channel.now (lookup_of channel.now store.now)) }

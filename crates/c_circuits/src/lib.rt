@@ -1,5 +1,6 @@
 // The calls of the C interface on circuits.
-// Kept (twins, together): each call has the parameters of its C function, which lends every buffer apart; the circuit and the limits become a `Circuit` and `Limits` at once.
+// Kept (together): each call has the parameters of its C function, which lends every buffer apart; the limits become `Limits` at once, and, but in `circuit_unitary`, which has neither bits nor a store, the circuit a `Circuit`.
+// Kept (twins): they share `read_limits` and `report`; a function that takes the call between them as a closure would save one line of each, and need a contract on it.
 #![tactic(auto)]
 
 ghost use Rattle.std.specs.Prelude.{◌≡◌};
@@ -15,6 +16,7 @@ use circuit::Circuit;
 use circuit::limits::Limits;
 use circuit::questions::judge_layered_channel;
 
+// Kept: the six words are the C interface's, of which crate circuit knows nothing; From could stand there alone, since neither the array nor Limits is a type of this crate.
 // Limits from six words.
 pub fn read_limits(limits: &[u64; 6]) -> Limits
     ensures { result ≡ limits_of limits.now }
@@ -82,7 +84,6 @@ pub fn layered_channel(
     report(&v, index)
 }
 
-// Kept: the verdicts of c_plain and c_pauli are twins of it: they share `read_limits` and `report`; a function that takes the call between them as a closure would save one line of each, and need a contract on it.
 // The verdict of a layered circuit alone, for buffers of so many words: its number, and its index in `index`.
 pub fn layered_verdict(
     qubits: u32,

@@ -1,4 +1,5 @@
 // The calls of the C interface on Pauli programs.
+// Kept (together): each call has the parameters of its C function, which lends every buffer apart; the program and the limits become a `Program` and `Limits` at once.
 #![tactic(auto)]
 
 ghost use Rattle.std.specs.Prelude.{◌≡◌};

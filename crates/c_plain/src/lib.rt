@@ -1,5 +1,5 @@
 // The calls of the C interface on the plain-gate profile.
-// Kept (together): each call has the parameters of its C function, which lends every buffer apart; the circuit and the limits become a `Circuit` and `Limits` at once.
+// Kept (twins, together): as in c_circuits.
 #![tactic(auto)]
 
 ghost use Rattle.std.specs.Prelude.{◌≡◌};
@@ -39,7 +39,6 @@ pub fn plain_channel(
     report(&v, index)
 }
 
-// Kept: a twin of the verdicts of c_circuits and c_pauli, with which it shares `read_limits` and `report`; what is left is the call.
 // The verdict alone, for buffers of so many words: its number, and its index in `index`.
 pub fn plain_verdict(
     qubits: u32,

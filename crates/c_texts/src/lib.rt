@@ -24,15 +24,13 @@ use cells::CELL;
 use channel::compare::Difference;
 use judge_texts::Answer;
 use text::page::Writer;
-
-// The number of the refusal of a room that is too small.
-const SHORT: u32 = 8;
+use verdict::Refusal;
 
 fn answer_number(a: Answer) -> u32
     ensures { result ≡ answer_number a }
 {
     match a {
-        Answer::NoRoom => SHORT,
+        Answer::NoRoom => Refusal::ShortBuffer.number(),
         Answer::Left(_) => LEFT_REFUSED,
         Answer::Right(_) => RIGHT_REFUSED,
         Answer::Compared(found) => finding_number(&found),

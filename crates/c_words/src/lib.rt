@@ -1,4 +1,5 @@
 // What the calls of the C interface share: replies, scalars as five words, and a verdict's number with its index.
+// Kept (by-hand): five words with a bad exponent read as too high are the C interface's, of which crate scalar knows nothing; From could stand there alone, since neither arrays nor Scalar are types of this crate.
 #![tactic(auto)]
 
 ghost use Rattle.std.specs.Prelude.{◌≡◌};
@@ -14,6 +15,7 @@ use verdict::Refusal;
 
 pub mod replies;
 
+// Kept: the calls of `scalar` refuse such an exponent themselves; and C's `number_text` refuses nothing; an Option here would be a second place of that refusal, and unwrapped there.
 // A word that is no exponent is read as one above the highest.
 fn read_exponent(e: i64) -> u32
     ensures { result ≡ exponent_of e }

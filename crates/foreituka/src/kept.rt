@@ -1,5 +1,5 @@
 // Circuits that are kept with their counts.
-// Kept (twins, together): the names and the parameters are those of include/foreituka.h.
+// Kept (together): the names and the parameters are those of include/foreituka.h.
 ghost use Rattle.std.specs.Prelude.{◌≡◌};
 ghost use Rattle.verdict.specs.Verdict.{verdict_number, verdict_index};
 ghost use Rattle.gate.specs.Gate.{gate_at};

@@ -1,5 +1,5 @@
 // equivalent_up_to_global_phase.
-// Kept (twins, together): the names and the parameters are those of include/foreituka.h.
+// Kept (together): the names and the parameters are those of include/foreituka.h.
 ghost use Rattle.std.specs.Prelude.{◌≡◌};
 ghost use Rattle.matrix.specs.Phase.{phase_answer};
 ghost use Rattle.c_matrices.specs.Matrices.{phase_number};

@@ -1,5 +1,5 @@
 // judge_schedule.
-// Kept (twins, together): the names and the parameters are those of include/foreituka.h.
+// Kept (together): the names and the parameters are those of include/foreituka.h.
 ghost use Rattle.std.specs.Prelude.{◌≡◌};
 ghost use Rattle.verdict.specs.Verdict.{verdict_number, verdict_index};
 ghost use Rattle.schedule.specs.Questions.{schedule_verdict};

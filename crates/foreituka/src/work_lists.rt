@@ -1,5 +1,5 @@
 // compare_list.
-// Kept (twins, together): the names and the parameters are those of include/foreituka.h.
+// Kept (together): the names and the parameters are those of include/foreituka.h.
 ghost use Rattle.std.specs.Prelude.{◌≡◌};
 ghost use Rattle.std.specs.Result.{result_unwrap_or};
 ghost use Rattle.verdict.specs.Verdict.{verdict_number, verdict_index};

@@ -1,6 +1,6 @@
 // Judges pairs of texts. Standard input: how many pairs there are, then for each how many initial bits are given and these bits, the left text and the right one, each with
 // its length on a line before it and a newline behind it. Each answer goes to standard output, with a line of dashes behind it.
-// Kept (buffers): a text with a place in it, as the readers of replay take it; each hands out where the next line begins.
+// Kept (buffers): the places in the text are those of crate replay, which says why; `turn` hands out where the next pair begins.
 #![tactic(auto)]
 
 use circuit::limits::Limits;

@@ -21,11 +21,13 @@ unfoldable pub placed : List ℕ → ℕ → ℕ → List ℤ → Filled ℤ
 placed t zero at l = filled l at
 placed t (suc n) at l = placed t n (word_no t at 1).next (set l (word_no t at 0).size (word_no t at 1).value)
 
--- a length, of which as much is kept as there is room, and a count of words that are not 0
+-- a length, and a count of words that are not 0: all places of the room, the others 0
+abbrev pub all_placed : List ℕ → ℕ → ℕ → Filled ℤ
+all_placed t at room = placed t (word_no t at 1).size (word_no t at 1).next (replicate room (pos 0))
+
+-- of these so many from the start on as the length says, or as there are
 abbrev pub placed_at : List ℕ → ℕ → ℕ → Filled ℤ
-placed_at t at room =
-    let all = placed t (word_no t at 1).size (word_no t at 1).next (replicate room (pos 0)) in
-    filled (take (min (word_no t at 0).size room) all.words) all.next
+placed_at t at room = let all = all_placed t at room in filled (take (min (word_no t at 0).size room) all.words) all.next
 
 -- ---- numbers one after the other, of each of which `low` keeps what fits
 module _ {A : Type 0} (low : ℕ → A) (t : List ℕ) where

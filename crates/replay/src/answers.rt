@@ -1,5 +1,6 @@
 // What each call answered, held against the record.
-// Kept (together): a record that held its text would borrow it, and what is counted of a record, which outlives the text, would be a second struct.
+// Kept (together): a record that held its text would borrow it, and so would what a case answers; the clauses, which name a text and a record apart, would have the text in each record.
+// Kept (kinds): the text has numbers for what a call answered, and these matches write them; nothing reads them back.
 ghost use Rattle.std.specs.Prelude.{◌≡◌};
 ghost use Rattle.replay.specs.Answers.{with_answer, phase_number, with_phase, with_verdict, with_call, with_effects, finding_numbers, found_left, found_right, with_comparison, with_part};
 
@@ -94,6 +95,7 @@ fn found_left(answer: Result<Comparison, Refusal>) -> Scalar
 }
 
 // The right one.
+// Kept: one function of both scalars would answer a pair, to be taken apart by its one caller.
 fn found_right(answer: Result<Comparison, Refusal>) -> Scalar
     ensures { result ≡ found_right answer }
 {

@@ -1,4 +1,6 @@
 // Calls that cases of several kinds make, with their answers held against the record.
+// Kept (together): a record and its text, as in answers.rt.
+// Kept (twins): two calls of one type; a function of both would take a closure, with a contract of what it writes for every channel and buffer, for three lines.
 ghost use Rattle.std.specs.Prelude.{◌≡◌};
 ghost use Rattle.channel.specs.Compare.{compare_of};
 ghost use Rattle.replay.specs.Answers.{with_comparison, with_blocks, with_povm};

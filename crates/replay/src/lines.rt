@@ -1,5 +1,5 @@
 // A line that the text itself measures: how many bytes it has, then the bytes and a newline.
-// Kept (buffers): a place in the text, as in words.rt.
+// Kept (buffers, twins): a place in the text, and a value with the next one, as in words.rt.
 ghost use Rattle.std.specs.Prelude.{◌≡◌};
 ghost use Rattle.replay.specs.Lines.{line_bytes, behind_line};
 

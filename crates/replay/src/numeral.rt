@@ -1,6 +1,6 @@
 // Decimal numbers in a text, each ended by a space, a newline or the text's end.
 // Kept (buffers): a place in the text, as in words.rt.
-// Kept (twins): `low` and `size` turn a number of each type both ways; each body is the one expression of its type.
+// Kept (twins): `low` and `size` turn a number of each type both ways; in the trait they are heads alone, and each body is the one expression of its type; `low` keeps the low bits of what does not fit, where TryFrom refuses.
 ghost use Rattle.std.specs.Prelude.{◌≡◌, ℕ};
 ghost use Rattle.replay.specs.Numerals.{with_byte, signed, word_of, word_at, low_byte, low_word};
 

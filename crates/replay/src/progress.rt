@@ -1,5 +1,5 @@
 // A replay under way: cases one after the other, counted by kind.
-// Kept (kinds): a kind is printed as the text has it, also where no case has that number; `Cases::of` turns it into the program's own enum, once for each case.
+// Kept (kinds): a kind is printed as the text has it, also where no case has that number; `Cases::of` turns it into the program's own type of cases, once for each case.
 // Kept (buffers): a place in the text, as in words.rt.
 // Kept (twins): `of` and `replay` of `Cases` are heads alone, whose bodies are the programs'.
 ghost use Rattle.std.specs.Prelude.{◌≡◌, List, ℕ, Some, length, take, IfOk, IfSome};
@@ -45,12 +45,13 @@ pub fn read_heading(text: &[u8], at: usize) -> Heading
     let source = read(text, kind.next);
     Heading {
         kind: kind.size,
-        source: Source::of(source.size),
+        source: Source::from(source.size),
         next: source.next,
     }
 }
 
 // The kind of the last case, what was counted of its kind, and where the next case begins.
+// Kept: before the first case the kind is 0 and the tally is empty, of which nothing is printed, whatever the kind; an Option would be asked where nothing depends on it.
 #[derive(Clone, Copy)]
 pub struct Progress {
     kind: u64,

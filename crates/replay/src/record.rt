@@ -17,11 +17,10 @@ pub enum Source {
     Document,
 }
 
-impl Source {
-    // The source of this number.
-    pub fn of(number: u64) -> Source
-        ensures { result ≡ source_of number }
-    {
+impl From<u64> for Source {
+    ghost from_gives = { λ number source. source ≡ source_of number };
+
+    fn from(number: u64) -> Source {
         match number {
             0 => Source::Rust,
             _ => Source::Document,

@@ -1,5 +1,5 @@
 // Scalars of a text.
-// Kept (buffers): a place in the text, as in words.rt.
+// Kept (buffers, twins): a place in the text, and a value with the next one, as in words.rt.
 ghost use Rattle.std.specs.Prelude.{◌≡◌};
 ghost use Rattle.replay.specs.Record.{scalar_at};
 

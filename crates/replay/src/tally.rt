@@ -8,6 +8,7 @@ use crate::record::{Record, Source};
 use std::fmt;
 
 // All cases; those that agree, by where the record comes from; those that do not, and the number of the first of these, from 1; the numbers compared.
+// Kept: `first` is 0 while `disagree` is, which is asked before it is printed; with an Option both would say whether a case disagrees.
 #[derive(Clone, Copy, Default)]
 pub struct Tally {
     cases: u64,

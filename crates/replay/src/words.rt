@@ -1,14 +1,17 @@
 // Words and bytes read into lent slices, and the contents that lent words have before a call.
-// Kept (buffers): a place in the text is what each reader hands to the next one; with the part of the text that is left in its place, each answer would borrow the text, and all that is said by places would have to be said of parts.
-ghost use Rattle.std.specs.Prelude.{◌≡◌, min, length, set};
-ghost use Rattle.replay.specs.Words.{marked, placed_at, numbers_at};
+// Kept (buffers): a place in the text is what each reader hands to the next one. With the part that is left in its place, each answer would borrow the text, and all that is said by places would have to be
+// said of parts; a cursor would be changed by each read, and a clause that now is one definition of a text and a place would name it before and after.
+// Kept (twins): Line, ScalarRead and Bounds of replay_circuits are each a value with the next place; one struct of any T would say `value` for bytes and limits, too.
+ghost use Rattle.std.specs.Prelude.{◌≡◌, ◌+◌, min, length, drop, set};
+ghost use Rattle.replay.specs.Words.{marked, all_placed, placed_at, numbers_at};
 
 use crate::numeral::{Number, read};
 
-// What was read into a slice, and where the next number of the text begins.
+// What was read into a slice, what stands behind it there, and where the next number of the text begins.
 #[derive(Clone, Copy)]
 pub struct Part<'a, T> {
     pub words: &'a [T],
+    pub rest: &'a [T],
     pub next: usize,
 }
 
@@ -23,12 +26,13 @@ pub fn fitting(count: u64, most: usize) -> usize
 pub fn mark(buf: &mut [i64])
     ensures { buf.new ≡ marked buf.old }
 {
-    for i in 0..buf.len() {
-        buf[i] = (i % 997 + 1) as i64;
+    for (i, word) in buf.iter_mut().enumerate() {
+        *word = (i % 997 + 1) as i64;
     }
 }
 
 // A place behind the end is passed over.
+// Kept: qasm::steps has the same of u32; a function of both would be a generic public one in a crate below, for an `if` and a store.
 fn put(buf: &mut [i64], place: u64, value: i64)
     ensures { buf.new ≡ set buf.old place value }
 {
@@ -40,6 +44,8 @@ fn put(buf: &mut [i64], place: u64, value: i64)
 // A length; how many words of the text are not 0, and place and value of each. The others are 0.
 pub fn read_words<'a>(text: &[u8], at: usize, buf: &'a mut [i64]) -> Part<'a, i64>
     ensures words { result.words.now ≡ (placed_at text.now at (length buf.old)).words }
+    ensures rest { result.rest.now ≡ drop (length result.words.now) (all_placed text.now at (length buf.old)).words }
+    ensures room { length result.words.now + length result.rest.now ≡ length buf.old }
     ensures next { result.next ≡ (placed_at text.now at (length buf.old)).next }
 {
     let length = read(text, at);
@@ -52,28 +58,25 @@ pub fn read_words<'a>(text: &[u8], at: usize, buf: &'a mut [i64]) -> Part<'a, i6
         next = word.next;
         put(buf, place.size, word.value);
     }
-    let len = fitting(length.size, buf.len());
-    Part {
-        words: &buf[..len],
-        next,
-    }
+    let (words, rest) = buf.split_at(fitting(length.size, buf.len()));
+    Part { words, rest, next }
 }
 
 // A count, then as many numbers, of which those are kept for which there is room, each as far as it fits.
 pub fn read_numbers<'a, T: Number>(text: &[u8], at: usize, buf: &'a mut [T]) -> Part<'a, T>
     ensures words { result.words.now ≡ (numbers_at T.low_of text.now at (length buf.old)).words }
+    ensures rest { result.rest.now ≡ drop (length result.words.now) buf.old }
+    ensures room { length result.words.now + length result.rest.now ≡ length buf.old }
     ensures next { result.next ≡ (numbers_at T.low_of text.now at (length buf.old)).next }
 {
     let count = read(text, at);
     let len = fitting(count.size, buf.len());
+    let (words, rest) = buf.split_at_mut(len);
     let mut next = count.next;
-    for i in 0..len {
+    for kept in words.iter_mut() {
         let word = read(text, next);
         next = word.next;
-        buf[i] = T::low(word.size);
+        *kept = T::low(word.size);
     }
-    Part {
-        words: &buf[..len],
-        next,
-    }
+    Part { words, rest, next }
 }

@@ -1,7 +1,7 @@
 // Cases of one circuit: circuit_unitary, circuit_channel with classical_blocks of its result, layered_channel and plain_channel.
 // Kept (buffers): the places in the text are those of crate replay, which says why.
-// Kept (switches): the four calls have parameters of their own; closures for them would be built by the same match.
-// Kept (together): a text and a place are what each reader takes; the buffers are lent to be written, and a struct of them would have its last values named by their nesting.
+// Kept (switches): circuit_unitary takes no store and layered_channel the ends too; the other two take the same. Closures of one type for all four would be built by the same match.
+// Kept (together): a text, a place and lent buffers, as in reading.rt; a record and its text, as in replay::answers.
 ghost use Rattle.std.specs.Prelude.{◌≡◌, take};
 ghost use Rattle.replay.specs.Answers.{with_blocks};
 ghost use Rattle.replay.specs.Words.{marked};

@@ -1,6 +1,6 @@
 // Cases of two circuits, whose channels are compared.
 // Kept (buffers): the places in the text are those of crate replay, which says why.
-// Kept (together): a text and a place are what each reader takes; the buffers are lent to be written, and a struct of them would have its last values named by their nesting.
+// Kept (together): a text, a place and lent buffers, as in reading.rt.
 ghost use Rattle.std.specs.Prelude.{◌≡◌};
 ghost use Rattle.replay_circuits.specs.Given.{given};
 ghost use Rattle.replay_circuits.specs.Cases.{channel_of, work_of, compare_case};

@@ -1,6 +1,7 @@
 // The cases of circuits.
 // Kept (buffers): the places in the text are those of crate replay, which says why.
 // Kept (kinds, switches): the numbers of the text are read here and nowhere else, and each case is a call of its own.
+// Kept (twins): `of` in replay_words is a match on a number as well, with numbers and an enum of its own.
 use crate::circuits::circuit_case;
 use crate::compared::compare_case;
 use crate::listings::listing_case;
@@ -14,6 +15,23 @@ pub enum Call {
     Layered,
     Plain,
     Channel,
+}
+
+// Kinds that no other call has are those of circuit_channel.
+impl From<u64> for Call {
+    ghost use Rattle.std.specs.Prelude.{◌≡◌};
+    ghost use Rattle.replay_circuits.specs.Kinds.{call_of};
+
+    ghost from_gives = { λ kind call. call ≡ call_of kind };
+
+    fn from(kind: u64) -> Call {
+        match kind {
+            2 => Call::Unitary,
+            7 => Call::Layered,
+            23 => Call::Plain,
+            _ => Call::Channel,
+        }
+    }
 }
 
 // A call on one circuit, the comparison of two circuits' channels, or the listing of a text.
@@ -34,12 +52,9 @@ impl Cases for CircuitCase {
 
     fn of(kind: u64) -> CircuitCase {
         match kind {
-            2 => CircuitCase::One(Call::Unitary),
             4 => CircuitCase::Compared,
             6 => CircuitCase::Listed,
-            7 => CircuitCase::One(Call::Layered),
-            23 => CircuitCase::One(Call::Plain),
-            _ => CircuitCase::One(Call::Channel),
+            _ => CircuitCase::One(Call::from(kind)),
         }
     }
 

@@ -1,5 +1,5 @@
 // Cases of the program that lists a channel.
-// Kept (buffers): the places in the text are those of crate replay, which says why.
+// Kept (buffers): the places in the text are those of crate replay, which says why; `count` is compared as a number too, and stands beside the page as `list` answers it.
 ghost use Rattle.std.specs.Prelude.{◌≡◌};
 ghost use Rattle.text.specs.Page.{page};
 ghost use Rattle.replay.specs.Record.{begun};

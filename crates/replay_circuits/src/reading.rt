@@ -1,7 +1,8 @@
 // A circuit of the text.
 // Kept (buffers): the places in the text are those of crate replay, which says why.
 // Kept (together): a text and a place are what each reader takes; the buffers are lent to be written, and a struct of them would have its last values named by their nesting.
-ghost use Rattle.std.specs.Prelude.{◌≡◌, length};
+// Kept (twins): Bounds, a value with the next place, as in replay::words.
+ghost use Rattle.std.specs.Prelude.{◌≡◌, ◌+◌, length, drop};
 ghost use Rattle.replay_circuits.specs.Given.{bounds_at, circuit_of, circuit_at, ends_at};
 
 use crate::kinds::Call;
@@ -55,11 +56,13 @@ fn read_limits(text: &[u8], at: usize) -> Bounds
     }
 }
 
-// A circuit with its limits, and where the next number begins.
+// A circuit with its limits, what stands behind its store and its gates in the slices that they were read into, and where the next number begins.
 #[derive(Clone, Copy)]
 pub struct CircuitRead<'a> {
     pub circuit: Circuit<'a>,
     pub limits: Limits,
+    pub behind_store: &'a [u8],
+    pub behind_gates: &'a [u32],
     pub next: usize,
 }
 
@@ -70,7 +73,11 @@ pub fn read_circuit<'a>(
     store: &'a mut [u8],
     words: &'a mut [u32],
 ) -> CircuitRead<'a>
-    ensures { circuit_of result ≡ circuit_at text.now at (length store.old) (length words.old) }
+    ensures circuit { circuit_of result ≡ circuit_at text.now at (length store.old) (length words.old) }
+    ensures store { result.behind_store.now ≡ drop (length result.circuit.store.now) store.old }
+    ensures store_room { length result.circuit.store.now + length result.behind_store.now ≡ length store.old }
+    ensures gates { result.behind_gates.now ≡ drop (length result.circuit.gates.now) words.old }
+    ensures gates_room { length result.circuit.gates.now + length result.behind_gates.now ≡ length words.old }
 {
     let bounds = read_limits(text, at);
     let n = read(text, bounds.next);
@@ -85,6 +92,8 @@ pub fn read_circuit<'a>(
             gates: part.words,
         },
         limits: bounds.limits,
+        behind_store: bytes.rest,
+        behind_gates: part.rest,
         next: part.next,
     }
 }
@@ -92,6 +101,8 @@ pub fn read_circuit<'a>(
 // The ends of a circuit's layers, if it has some.
 pub fn read_ends<'a>(call: Call, text: &[u8], at: usize, ends: &'a mut [u32]) -> Part<'a, u32>
     ensures ends { result.words.now ≡ (ends_at call text.now at (length ends.old)).words }
+    ensures rest { result.rest.now ≡ drop (length result.words.now) ends.old }
+    ensures room { length result.words.now + length result.rest.now ≡ length ends.old }
     ensures next { result.next ≡ (ends_at call text.now at (length ends.old)).next }
 {
     if call == Call::Layered {
@@ -99,6 +110,7 @@ pub fn read_ends<'a>(call: Call, text: &[u8], at: usize, ends: &'a mut [u32]) ->
     }
     Part {
         words: &[],
+        rest: ends,
         next: at,
     }
 }

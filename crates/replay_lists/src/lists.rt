@@ -1,6 +1,6 @@
 // Cases of compare_list.
 // Kept (buffers): the places in the text are those of crate replay, which says why.
-// Kept (together): the buffers are those that compare_list is lent one by one, which says why.
+// Kept (together): the buffers are those that compare_list is lent one by one; work_list::serving says why.
 ghost use Rattle.std.specs.Prelude.{◌≡◌};
 ghost use Rattle.replay_lists.specs.Cases.{with_reply, called, lent, list_case};
 

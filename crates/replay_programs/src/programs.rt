@@ -1,7 +1,7 @@
 // Cases of pauli_channel.
 // Kept (buffers): the places in the text are those of crate replay, which says why.
-// Kept (twins): replay_verdicts reads the same numbers for another call; a reader for both would stand in crate replay, and all that read numbers by it would lean on the crates of Pauli programs.
-// Kept (together): a text and a place are what each reader takes; the buffers are lent to be written, and a struct of them would have its last values named by their nesting.
+// Kept (twins): replay_verdicts reads the same numbers for another call; a reader for both would answer a program, two lengths and a place, with clauses on what stands behind three buffers, for seven reads.
+// Kept (together): a text, a place and lent buffers, as in replay_circuits::reading.
 ghost use Rattle.std.specs.Prelude.{◌≡◌};
 ghost use Rattle.replay_programs.specs.Cases.{called, answered, program_case};
 

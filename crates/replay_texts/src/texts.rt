@@ -1,6 +1,8 @@
 // Cases of texts: a circuit that is read from one, and one that is written.
 // Kept (buffers): the places in the text are those of crate replay, which says why.
 // Kept (together): the counts and the words, as `write_qasm` takes them.
+// Kept (kinds): how many words or bytes there are is a number of the reply, 0 for a refusal, and so many are compared; a match on the answer would say it again.
+// Kept (twins): reading and writing differ in the call, its answer and the type of what is compared; they share the record's own methods.
 ghost use Rattle.std.specs.Prelude.{◌≡◌};
 ghost use Rattle.replay.specs.Record.{begun};
 ghost use Rattle.replay_texts.specs.Texts.{reading_numbers, writing_numbers, with_reading, with_read, read_case, with_writing, with_written, write_case};

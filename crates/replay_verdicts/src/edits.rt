@@ -32,6 +32,7 @@ enum Edit {
 }
 
 // The edit of this number; a start takes the gate's a and b as its counts.
+// Kept: From takes one value, and an edit is made of three.
 fn edit_of(which: u64, position: usize, gate: GateWords) -> Edit
     ensures { result ≡ edit_of which position gate }
 {

@@ -1,5 +1,6 @@
 // Cases of Pauli programs: their verdict.
 // Kept (buffers): the places in the text are those of crate replay, which says why.
+// Kept (twins): replay_programs reads the same numbers, and says why.
 ghost use Rattle.std.specs.Prelude.{◌≡◌};
 ghost use Rattle.replay_verdicts.specs.Programs.{program_case};
 

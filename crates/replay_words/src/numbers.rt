@@ -31,11 +31,10 @@ enum Call {
     Mul,
 }
 
-impl Call {
-    // The call of this number.
-    fn of(number: u64) -> Call
-        ensures { result ≡ call_of number }
-    {
+impl From<u64> for Call {
+    ghost from_gives = { λ number call. call ≡ call_of number };
+
+    fn from(number: u64) -> Call {
         match number {
             0 => Call::Integer,
             1 => Call::Zero,
@@ -49,7 +48,9 @@ impl Call {
             _ => Call::Mul,
         }
     }
+}
 
+impl Call {
     // What it answers; `first` is the size of x's first number.
     fn answer(self, first: u64, x: Scalar, y: Scalar) -> Result<Scalar, Refusal>
         ensures { result ≡ answered self first x y }
@@ -78,7 +79,7 @@ pub fn scalar_case(text: &[u8], at: usize) -> Record
     let first = read(text, call.next);
     let x = read_scalar(text, call.next);
     let y = read_scalar(text, x.next);
-    let a = Call::of(call.size).answer(first.size, x.value, y.value);
+    let a = Call::from(call.size).answer(first.size, x.value, y.value);
     check_answer(Record::begin(y.next), text, a)
 }
 

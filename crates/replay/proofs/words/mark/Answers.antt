@@ -9,7 +9,7 @@ use lib.IntN.{pos}
 use mir.Syntax.{w64}
 use mir.Val.{to_z}
 use mir.Facts.{to_z_pos}
-use Rattle.algebra.proofs.Blocks.{Writing, begin, again_word, done, long}
+use Rattle.algebra.proofs.Blocks.{Writing, begin, again_word, long}
 use Rattle.replay.proofs.words.mark.Goals as goal
 
 pub loop-i-init : goal.loop-i-init
@@ -22,6 +22,3 @@ loop-i-preserved c =
     let h : i % 997 + 1 < 2 ^ 63 = omega arith in
     subst (λ (j : ℕ). Writing 1 l₀ 0 (length l₀) (λ (k : ℕ). pos (k % 997 + 1) ∷ []) (set c.loop-i.buf j (to_z w64 (i % 997 + 1))) (i + 1)) (zero-add i)
     (again_word (λ k. pos (k % 997 + 1)) c.loop-i.invariant (omega (arith, long c.loop-i.invariant)) (to_z_pos w64 h))
-
-pub returns : goal.returns
-returns c = let w = c.loop-i.invariant in done w (omega (arith, long w))

@@ -1,22 +1,35 @@
 -- `words::read_numbers` meets its contract.
-use Rattle.std.proofs.Common.{arith, ap, sym, ◌∙◌, length, min}
-use Rattle.replay.specs.declared.numeral.Word.{Word}
-use Rattle.replay.specs.Words.{numbers}
+use Rattle.std.proofs.Common.{◌≡◌, arith, sym, ◌∙◌, length, min, take}
+use lib.Seq.{take_all}
+use Rattle.replay.specs.Words.{filled, numbers, numbers_at}
 use Rattle.replay.proofs.Filling.{none_yet, one_more, all_read}
 use Rattle.replay.proofs.words.read_numbers.Goals as goal
 
-pub loop-i-init : goal.loop-i-init
-loop-i-init g c = none_yet g.T.Number.low_of c.args.text.now c.read-count.result.next c.fitting-len.result c.args.buf.now (omega arith)
+pub loop-kept-init : goal.loop-kept-init
+loop-kept-init g c =
+    let words = c.split_at_mut-words.result.0.now in
+    none_yet g.T.Number.low_of c.args.text.now c.read-count.result.next (length words) words (omega arith)
 
-pub loop-i-preserved : goal.loop-i-preserved
-loop-i-preserved g c =
-    one_more g.T.Number.low_of c.args.text.now c.read-count.result.next c.fitting-len.result c.loop-i.invariant c.loop-i-test.true c.read-word.ensures c.low.ensures
+pub loop-kept-preserved : goal.loop-kept-preserved
+loop-kept-preserved g c =
+    one_more g.T.Number.low_of c.args.text.now c.read-count.result.next (length c.split_at_mut-words.result.0.now) c.loop-kept.invariant c.loop-kept-test.true c.read-word.ensures c.low.ensures
 
-pub returns : goal.returns
-returns g c =
+-- all that was read
+all : (g : _) (c : goal.After-loop-kept g) → filled c.loop-kept.words c.loop-kept.next ≡ numbers_at g.T.Number.low_of c.args.text.now c.args.at (length c.args.buf.now)
+all g c =
     let low = g.T.Number.low_of in
     let t = c.args.text.now in
-    let n = length c.args.buf.now in
-    let count = c.fitting-len.ensures ∙ ap (λ (w : Word). min w.size n) c.read-count.ensures in
-    let all = sym (all_read low t c.read-count.result.next c.fitting-len.result c.loop-i.invariant c.loop-i-test.false c.loop-i.auto.i-end) ∙ (λ i. numbers low t (count i) (c.read-count.ensures i).next) in
-    record { words = λ i. (all i).words; next = λ i. (all i).next }
+    let m = length c.args.buf.now in
+    let n = length c.split_at_mut-words.result.0.now in
+    let first = c.read-count.ensures in
+    let count = c.split_at_mut-words.ensures.front_len ∙ c.fitting-len.ensures ∙ (λ i. min (first i).size m) in
+    let whole : take n c.loop-kept.words ≡ c.loop-kept.words = take_all n c.loop-kept.words (omega arith) in
+    (λ i. filled (sym whole i) c.loop-kept.next)
+    ∙ sym (all_read low t c.read-count.result.next n c.loop-kept.invariant c.loop-kept-test.false c.loop-kept.auto.kept-index-end)
+    ∙ (λ i. numbers low t (count i) (first i).next)
+
+pub returns-clause-words : goal.returns-clause-words
+returns-clause-words g c = let e = all g c in λ i. (e i).words
+
+pub returns-clause-next : goal.returns-clause-next
+returns-clause-next g c = let e = all g c in λ i. (e i).next

@@ -1,14 +1,9 @@
 -- `words::read_words` meets its contract.
-use Rattle.std.proofs.Common.{◌≡◌, ◌-◌, ℕ, suc, ◌+◌, arith, rules, ap, sym, ◌∙◌, length, min, take, replicate, pos, set}
+use Rattle.std.proofs.Common.{◌≡◌, ◌-◌, suc, ◌+◌, arith, rules, ap, sym, ◌∙◌, length, min, take, drop, replicate, pos, set}
 use Rattle.replay.specs.Words.{placed}
 use Rattle.replay.proofs.Reading.{a_word, following}
 use Rattle.replay.proofs.Filling.{placed_end, placed-more}
 use Rattle.replay.proofs.words.read_words.Goals as goal
-
-pub loop-i-init : goal.loop-i-init
-loop-i-init c =
-    let none_read : c.read-count.result.size ≡ c.read-count.result.size - 0 = omega arith in
-    ap (λ (k : ℕ). placed c.args.text.now k c.read-count.result.next c.fill.new.self) none_read
 
 pub loop-i-preserved : goal.loop-i-preserved
 loop-i-preserved c =
@@ -30,5 +25,11 @@ returns c =
     let all =
     sym (c.loop-i.invariant ∙ placed_end t (c.read-count.result.size - c.loop-i._i) c.loop-i.next c.loop-i.buf (omega arith))
     ∙ (λ i. placed t (count i).size (count i).next (zeros i)) in
-    let len = c.fitting-len.ensures ∙ (λ i. min (first i).size (same i)) in
-    record { words = λ i. take (len i) (all i).words; next = λ i. (all i).next }
+    let len = c.fitting.ensures ∙ (λ i. min (first i).size (same i)) in
+    let front = c.split_at.ensures.front_len in
+    record {
+      words = c.split_at.ensures.front ∙ (λ i. take (len i) (all i).words);
+      rest = c.split_at.ensures.back ∙ (λ i. drop (sym front i) (all i).words);
+      room = omega arith;
+      next = λ i. (all i).next;
+    }
