@@ -1,4 +1,4 @@
-//! Times the Rust, the archive and the plain C version on the same circuits; checks first that all words agree.
+//! Times the Rust, the archive and the plain C version on the same circuits and Pauli programs; checks first that all words agree.
 #![allow(dead_code, unused_imports, unused_variables)]
 mod angle;
 mod calls;
@@ -12,7 +12,9 @@ mod symbolic_angle;
 
 use calls::kind::{CCX, CH, CNOT, CSWAP, CY, CZ, H, MEASURE, RESET, RZ, S, SDG, SWAP, T, TDG, X, Y, Z};
 use calls::{ARCHIVE, CEILINGS, Calls, PLAIN};
+use pbc::{Pauli, PauliAngle, PauliAxis, PauliRef, PbcCircuit, Phase};
 use rust::Words;
+use semantics::channel::{Channel, pbc_channel};
 use semantics::test_support::Scalar;
 use std::hint::black_box;
 use std::io::Write;
@@ -160,6 +162,107 @@ fn earlier() -> Option<&'static Calls> {
 fn earlier_rooms(w: &Words) -> (Vec<i64>, Vec<i64>) {
     let (result, work) = w.channel_sizes();
     (vec![0; 4 + 5 * result / 4], vec![0; work])
+}
+
+// ---- Pauli programs
+
+const PROGRAM: &str = "Pauli program, 24 rotations and a measure";
+
+type PauliChannel = unsafe extern "C" fn(u32, u32, *const u8, usize, *const u32, usize, *const u32, usize, *const u64, *mut i64, usize, *mut i64, usize, *mut u64) -> u32;
+
+unsafe extern "C" {
+    fn foreituka_pauli_channel(qubits: u32, bits: u32, store: *const u8, store_bytes: usize, nodes: *const u32, node_words: usize, operations: *const u32,
+        operation_words: usize, limits: *const u64, result: *mut i64, result_words: usize, work: *mut i64, work_words: usize, index: *mut u64) -> u32;
+    fn plain_pauli_channel(qubits: u32, bits: u32, store: *const u8, store_bytes: usize, nodes: *const u32, node_words: usize, operations: *const u32,
+        operation_words: usize, limits: *const u64, result: *mut i64, result_words: usize, work: *mut i64, work_words: usize, index: *mut u64) -> u32;
+}
+
+/// One bit, which is measured into.
+struct Program {
+    qubits: u32,
+    nodes: Vec<[u32; 5]>,
+    operations: Vec<[u32; 5]>,
+}
+
+/// Y of each qubit, and products of a Pauli of each qubit from 0 on; i times X times Z where there is one qubit. Rotations by odd eighths about all nodes in turn, each
+/// fourth about the negative of its node; a measure of the last node after half of them, and behind it each third rotation on its outcome.
+fn program(n: u32) -> Program {
+    let (x, z, y) = (|q: u32| 1 + 2 * q, |q: u32| 2 + 2 * q, |q: u32| 2 * n + 1 + q);
+    let mut nodes: Vec<[u32; 5]> = (0..n).map(|q| [2, q, 0, 0, 0]).collect();
+    for first in [x(0), z(0)] {
+        let mut last = first;
+        for q in 1..n {
+            nodes.push([4, last, 0, [z(q), y(q), x(q)][(first + q) as usize % 3], 0]);
+            last = 2 * n + nodes.len() as u32;
+        }
+    }
+    if n == 1 {
+        nodes.push([4, x(0), 1, z(0), 0]);
+    }
+    let count = 2 * n + nodes.len() as u32;
+    let mut operations: Vec<[u32; 5]> = (0..24).map(|i| {
+        let (axis, turns, eighths) = (1 + i % count, if i % 4 == 3 { 2 } else { 0 }, 1 + 2 * (i / 2 % 4));
+        [u32::from(i >= 12 && i % 3 == 0), axis, turns, eighths, 0]
+    }).collect();
+    operations.insert(12, [3, count, 0, 0, 0]);
+    Program { qubits: n, nodes, operations }
+}
+
+impl Program {
+    fn channel(&self, call: PauliChannel, result: &mut [i64], work: &mut [i64]) -> u32 {
+        let (nodes, operations, mut index) = (self.nodes.as_flattened(), self.operations.as_flattened(), 0);
+        let verdict = unsafe {
+            call(self.qubits, 1, [0].as_ptr(), 1, nodes.as_ptr(), nodes.len(), operations.as_ptr(), operations.len(), CEILINGS.as_ptr(), result.as_mut_ptr(), result.len(),
+                work.as_mut_ptr(), work.len(), &mut index)
+        };
+        black_box(&result);
+        verdict
+    }
+    /// The result and work words that are asked for: two stores, two branches, and all nodes.
+    fn sizes(&self) -> (usize, usize) {
+        let d = 1usize << self.qubits;
+        (rust::channel_words(d, 2), (2 * 2 + 1 + 2 * self.qubits as usize + self.nodes.len() + 2) * (5 * d * d + 3))
+    }
+    /// The Rust's own program.
+    fn circuit(&self) -> PbcCircuit {
+        let mut p = PbcCircuit::new(self.qubits as usize, 1);
+        let mut refs: Vec<PauliRef> = vec![p.identity().as_ref()];
+        refs.extend((0..self.qubits).flat_map(|q| [p.output_frame().x(q), p.output_frame().z(q)]));
+        let scaled = |r: PauliRef, turns: u32| r.scaled([Phase::One, Phase::I, Phase::MinusOne, Phase::MinusI][turns as usize]);
+        for w in &self.nodes {
+            let r = match w[0] {
+                2 => p.single(w[1], Pauli::Y).unwrap().as_ref(),
+                _ => p.product(scaled(refs[w[1] as usize], w[2]), scaled(refs[w[3] as usize], w[4])).unwrap(),
+            };
+            refs.push(r);
+        }
+        let mut outcomes = Vec::new();
+        for w in &self.operations {
+            let (axis, angle) = (PauliAxis(scaled(refs[w[1] as usize], w[2])), PauliAngle::new(w[3] as i64));
+            match w[0] {
+                0 => p.rotate(axis, angle).unwrap(),
+                1 => p.conditional_rotate(axis, angle, outcomes[w[4] as usize]).unwrap(),
+                _ => outcomes.push(p.measure(axis, Some(w[3])).unwrap()),
+            }
+        }
+        p
+    }
+    /// The channel's words by the archive and zeroed work words, after a check that plain C has the same words and the Rust the same blocks.
+    fn agreed(&self) -> (Vec<i64>, Vec<i64>) {
+        let (result_words, work_words) = self.sizes();
+        let [left, right] = [(foreituka_pauli_channel as PauliChannel, "the archive"), (plain_pauli_channel, "plain C")].map(|(call, name)| {
+            let (mut result, mut work) = (vec![-7; result_words], vec![-7; work_words]);
+            assert_eq!(self.channel(call, &mut result, &mut work), 0, "{name}: refused");
+            assert!(work.iter().all(|x| *x == 0), "{name}: work words are not zero");
+            result
+        });
+        assert!(left == right, "the archive and plain C differ");
+        if !asked("--no-rust") {
+            let rust = pbc_channel(&self.circuit(), &[false], rust::limits(&CEILINGS)).expect("the Rust refuses");
+            assert!(left == rust_words(&rust, &left), "the archive and the Rust differ");
+        }
+        (left, vec![0; work_words])
+    }
 }
 
 fn compare(calls: &Calls, left: &[i64], right: &[i64]) -> u32 {
@@ -311,12 +414,32 @@ fn measured(lines: &mut Vec<Line>, line: Line) {
     lines.push(line);
 }
 
+/// Qubits, line, entries.
+type Point = (u32, usize, f64);
+
+/// A point of the family that was measured last, or the first of another.
+fn growth_point(growth: &mut Vec<(&'static str, Vec<Point>)>, family: &'static str, point: Point) {
+    match growth.last_mut() {
+        Some((last, points)) if *last == family => points.push(point),
+        _ => growth.push((family, vec![point])),
+    }
+}
+
 /// One floor for each size: the least over all rows.
 fn settle_floors(lines: &mut [Line]) {
     let measured: Vec<(Floor, f64)> = lines.iter().map(|l| (l.of, l.floor)).collect();
     for line in lines {
         line.floor = measured.iter().filter(|(of, _)| *of == line.of).map(|(_, t)| *t).fold(line.floor, f64::min);
     }
+}
+
+/// The Rust's channel in words, its records in the order of these; the words behind them are −7.
+fn rust_words(rust: &Channel, words: &[i64]) -> Vec<i64> {
+    let size = rust::record_words(rust.quantum_dim * rust.quantum_dim);
+    let order: Vec<u64> = (0..words[2] as usize).map(|j| rust::HEADER + j * size).map(|at| words[at + 1] as u64 | (words[at + 2] as u64) << 32).collect();
+    let mut want = rust::layout(rust.quantum_dim, rust.num_cbits, &order, rust.blocks.iter()).expect("the Rust has other stores");
+    want.resize(words.len(), -7);
+    want
 }
 
 /// The channel's words by the archive, after a check that plain C has the same words and the Rust the same blocks.
@@ -334,11 +457,7 @@ fn agreed(w: &Words, ends: Option<&[u32]>) -> (Vec<i64>, Vec<i64>) {
         return (answers.swap_remove(0), vec![0; work_words]);
     }
     let rust = rust::circuit_channel(&w.circuit().unwrap(), &w.store, &CEILINGS).expect("the Rust refuses");
-    let size = rust::record_words(1 << (2 * w.qubits));
-    let order: Vec<u64> = (0..answers[0][2] as usize).map(|j| rust::HEADER + j * size).map(|at| answers[0][at + 1] as u64 | (answers[0][at + 2] as u64) << 32).collect();
-    let mut want = rust::layout(rust.quantum_dim, rust.num_cbits, &order, rust.blocks.iter()).expect("the Rust has other stores");
-    want.resize(result_words, -7);
-    assert!(answers[0] == want, "the archive and the Rust differ");
+    assert!(answers[0] == rust_words(&rust, &answers[0]), "the archive and the Rust differ");
     (answers.swap_remove(0), vec![0; work_words])
 }
 
@@ -494,7 +613,7 @@ fn main() {
     // 1,024 gates on different qubits: kind, qubits of a gate
     let full = [("1,024 x in one layer, refused", X, 1), ("1,024 ccx in one layer, refused", CCX, 3)];
     if let Some(o) = &only {
-        if !rows().iter().map(|r| r.family).chain(names).chain([omegas]).chain(TEXTS).chain(full.map(|f| f.0)).chain(schedules).chain(kept).chain([listed]).chain(forms).any(|n| n.contains(o.as_str()))
+        if !rows().iter().map(|r| r.family).chain(names).chain([omegas]).chain(TEXTS).chain(full.map(|f| f.0)).chain(schedules).chain(kept).chain([listed, PROGRAM]).chain(forms).any(|n| n.contains(o.as_str()))
             && !PAIRS.iter().any(|f| pair_name(f).contains(o.as_str()))
         {
             eprintln!("no circuit's name has the words {o:?}");
@@ -502,8 +621,7 @@ fn main() {
         }
     }
     let mut lines: Vec<Line> = Vec::new();
-    // qubits, line, entries
-    let mut growth: Vec<(&str, Vec<(u32, usize, f64)>)> = Vec::new();
+    let mut growth = Vec::new();
     let plain_bar = Bars { plain: Some(PLAIN_BAR), ..Bars::default() };
     for r in rows().iter().filter(|r| only.as_ref().is_none_or(|o| r.family.contains(o.as_str()))) {
         let (w, ends) = (&r.words, r.ends.as_deref());
@@ -524,15 +642,32 @@ fn main() {
         let c = w.circuit().unwrap();
         let rust = rust_median(most, rust_budget, || { black_box(rust::circuit_channel(&c, &w.store, &CEILINGS).is_ok()); });
         let units = (1u64 << (4 * w.qubits)) as f64 * (1u64 << w.splits().1) as f64;
-        match growth.last_mut() {
-            Some((family, points)) if *family == r.family => points.push((w.qubits, lines.len(), units)),
-            _ => growth.push((r.family, vec![(w.qubits, lines.len(), units)])),
-        }
+        growth_point(&mut growth, r.family, (w.qubits, lines.len(), units));
         let floor = (w.qubits == 4 && ["no gates", "GHZ"].contains(&r.family)).then_some(WRITING_BAR);
         let faster = if w.qubits == 4 && r.family == "deep, weight 48" { FASTER_BAR } else { BEFORE_BAR };
         let bars = Bars { rust: Some(if r.deep { DEEP_BAR } else { BAR }), floor, before: Some(faster), ..plain_bar };
         let before = if earlier().is_some() { t[5] } else { f64::NAN };
         measured(&mut lines, Line { name: format!("{} | {}", r.family, w.qubits), bars, rust, before, archive: t[0], plain: t[1], of: ("write", used), floor: t[2], copy: t[3], zeroing: t[4] });
+    }
+    for n in (1..=4).filter(|_| only.as_ref().is_none_or(|o| PROGRAM.contains(o.as_str()))) {
+        let p = program(n);
+        let (mut result, mut work) = p.agreed();
+        let used = rust::channel_words(1 << n, result[2] as usize);
+        let source = result.clone();
+        let (mut a, mut b) = (result.clone(), work.clone());
+        let (mut floor, mut copy, mut zeroed) = (result.clone(), result.clone(), work.clone());
+        let t = medians(samples, budget, &mut [
+            &mut || assert_eq!(p.channel(foreituka_pauli_channel, &mut result, &mut work), 0),
+            &mut || assert_eq!(p.channel(plain_pauli_channel, &mut a, &mut b), 0),
+            &mut || { black_box(&mut floor[..used]).fill(0); black_box(&floor); },
+            &mut || { black_box(&mut copy[..used]).copy_from_slice(&source[..used]); black_box(&copy); },
+            &mut || { black_box(&mut zeroed[..]).fill(0); black_box(&zeroed); },
+        ]);
+        assert!(result == a && a == source, "the archive and plain C leave other words");
+        let c = p.circuit();
+        let rust = rust_median(most, rust_budget, || { black_box(pbc_channel(&c, &[false], rust::limits(&CEILINGS)).is_ok()); });
+        growth_point(&mut growth, PROGRAM, (n, lines.len(), (2u64 << (4 * n)) as f64));
+        measured(&mut lines, Line { name: format!("{PROGRAM} | {n}"), bars: plain_bar, rust, before: f64::NAN, archive: t[0], plain: t[1], of: ("write", used), floor: t[2], copy: t[3], zeroing: t[4] });
     }
     // every pair of gates is asked before the limit on qubits is
     for (name, kind, used) in full.iter().filter(|f| only.as_ref().is_none_or(|o| f.0.contains(o.as_str()))) {
@@ -717,7 +852,7 @@ fn main() {
     println!("| circuit | n = 1 | 2 | 3 | 4 |\n|---|---|---|---|---|");
     let mut misses: Vec<String> = lines.iter().flat_map(|l| l.misses()).collect();
     for (family, points) in &growth {
-        let each = |p: &(u32, usize, f64), time: fn(&Line) -> f64| time(&lines[p.1]) / p.2;
+        let each = |p: &Point, time: fn(&Line) -> f64| time(&lines[p.1]) / p.2;
         let shown: Vec<String> = (1..=4).map(|n| points.iter().find(|p| p.0 == n).map_or("–".into(), |p| format!("{:.2}", each(p, |l| l.archive)))).collect();
         println!("| {family} | {} |", shown.join(" | "));
         for p in points.windows(2) {

@@ -33,14 +33,15 @@ static size_t used_by(void (*f)(void)) {
 
 static const uint64_t limits[6] = FOREITUKA_DEFAULT_LIMITS;
 static const uint8_t store[64];
-static uint32_t gates[5 * 1024];
-static size_t gate_words;
+static uint32_t gates[5 * 1024], nodes[5 * 1024], operations[5 * 1024], pairs[3 * (6 + 10 * 1024)];
+static size_t gate_words, node_words, operation_words, pair_words;
 static uint32_t qubits, bits;
 /* 3 qubits with 5 bits measured into make the largest channel, a little larger than 4 qubits with 1 */
 static int64_t left[FOREITUKA_CHANNEL_WORDS(3, 5)], right[FOREITUKA_CHANNEL_WORDS(3, 5)];
 static int64_t work[FOREITUKA_CHANNEL_WORK_WORDS(QUBITS, 6)], effects[FOREITUKA_EFFECTS_WORDS(QUBITS, 64)], less[FOREITUKA_PACKED_WORDS(3, 32)];
 static int64_t x[5] = {1, 1, 1, 1, 1}, y[5] = {3, -1, 5, 7, 2}, out[5], scalars[10];
-static uint64_t place[3], index_of;
+static uint64_t place[3], index_of, total, answers[3 * FOREITUKA_ANSWER_WORDS];
+static int64_t told[3 * FOREITUKA_ANSWER_SCALARS];
 static uint32_t reply;
 
 #define WORDS(b) (sizeof(b) / sizeof((b)[0]))
@@ -48,6 +49,22 @@ static uint32_t reply;
 static void nothing(void) {}
 static void channel(void) {
     reply = foreituka_circuit_channel(qubits, bits, store, bits, gates, gate_words, limits, left, WORDS(left), work, WORDS(work), &index_of);
+}
+static void plain_channel(void) {
+    reply = foreituka_plain_channel(qubits, bits, store, bits, gates, gate_words, limits, left, WORDS(left), work, WORDS(work), &index_of);
+}
+static void pauli_channel(void) {
+    reply = foreituka_pauli_channel(qubits, bits, store, bits, nodes, node_words, operations, operation_words, limits, left, WORDS(left), work,
+                                    WORDS(work), &index_of);
+}
+static void pauli_verdict(void) {
+    reply = foreituka_pauli_verdict(qubits, bits, store, bits, nodes, node_words, operations, operation_words, limits, WORDS(left), WORDS(work),
+                                    &index_of);
+}
+/* three pairs: of the same circuit, of one that differs, and of other dimensions */
+static void compare_list(void) {
+    reply = foreituka_compare_list(3, pairs, pair_words, store, 6 * (size_t)bits + 1, limits, UINT64_MAX, left, WORDS(left), right, WORDS(right), work,
+                                   WORDS(work), answers, WORDS(answers), told, WORDS(told), &total, &index_of);
 }
 /* in layers of one gate each */
 static void layered(void) {
@@ -87,14 +104,21 @@ static void scalar_calls(void) {
             foreituka_scalar_add(x, y, out) + foreituka_scalar_mul(x, y, out);
 }
 
-static void gate(uint32_t kind, uint32_t a, uint32_t b, uint32_t c) {
-    uint32_t g[5] = {kind, a, b, c, 0};
-    memcpy(gates + gate_words, g, sizeof g);
-    gate_words += 5;
+/* five words behind the others of a list */
+static void append(uint32_t *list, size_t *words, uint32_t kind, uint32_t a, uint32_t b, uint32_t c, uint32_t k) {
+    uint32_t g[5] = {kind, a, b, c, k};
+    memcpy(list + *words, g, sizeof g);
+    *words += 5;
 }
 
-/* every kind that fits n qubits, on every qubit, `splits` measures and resets, a weight of at most 56 */
-static void all_kinds(uint32_t n, int splits) {
+static void gate(uint32_t kind, uint32_t a, uint32_t b, uint32_t c) { append(gates, &gate_words, kind, a, b, c, 0); }
+
+static int outside(uint32_t kind) {
+    return kind == FOREITUKA_GATE_T || kind == FOREITUKA_GATE_TDG || kind == FOREITUKA_GATE_CH;
+}
+
+/* every kind that fits n qubits, or of those every one in the plain-gate profile, on every qubit, `splits` measures and resets, a weight of at most 56 */
+static void all_kinds(uint32_t n, int splits, int plain) {
     gate_words = 0;
     qubits = n;
     bits = splits ? 1 : 0;
@@ -103,11 +127,42 @@ static void all_kinds(uint32_t n, int splits) {
     static const uint32_t two[] = {FOREITUKA_GATE_CNOT, FOREITUKA_GATE_CZ, FOREITUKA_GATE_SWAP, FOREITUKA_GATE_CY, FOREITUKA_GATE_CH};
     static const uint32_t three[] = {FOREITUKA_GATE_CCX, FOREITUKA_GATE_CCZ, FOREITUKA_GATE_CSWAP};
     for (uint32_t q = 0; q < n; q++) {
-        for (size_t i = 0; i < WORDS(one); i++) gate(one[i], q, 0, 0);
-        for (size_t i = 0; n > 1 && i < WORDS(two); i++) gate(two[i], q, (q + 1) % n, 0);
-        for (size_t i = 0; n > 2 && i < WORDS(three); i++) gate(three[i], q, (q + 1) % n, (q + 2) % n);
+        for (size_t i = 0; i < WORDS(one); i++)
+            if (!plain || !outside(one[i])) gate(one[i], q, 0, 0);
+        for (size_t i = 0; n > 1 && i < WORDS(two); i++)
+            if (!plain || !outside(two[i])) gate(two[i], q, (q + 1) % n, 0);
+        for (size_t i = 0; n > 2 && !plain && i < WORDS(three); i++) gate(three[i], q, (q + 1) % n, (q + 2) % n);
     }
     for (int i = 0; n > 0 && i < splits; i++) gate(i % 2 ? FOREITUKA_GATE_RESET : FOREITUKA_GATE_MEASURE, (uint32_t)i % n, 0, 0);
+}
+
+/* the circuit beside itself, beside one with no gate, and beside one with a bit more */
+static void three_pairs(void) {
+    pair_words = 0;
+    for (uint32_t i = 0; i < 3; i++) {
+        uint32_t again = i == 0 ? (uint32_t)gate_words : 0, head[6] = {qubits, bits, (uint32_t)gate_words, qubits, bits + (i == 2), again};
+        memcpy(pairs + pair_words, head, sizeof head);
+        memcpy(pairs + pair_words + 6, gates, gate_words * sizeof *gates);
+        memcpy(pairs + pair_words + 6 + gate_words, gates, again * sizeof *gates);
+        pair_words += 6 + gate_words + again;
+    }
+}
+
+/* as many listed nodes as may be: every kind, and products of the latest. Rotations by all eighths about nodes of every form, `splits` measures, the
+ * first into a bit, and rotations on each outcome */
+static void every_operation(uint32_t n, uint32_t splits) {
+    qubits = n;
+    bits = splits ? 1 : 0;
+    node_words = operation_words = 0;
+    for (uint32_t q = 0; q < n; q++)
+        for (uint32_t p = FOREITUKA_NODE_I; p <= FOREITUKA_NODE_Z; p++) append(nodes, &node_words, p, q, 0, 0, 0);
+    uint32_t named = 2 * n + 1 + 4 * n + 1; /* the nodes before the products that no axis names, one of them a product */
+    append(nodes, &node_words, FOREITUKA_NODE_TIMES, n, 1, n, 3);
+    while (node_words < WORDS(nodes)) append(nodes, &node_words, FOREITUKA_NODE_TIMES, 2 * n + (uint32_t)node_words / 5, 0, n, 1);
+    for (uint32_t i = 0; i < 16; i++) append(operations, &operation_words, FOREITUKA_ROTATE, (5 * i + 1) % named, i / 4 % 2 * 2, i % 8, 0);
+    for (uint32_t i = 0; i < splits; i++)
+        append(operations, &operation_words, i ? FOREITUKA_MEASURE : FOREITUKA_MEASURE_INTO, (3 * i + 1) % named, i % 2 * 2, 0, 0);
+    for (uint32_t i = 0; splits && i < 8; i++) append(operations, &operation_words, FOREITUKA_ROTATE_IF, (7 * i + 2) % named, 0, i, i % splits);
 }
 
 static size_t most(size_t a, size_t b) { return a > b ? a : b; }
@@ -152,7 +207,19 @@ static void sizes(void) {
         }
         printf("\n");
     }
-    printf("| unitary |");
+    for (int measures = 0; measures <= 6; measures++) {
+        printf("| work of a Pauli program, %d measures |", measures);
+        for (int n = 0; n <= 5; n++) {
+            if (n == 5 || (n == 4 && measures == 6))
+                printf(" – |");
+            else
+                size(FOREITUKA_PAULI_WORK_WORDS(n, measures, n || measures ? 2 * n + 1 : 0));
+        }
+        printf("\n");
+    }
+    printf("| the same, each further node |");
+    for (int n = 0; n <= 4; n++) size(FOREITUKA_PAULI_WORK_WORDS(n, 0, 1) - FOREITUKA_PAULI_WORK_WORDS(n, 0, 0));
+    printf(" – |\n| unitary |");
     for (int n = 0; n <= 5; n++) size(FOREITUKA_UNITARY_WORDS(n));
     printf("\n| its work |");
     for (int n = 0; n <= 5; n++) size(FOREITUKA_UNITARY_WORK_WORDS(n));
@@ -211,15 +278,53 @@ static int exact(void) {
     return 0;
 }
 
+/* the same of Pauli programs, with no listed node and with three */
+static int exact_programs(void) {
+    for (uint32_t n = 0; n < FOREITUKA_MAX_QUBITS; n++)
+        for (uint32_t measures = 0; measures <= 6; measures++)
+            for (uint32_t written = measures ? 1 : 0; written <= measures; written++)
+                for (uint32_t listed = 0; listed <= 3; listed += 3) {
+                    size_t d = FOREITUKA_DIM(n), b = (size_t)1 << measures, v = (size_t)1 << written, known = n || measures ? 2 * n + 1 : 0;
+                    if (listed) known = 2 * n + 1 + listed;
+                    if (v * d * d * d * d + (3 * b + known + 8) * d * d > FOREITUKA_MAX_MATRIX_CELLS) continue;
+                    if ((2 * (measures + !!listed + 2 * n) * b + known) * d * d * d + b * d * d * d * d > FOREITUKA_MAX_MULTIPLY_TERMS) continue;
+                    node_words = operation_words = 0;
+                    for (uint32_t i = 0; i < listed; i++) append(nodes, &node_words, FOREITUKA_NODE_TIMES, 0, 0, 0, 0);
+                    if (listed) append(operations, &operation_words, FOREITUKA_ROTATE, 2 * n + listed, 0, 4, 0);
+                    for (uint32_t i = 0; i < measures; i++)
+                        append(operations, &operation_words, FOREITUKA_MEASURE_INTO, i % (2 * n + 1), 0, i < written ? i : 0, 0);
+                    size_t words = FOREITUKA_CHANNEL_WORDS(n, written), needed = FOREITUKA_PAULI_WORK_WORDS(n, measures, known);
+                    for (int fewer = 0; fewer < 4; fewer++) {
+                        uint64_t lent = words - (fewer & 1), spare = needed - (fewer >> 1);
+                        uint32_t due = fewer ? FOREITUKA_SHORT : FOREITUKA_ACCEPTED;
+                        reply = foreituka_pauli_verdict(n, written, store, written, nodes, node_words, operations, operation_words, limits, lent, spare, &index_of);
+                        if (reply != due) return 1;
+                        reply = foreituka_pauli_channel(n, written, store, written, nodes, node_words, operations, operation_words, limits, left, lent, work, spare,
+                                                        &index_of);
+                        if (reply != due) return 1;
+                    }
+                }
+    return 0;
+}
+
 /* in the order of the table */
-enum { CHANNEL, LAYERED, SCHEDULE, UNITARY, COMPARE, BLOCKS, POVM, PACK, UNPACK, WRITE_PLAIN, READ_PLAIN, LOOKUP, PHASE, SCALARS, CALLS };
+enum { CHANNEL, PLAIN, LAYERED, PAULI, PAULI_VERDICT, SCHEDULE, UNITARY, COMPARE, LIST, BLOCKS, POVM, PACK, UNPACK, WRITE_PLAIN, READ_PLAIN, LOOKUP, PHASE, SCALARS, CALLS };
 
 int main(void) {
-    if (exact()) return fprintf(stderr, "memory: a size of the header is not what the calls ask for; reply %u\n", reply), 1;
+    if (exact() || exact_programs()) return fprintf(stderr, "memory: a size of the header is not what the calls ask for; reply %u\n", reply), 1;
     size_t own = used_by(nothing), of[CALLS] = {0};
     for (uint32_t n = 0; n <= QUBITS; n++)
         for (int splits = 0; splits <= (n < 4 ? 4 : 2); splits++) {
-            all_kinds(n, splits);
+            all_kinds(n, splits, 0);
+            three_pairs();
+            of[LIST] = most(of[LIST], used_by(compare_list));
+            const uint64_t *second = answers + FOREITUKA_ANSWER_WORDS, *third = second + FOREITUKA_ANSWER_WORDS;
+            if (reply != FOREITUKA_ACCEPTED || answers[0] != FOREITUKA_SAME || second[0] != (n ? FOREITUKA_ENTRY : FOREITUKA_SAME) || third[0] != FOREITUKA_DIMENSIONS)
+                return fprintf(stderr, "memory: another answer to a list at %u qubits\n", n), 1;
+            every_operation(n, (uint32_t)splits);
+            of[PAULI_VERDICT] = most(of[PAULI_VERDICT], used_by(pauli_verdict));
+            of[PAULI] = most(of[PAULI], used_by(pauli_channel));
+            if (reply != FOREITUKA_ACCEPTED) return fprintf(stderr, "memory: a program refused %u at %u qubits\n", reply, n), 1;
             of[CHANNEL] = most(of[CHANNEL], used_by(channel));
             if (reply != FOREITUKA_ACCEPTED) return fprintf(stderr, "memory: refused %u at %u qubits\n", reply, n), 1;
             of[LAYERED] = most(of[LAYERED], used_by(layered));
@@ -237,6 +342,9 @@ int main(void) {
             of[PACK] = most(of[PACK], used_by(pack));
             of[UNPACK] = most(of[UNPACK], used_by(unpack));
             if (reply != FOREITUKA_ACCEPTED) return fprintf(stderr, "memory: packed and refused %u at %u qubits\n", reply, n), 1;
+            all_kinds(n, splits, 1);
+            of[PLAIN] = most(of[PLAIN], used_by(plain_channel));
+            if (reply != FOREITUKA_ACCEPTED) return fprintf(stderr, "memory: the profile refused %u at %u qubits\n", reply, n), 1;
             gate_words = 0; /* channels without √2 parts */
             for (int i = 0; n > 0 && i < splits; i++) gate(FOREITUKA_GATE_MEASURE, (uint32_t)i % n, 0, 0);
             channel();
@@ -245,7 +353,7 @@ int main(void) {
             if (reply != FOREITUKA_ACCEPTED) return fprintf(stderr, "memory: written and refused %u at %u qubits\n", reply, n), 1;
         }
     for (uint32_t n = 0; n <= FOREITUKA_MAX_QUBITS; n++) {
-        all_kinds(n, 0);
+        all_kinds(n, 0, 0);
         of[UNITARY] = most(of[UNITARY], used_by(unitary));
         if (reply != FOREITUKA_ACCEPTED) return fprintf(stderr, "memory: unitary refused %u at %u qubits\n", reply, n), 1;
         memcpy(right, left, sizeof left);
@@ -258,8 +366,8 @@ int main(void) {
     for (uint32_t i = 0; i < 1024; i++) gate(FOREITUKA_GATE_CCX, 3 * i, 3 * i + 1, 3 * i + 2);
     of[SCHEDULE] = used_by(schedule);
     if (reply != FOREITUKA_ACCEPTED) return fprintf(stderr, "memory: schedule refused %u\n", reply), 1;
-    static const char *names[CALLS] = {"circuit_channel", "layered_channel", "judge_schedule", "circuit_unitary", "compare", "classical_blocks", "povm_effects", "pack_channel", "unpack_channel", "write_plain",
-                                       "read_plain", "lookup",
+    static const char *names[CALLS] = {"circuit_channel", "plain_channel", "layered_channel", "pauli_channel", "pauli_verdict", "judge_schedule", "circuit_unitary", "compare",
+                                       "compare_list", "classical_blocks", "povm_effects", "pack_channel", "unpack_channel", "write_plain", "read_plain", "lookup",
                                        "equivalent_up_to_global_phase", "scalar calls"};
     sizes();
     printf("\n| call | stack, bytes |\n|---|---|\n");

@@ -960,7 +960,7 @@ fn work_lists(i: u64, rng: &mut Rng) -> Case {
 
 pub fn sets() -> Vec<Set> {
     let (one, two) = (one_qubit_gates().len(), two_qubit_gates().len());
-    let all = vec![
+    vec![
         Set { name: "one-qubit", about: "all circuits of up to 3 gates on one qubit", count: up_to(3, one), quick: up_to(2, one), case: all_one_qubit },
         Set { name: "two-qubit", about: "all circuits of up to 2 gates on two qubits", count: up_to(2, two), quick: up_to(1, two), case: all_two_qubit },
         Set { name: "one-qubit-unitaries", about: "the same, as unitaries", count: up_to(3, one), quick: up_to(2, one), case: all_one_qubit_unitaries },
@@ -986,13 +986,12 @@ pub fn sets() -> Vec<Set> {
         Set { name: "programs-deep", about: "Pauli programs with products hundreds deep", count: 200, quick: 12, case: programs::deep },
         Set { name: "programs-heavy", about: "Pauli programs of weights 48 to 59", count: 1000, quick: 30, case: programs::heavy },
         Set { name: "programs-faulty", about: "Pauli programs with faults of every kind", count: 30000, quick: 1000, case: programs::faulty },
+        Set { name: "programs-as-circuits", about: "Pauli programs that do what a circuit does, compared with it", count: 3000, quick: 200, case: programs::as_circuits },
         Set { name: "work-list", about: "lists of pairs under an allowance", count: 6000, quick: 300, case: work_lists },
         Set { name: "damaged", about: "channels with words damaged, blocks of zeros and blocks at other exponents", count: 20000, quick: 600, case: damaged },
         Set { name: "packed", about: "channels packed and unpacked, as delivered and damaged", count: 20000, quick: 1000, case: packed::packed },
         Set { name: "plain-words", about: "channels written and read without √2 parts, as delivered and damaged", count: 20000, quick: 1000, case: packed::plain },
         Set { name: "phases", about: "phase tests, both orders", count: 8000, quick: 300, case: phases },
         Set { name: "scalars", about: "scalar calls at the ranges' ends", count: 100000, quick: 3000, case: scalars },
-    ];
-    // plain C has no Pauli programs
-    all.into_iter().filter(|s| !(cfg!(plain_only) && s.name.starts_with("programs"))).collect()
+    ]
 }

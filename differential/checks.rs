@@ -829,7 +829,7 @@ fn work_list(list: List, counts: &mut Counts) -> Fault {
     same("compare_list", &got, &list_due(list)?, "the rule of lists")
 }
 
-fn compare_call(calls: &Calls, left: &[i64], right: &[i64]) -> Result<(u32, [u64; 3], [i64; 10]), String> {
+pub fn compare_call(calls: &Calls, left: &[i64], right: &[i64]) -> Result<(u32, [u64; 3], [i64; 10]), String> {
     let mut rng = Rng(left.len() as u64);
     let (left, right) = (Lent::holding(&mut rng, left), Lent::holding(&mut rng, right));
     let (mut place, mut scalars) = (Lent::<u64>::noise(&mut rng, 3), Lent::<i64>::noise(&mut rng, 10));

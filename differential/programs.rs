@@ -1,15 +1,14 @@
 //! Pauli programs: the archive's verdict and channel, the questions of document 02 written anew with Paulis qubit by qubit, and the Rust's pbc_channel.
-use crate::calls::CEILINGS;
+use crate::calls::{ARCHIVE, CEILINGS};
 use crate::checks::{Case, Counts, MAX_WEIGHT, lengths, same};
 use crate::lent::{Lent, Rng};
 use crate::pbc::{Pauli, PauliAngle, PauliAxis, PauliRef, PbcCircuit, Phase};
-use crate::rust;
+use crate::rust::{self, Words};
 use crate::semantics::Error;
 use crate::semantics::channel::{Channel, pbc_channel};
 use std::collections::HashSet;
 
 unsafe extern "C" {
-    #[cfg(not(plain_only))]
     fn foreituka_pauli_verdict(qubits: u32, bits: u32, store: *const u8, store_bytes: usize, nodes: *const u32, node_words: usize, operations: *const u32,
         operation_words: usize, limits: *const u64, result_words: usize, work_words: usize, index: *mut u64) -> u32;
     #[cfg(pauli_channel)]
@@ -190,6 +189,20 @@ impl Program {
         }
         p
     }
+    /// The circuit that does the same, of rotations about Z by eighths, half turns about X, and measures of Z with a bit.
+    fn as_circuit(&self) -> Option<Words> {
+        let mut gates = Vec::new();
+        for w in self.operations.chunks_exact(5) {
+            let q = w[1].checked_sub(1).filter(|q| *q < 2 * self.qubits && w[2] == 0)? / 2;
+            gates.extend(match (w[0], w[1] % 2 == 0) {
+                (ROTATE, true) => [7, q, 0, 0, w[3]],
+                (ROTATE, false) if w[3] == 4 => [1, q, 0, 0, 0],
+                (MEASURE_INTO, true) => [12, q, w[3], 0, 0],
+                _ => return None,
+            });
+        }
+        Some(Words { qubits: self.qubits, bits: self.bits, store: self.store.clone(), gates })
+    }
     fn channel(&self, limits: &[u64; 6]) -> Result<Channel, Error> {
         let store: Vec<bool> = self.store.iter().map(|b| *b == 1).collect();
         pbc_channel(&self.circuit(), &store, rust::limits(limits))
@@ -202,13 +215,6 @@ fn seed(p: &Program) -> Rng {
     Rng(p.nodes.iter().chain(&p.operations).fold(p.qubits as u64, |h, w| h.wrapping_mul(31).wrapping_add(*w as u64)))
 }
 
-/// Plain C has no Pauli programs, and no set has them where it stands in the archive's place.
-#[cfg(plain_only)]
-fn verdict(_: &Program, _: &[u64; 6], _: (usize, usize)) -> Result<(u32, u64), String> {
-    Err("plain C has no Pauli programs".into())
-}
-
-#[cfg(not(plain_only))]
 fn verdict(p: &Program, limits: &[u64; 6], lent: (usize, usize)) -> Result<(u32, u64), String> {
     let mut rng = seed(p);
     let (store, nodes, operations) = (Lent::holding(&mut rng, &p.store), Lent::holding(&mut rng, &p.nodes), Lent::holding(&mut rng, &p.operations));
@@ -272,6 +278,15 @@ fn same_channel(p: &Program, got: &[i64], c: &Channel, counts: &mut Counts) -> R
     Ok(())
 }
 
+/// The channel of the circuit that does what the program does, where there is one, compares as the same.
+#[cfg(pauli_channel)]
+fn same_as_circuit(p: &Program, got: &[i64], counts: &mut Counts) -> Result<(), String> {
+    let Some(w) = p.as_circuit() else { return Ok(()) };
+    let reply = crate::checks::compare_call(&ARCHIVE, got, &crate::checks::channel_of(&w))?;
+    counts.add("compare of a program with its circuit", false, reply.0);
+    same("compare of a program with its circuit", reply, (100, [0; 3], [0; 10]), "the ties of document 02")
+}
+
 pub fn check(p: &Program, limits: &[u64; 6], extra: (i64, i64), counts: &mut Counts) -> Result<(), String> {
     let lent = lengths(p.need(), extra);
     let got = verdict(p, limits, lent)?;
@@ -294,6 +309,7 @@ pub fn check(p: &Program, limits: &[u64; 6], extra: (i64, i64), counts: &mut Cou
             #[cfg(pauli_channel)]
             if got.0 == 0 {
                 same_channel(p, &words, &c, counts)?;
+                same_as_circuit(p, &words, counts)?;
             }
             Ok(())
         }
@@ -387,6 +403,21 @@ pub fn random(_: u64, rng: &mut Rng) -> Case {
     let program = program(rng, n, bits, nodes, operations, measures, &EIGHTHS);
     let (limits, extra) = edges(rng);
     Case::Program { program, limits, extra }
+}
+
+/// Rotations about Z, half turns about X, and measures of Z with a bit: a circuit does the same.
+pub fn as_circuits(_: u64, rng: &mut Rng) -> Case {
+    let (n, bits) = (*rng.pick(&[1, 1, 2, 3]), *rng.pick(&[1, 2, 9]));
+    let mut program = program(rng, n, bits, 0, 0, 0, &EIGHTHS);
+    for _ in 0..rng.below(10) {
+        let x = 1 + 2 * rng.below(n as u64) as u32;
+        program.operations.extend(match rng.below(4) {
+            0 => [ROTATE, x, 0, 4, 0],
+            1 => [MEASURE_INTO, x + 1, 0, rng.below(bits as u64) as u32, 0],
+            _ => [ROTATE, x + 1, 0, rng.below(8) as u32, 0],
+        });
+    }
+    Case::Program { program, limits: CEILINGS, extra: (0, 0) }
 }
 
 /// Products of products, hundreds deep.

@@ -10,7 +10,7 @@
  * beyond that: contents that make no sense are refused.
  *
  * Out parameters are index, total, place, scalars, counts, words, position, bytes, numbers and, of the scalar calls, out. They must be writable, and every call
- * writes all of them, whatever its reply: index is 0 where the reply names no gate, and the others are all zero where there is nothing to say.
+ * writes all of them, whatever its reply: index is 0 where the reply names no place in a list or a chain, and the others are all zero where there is nothing to say.
  * result and work, read_qasm's gates, write_qasm's out and compare_list's five buffers are other: a refusal changes nothing of theirs.
  *
  * Threads: nothing is shared between calls, and the archive has no data that a call writes. Calls on different buffers may run at once; what
@@ -47,12 +47,13 @@ enum {
     FOREITUKA_ACCEPTED = 0,         /* the result is written */
     FOREITUKA_LIMIT = 1,            /* a limit is exceeded */
     FOREITUKA_UNSUPPORTED = 2,      /* an unsupported gate; its index is given */
-    FOREITUKA_OPERAND = 3,          /* a qubit out of range or repeated, a bit out of range; the gate's index is given */
+    FOREITUKA_OPERAND = 3,          /* a qubit out of range or repeated, a bit out of range; the gate's index is given. Of a Pauli program: a bit out of
+                                       range; the operation's index is given */
     FOREITUKA_STORE = 4,            /* the initial store has another length than the bit count, or a byte above 1 */
-    FOREITUKA_GATES = 5,            /* a malformed gate; its index is given. Or a length that is no multiple of 5; index 0. From compare_list: a pair
-                                       that is not there; its place is given */
+    FOREITUKA_GATES = 5,            /* a malformed gate, or node or operation of a Pauli program; its index in its own list is given. Or a length that is no
+                                       multiple of 5; index 0. From compare_list: a pair that is not there; its place is given */
     FOREITUKA_CEILING = 6,          /* a limit is above its ceiling */
-    FOREITUKA_WEIGHT = 7,           /* h, ch and sx number more than 56 */
+    FOREITUKA_WEIGHT = 7,           /* h, ch and sx number more than 56. Of a Pauli program: its operations weigh more than 56; below stands what each weighs */
     FOREITUKA_SHORT = 8,            /* too few words for the result or the work; too few words for gates or bytes for a text */
     FOREITUKA_LARGE = 9,            /* a number too large: a result out of range, an operand that is not narrow, an effect out of range at its exponent */
     FOREITUKA_MALFORMED = 10,       /* a scalar, matrix or channel that is none */
@@ -285,11 +286,13 @@ uint32_t foreituka_compare_list(size_t count, const uint32_t *words, size_t word
 
 /* Each store's effect, transposed: entry (r, c) sums block entry (o·d + r, o·d + c) over o. result: FOREITUKA_EFFECTS_WORDS words or more, in
  * the layout of a channel with d² entries in a record, which share an exponent of their own. 9: a partial sum is out of range, or a numerator of a
- * finished effect at that exponent. Replies: 0, 8, 9, 10, 16; asked are 10, 16, 8, 9. */
+ * finished effect at that exponent. A channel as circuit_channel or pauli_channel delivered it never gets 9, nor 10 or 16, and the entries of its effects,
+ * summed over the stores, are exactly the identity's. Replies: 0, 8, 9, 10, 16; asked are 10, 16, 8, 9. */
 uint32_t foreituka_classical_blocks(const int64_t *channel, size_t channel_words, int64_t *result, size_t result_words);
 
 /* Each store's effect as the textbook has it, the POVM element E = Σ K†K: tr(E ρ) is the probability that a circuit leaves the store when it is given
- * ρ. Entry (r, c) is entry (c, r) of the transposed effect; all else is as in classical_blocks. */
+ * ρ. Entry (r, c) is entry (c, r) of the transposed effect; all else is as in classical_blocks, also that a delivered channel is refused for
+ * short words alone, and that its effects sum to the identity: the probabilities of all stores total 1. */
 uint32_t foreituka_povm_effects(const int64_t *channel, size_t channel_words, int64_t *result, size_t result_words);
 
 /* Pack a channel: of each block, which is Hermitian, the entries (r, c) with r ≤ c alone, row after row. The records keep their order, with next indices to

@@ -1,3 +1,4 @@
 pub mod Small
+pub mod Numbers
 pub mod Footprint
 pub mod Firing

@@ -16,6 +16,23 @@ use Rattle.circuit.specs.Limits.{matrix_ceilings, branch_ceilings}
 use Rattle.circuit.specs.Footprint.{footprint_of}
 use Rattle.circuit.specs.Sizes.{cells_needed, terms_needed, result_words, work_words, unitary_cells, unitary_terms, unitary_result, unitary_work}
 
+-- ---- rows that stand in the lists of circuits and of Pauli programs
+-- of the limits
+abbrev pub limits_question : Limits → Question
+limits_question l = question 1 (matrix_ceilings l && branch_ceilings l) OverCeiling
+
+-- of the length of a list of gates, nodes or operations
+abbrev pub length_question : List ℕ → Question
+length_question ws = question 2 (eqb (length ws % gate_size) 0) (MalformedAt 0)
+
+-- of the store σ of m bits
+abbrev pub store_question : ℕ → List ℕ → Question
+store_question m σ = question 7 (store_fits m σ) BadStore
+
+-- of the weight of all gates or operations
+abbrev pub weight_question : ℕ → Question
+weight_question w = question 9 (leb w max_weight) TooHeavy
+
 -- questions 4 to 6, gate by gate; the gates are numbered from i on
 abbrev pub gates_questions : Asking → ℕ → ℕ → List Gate → List Question
 gates_questions a n i [] = []
@@ -41,8 +58,8 @@ room_for s result work = leb (result_words s.stores s.rows) result && leb (work_
 -- of the limits and of the list's length
 abbrev pub length_questions : Limits → List ℕ → List Question
 length_questions l ws =
-    question 1 (matrix_ceilings l && branch_ceilings l) OverCeiling
-    ∷ question 2 (eqb (length ws % gate_size) 0) (MalformedAt 0)
+    limits_question l
+    ∷ length_question ws
     ∷ question 3 (leb (length ws / gate_size) l.max_operations) OverLimit ∷ []
 
 -- of the words
@@ -52,9 +69,9 @@ word_questions n m l ws = length_questions l ws ++ gates_questions (Channel m) n
 -- of the store, the footprint f and numbers
 abbrev pub number_questions : Footprint → ℕ → ℕ → List ℕ → Limits → ℕ → ℕ → List Question
 number_questions f n m σ l result work =
-    question 7 (store_fits m σ) BadStore
+    store_question m σ
     ∷ question 8 (within_limits f n m l) OverLimit
-    ∷ question 9 (leb f.weight max_weight) TooHeavy
+    ∷ weight_question f.weight
     ∷ question 10 (room_for (sizes_of f n) result work) ShortBuffer ∷ []
 
 module _ (n m : ℕ) (σ : List ℕ) (l : Limits) (ws : List ℕ) (result work : ℕ) where
@@ -79,13 +96,13 @@ unitary_room d result work = leb (unitary_result d) result && leb (unitary_work 
 abbrev pub matrix_questions : ℕ → List ℕ → ℕ → ℕ → List Question
 matrix_questions n ws result work =
     gates_questions Unitary n 0 (gates_of ws)
-    ++ (question 9 (leb (total weight (gates_of ws)) max_weight) TooHeavy ∷ question 10 (unitary_room (2 ^ n) result work) ShortBuffer ∷ [])
+    ++ (weight_question (total weight (gates_of ws)) ∷ question 10 (unitary_room (2 ^ n) result work) ShortBuffer ∷ [])
 
 module _ (n : ℕ) (l : Limits) (ws : List ℕ) (result work : ℕ) where
   abbrev pub unitary_questions : List Question
   unitary_questions =
       question 1 (matrix_ceilings l) OverCeiling
-      ∷ question 2 (eqb (length ws % gate_size) 0) (MalformedAt 0)
+      ∷ length_question ws
       ∷ question 8 (unitary_within n (length ws / gate_size) l) OverLimit
       ∷ matrix_questions n ws result work
 

@@ -3,13 +3,12 @@ use Rattle.std.specs.Prelude.{cond, ◌&&◌, List, [], ◌∷◌, map, ℕ, ◌
 use Rattle.std.proofs.lemmas.List.Edits.{sets}
 use Rattle.store.specs.Store.{max_word}
 use Rattle.verdict.specs.Questions.{Verdict}
-use Rattle.verdict.specs.declared.Refusal.TheVariants.{OverLimit, OverCeiling, ShortBuffer, BadCounts}
+use Rattle.verdict.specs.declared.Refusal.TheVariants.{OverLimit, ShortBuffer, BadCounts}
 use Rattle.verdict.specs.Questions.{Question, question, first_no}
 use Rattle.gate.specs.Gate.{gate_size}
 use Rattle.circuit.specs.declared.limits.Limits.{Limits}
 use Rattle.circuit.specs.declared.footprint.Footprint.{Footprint}
-use Rattle.circuit.specs.Limits.{matrix_ceilings, branch_ceilings}
-use Rattle.circuit.specs.Questions.{number_questions}
+use Rattle.circuit.specs.Questions.{limits_question, number_questions}
 use Rattle.kept_circuit.specs.Kept.{weight_place, splits_place, written_place, head_size, count_at, qubits_of, bits_of, gates_of, all_up_to, sound}
 
 -- what the counts say that the gates ask for
@@ -20,7 +19,7 @@ kept_footprint l = record { gates = gates_of l; splits = count_at l splits_place
 abbrev pub kept_questions : List ℤ → List ℕ → Limits → ℕ → ℕ → List Question
 kept_questions l σ lim result work =
     question 25 (sound l) BadCounts
-    ∷ question 1 (matrix_ceilings lim && branch_ceilings lim) OverCeiling
+    ∷ limits_question lim
     ∷ question 3 (leb (gates_of l) lim.max_operations) OverLimit
     ∷ number_questions (kept_footprint l) (qubits_of l) (bits_of l) σ lim result work
 

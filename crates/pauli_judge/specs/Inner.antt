@@ -1,2 +1,3 @@
 -- What inner functions ask and proofs need.
 pub mod Newly
+pub mod Numbers

@@ -1,15 +1,14 @@
 -- The questions of pauli_channel, a list: the first that is answered by no decides.
-use Rattle.std.specs.Prelude.{Bool, ◌&&◌, List, [], ◌∷◌, ◌++◌, ℕ, ◌+◌, ◌*◌, ◌/◌, ◌%◌, eqb, leb, length}
-use Rattle.store.specs.Store.{store_fits}
+use Rattle.std.specs.Prelude.{Bool, ◌&&◌, List, [], ◌∷◌, ◌++◌, ℕ, ◌+◌, ◌*◌, ◌/◌, leb, length}
 use Rattle.verdict.specs.Questions.{Verdict}
-use Rattle.verdict.specs.declared.Refusal.TheVariants.{OverLimit, BadStore, MalformedAt, OverCeiling, TooHeavy, ShortBuffer}
+use Rattle.verdict.specs.declared.Refusal.TheVariants.{OverLimit, ShortBuffer}
 use Rattle.verdict.specs.Questions.{Question, question, first_no}
-use Rattle.gate.specs.Gate.{gate_size, gates_of, max_weight}
+use Rattle.gate.specs.Gate.{gate_size, gates_of}
 use Rattle.circuit.specs.declared.limits.Limits.{Limits}
 use Rattle.circuit.specs.declared.sizes.Sizes.{Sizes}
-use Rattle.circuit.specs.Limits.{ceilings, matrix_ceilings, branch_ceilings}
+use Rattle.circuit.specs.Limits.{ceilings}
 use Rattle.circuit.specs.Sizes.{result_words}
-use Rattle.circuit.specs.Questions.{sizes_of}
+use Rattle.circuit.specs.Questions.{sizes_of, limits_question, length_question, store_question, weight_question}
 use Rattle.pauli_words.specs.Words.{nodes_of, operations_of}
 use Rattle.pauli_words.specs.Questions.{axis_fits, nodes_questions, operations_questions}
 use Rattle.pauli_judge.specs.declared.footprint.ProgramFootprint.{ProgramFootprint}
@@ -40,18 +39,18 @@ program_room N s result work = leb (result_words s.stores s.rows) result && leb 
 -- of the words: n qubits, m classical bits, the limits l, the words of the listed nodes and of the operations
 abbrev pub program_word_questions : ℕ → ℕ → Limits → List ℕ → List ℕ → List Question
 program_word_questions n m l ns os =
-    question 1 (matrix_ceilings l && branch_ceilings l) OverCeiling
-    ∷ question 2 (eqb (length ns % gate_size) 0) (MalformedAt 0)
-    ∷ question 2 (eqb (length os % gate_size) 0) (MalformedAt 0)
+    limits_question l
+    ∷ length_question ns
+    ∷ length_question os
     ∷ question 3 (few_operations n l ns os) OverLimit
     ∷ (nodes_questions n 0 (gates_of ns) ++ operations_questions (axis_fits n (nodes_of ns)) m 0 0 (gates_of os))
 
 -- of the numbers: with the initial store σ and the lengths of the buffers
 abbrev pub program_number_questions : ProgramFootprint → ℕ → ℕ → List ℕ → Limits → ℕ → ℕ → List Question
 program_number_questions f n m σ l result work =
-    question 7 (store_fits m σ) BadStore
+    store_question m σ
     ∷ question 8 (program_within f n m l) OverLimit
-    ∷ question 9 (leb f.counts.weight max_weight) TooHeavy
+    ∷ weight_question f.counts.weight
     ∷ question 10 (program_room f.nodes (sizes_of f.counts n) result work) ShortBuffer ∷ []
 
 module _ (n m : ℕ) (σ : List ℕ) (l : Limits) (ns os : List ℕ) (result work : ℕ) where
