@@ -631,8 +631,8 @@ static void put_records(const int64_t *channel, int is_effects, const char *name
     if (json) putchar(']');
 }
 
-/* Prints how likely each store is for each basis state as input, the diagonal of its effect, and their sum, added up exactly. 0 where a sum is out of
- * range, which no circuit's effects have. */
+/* Prints how likely each store is for each basis state as input, the diagonal of its effect, and their sum, added up exactly. The whole sum is 1 (`OfCircuits`
+ * of demands/specs/Probabilities.antt). Of the sums on the way to it no theorem speaks: one that left the range would be refused with 9, and the answer is then 0. */
 static int put_odds(void)
 {
     const size_t dim = (size_t)effects[0];

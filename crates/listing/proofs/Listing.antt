@@ -2,7 +2,7 @@
 use mathlib.Core.Path.{◌≡◌, refl, sym, ap}
 use mathlib.Core.Bool.{Bool, true, false, cond, ◌&&◌}
 use mathlib.Core.List.{List, [], ◌∷◌, ◌++◌}
-use Prim.Native.Nat.{ℕ, zero, suc, ◌+◌, ◌*◌, ◌-◌, ◌/◌, ◌%◌, ◌^◌, ◌<◌, ◌≤◌}
+use Prim.Native.Nat.{ℕ, suc, ◌+◌, ◌-◌, ◌/◌, ◌%◌, ◌^◌, ◌<◌, ◌≤◌}
 use native.Mathlib.Numerals.{add-one}
 use native.Mathlib.Omega.{arith}
 use lib.Dec.{leb}
@@ -47,10 +47,6 @@ entries_none w f = refl
 pub entries-more : (w k : ℕ) (f : ℕ → Exact) → entry_lines w k f ++ entry_line (k / w) (k % w) (f k) ≡ entry_lines w (k + 1) f
 unfolding entry_lines
 entries-more w k f = ap (λ (n : ℕ). entry_lines w n f) (sym (add-one k))
-
-pub side-some : (w k : ℕ) → k < w * w → 0 < w
-side-some zero k h = absurd (omega arith)
-side-some (suc w) k h = omega arith
 
 -- ---- blocks
 pub store_words : (l : List ℤ) (at m : ℕ) → store_ok l at m ≡ true → (up_to max_word (word l (at + 1)) ≡ true) × (up_to max_word (word l (at + 2)) ≡ true)

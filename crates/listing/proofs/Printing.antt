@@ -15,7 +15,7 @@ use Rattle.judge.specs.Call.{verdict_of, accepts, result_after}
 use Rattle.judge.specs.Delivered.{circuit_words}
 use Rattle.demands.proofs.Demands.{demand1, demand2}
 use Rattle.circuit_text.specs.Input.{bits_in, store_in, words_in, circuit_in, numbers_of, is_input_text}
-use Rattle.listing.specs.Listing.{listing, listing_of, refusal_line, input_line}
+use Rattle.listing.specs.Listing.{listing, listing_of, input_line}
 use Rattle.listing.proofs.Room.{whole, short, short-refusal}
 use Rattle.listing.specs.Answer.{lines_for, lines_of, answer_of}
 use Rattle.listing.specs.Claims.{Listed, max_result, max_listing, Printed}

@@ -1,5 +1,5 @@
 -- The room that a text takes: it is written whole where there is enough, and a listing has so many bytes at most.
-use mathlib.Core.Path.{◌≡◌, refl, sym, ap, ◌∙◌}
+use mathlib.Core.Path.{◌≡◌, refl, ap, ◌∙◌}
 use mathlib.Core.Bool.{Bool, true, false, cond}
 use mathlib.Core.List.{List, [], ◌∷◌, ◌++◌}
 use Prim.Native.Nat.{ℕ, zero, suc, ◌+◌, ◌*◌, ◌/◌, ◌%◌, ◌≤◌}
@@ -17,7 +17,7 @@ use Rattle.channel.specs.WellFormed.{well_formed}
 use Rattle.channel.proofs.Judging.{formed}
 use Rattle.text.specs.Ascii.{ascii}
 use Rattle.text.specs.Decimal.{decimal, signed}
-use Rattle.text.specs.Page.{page, write}
+use Rattle.text.specs.Page.{page}
 use Rattle.listing.specs.Listing.{newline, spaced, first_line, entry_line, entry_lines, block_lines, listing}
 use Rattle.listing.specs.Claims.{Whole, Short, ShortRefusal, max_listing}
 use Rattle.text.proofs.Put.{write-from}

@@ -13,9 +13,9 @@ use Rattle.text.specs.Page.{page, write}
 use Rattle.circuit_text.specs.Input.{max_bits, max_gates, number_count, numbers_of, circuit_in, store_in, words_in, is_input_text, input_of}
 use Rattle.circuit_text.specs.Inner.Reading.{filled, stored, max_numbers}
 use Rattle.gate.specs.Gate.{gate_size}
-use Rattle.circuit_text.proofs.Shapes.{given-true, given_is, refused-false, sound}
+use Rattle.circuit_text.proofs.Shapes.{given-true, given_is, sound}
 use Rattle.listing.proofs.Inputs.{stored_long, filled_long, store_is, words_are}
-use Rattle.listing.proofs.Answers.{no_answer, no_result, no_work, an_answer, a_result, a_work}
+use Rattle.listing.proofs.Answers.{an_answer, a_result, a_work}
 use borrow.Author.Rules.{rules}
 use Rattle.listing.proofs.list.Goals as goal
 
@@ -41,13 +41,6 @@ module _ (t : List ℕ) {x : Option Circuit} (answer : x ≡ input_of t) {circui
 
   words-part : (l : List ℕ) → max_numbers ≤ length l → {s : List ℕ} → s ≡ filled t l → take (gate_size * circuit.gates) (drop (3 + circuit.bits) s) ≡ words_in (numbers_of t)
   words-part l h e = (λ i. take (gate_size * (is i).gates) (drop (3 + (is i).bits) (e i))) ∙ words_are t yes l h
-
-pub returns-in_default : goal.returns-in_default
-returns-in_default c =
-    let a = c.args in
-    let t = a.text.now in
-    let no = refused-false (is_input_text t) (circuit_in (numbers_of t)) (sym c.read_input.ensures.answer ∙ c.in_default.is) in
-    record { answer = c.write_no_input.ensures ∙ ap (write (page a.out.now 0)) (no_answer t a.res.now a.work.now no); res = no_result t a.res.now a.work.now no; work = no_work t a.res.now a.work.now no }
 
 pub overflow_mul-end : goal.overflow_mul-end
 overflow_mul-end c = let g = gates-few c.args.text.now c.read_input.ensures.answer c.in-Some.is in record { fits = omega arith }

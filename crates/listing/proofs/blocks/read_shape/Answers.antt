@@ -1,11 +1,8 @@
 -- The words of a well-formed channel's header fit, as they are read.
-use mathlib.Core.Path.{◌≡◌}
 use native.Mathlib.Omega.{arith}
 use lib.Dec.{lit<}
-use lib.IntN.{nat_abs}
 use mir.Syntax.{w32, w64}
-use mir.Val.{SFits, to_z, of_z}
-use mir.Facts.{to_z-of_z}
+use mir.Val.{SFits}
 use Rattle.algebra.proofs.Signed.{cast_ok}
 use Rattle.store.proofs.Words.{Casts, read, casts_up}
 use Rattle.channel.specs.Layout.{word}
@@ -36,11 +33,3 @@ overflow_cast-count c =
     let l = c.args.s.now in
     let fits : SFits w64 (word l 2) = record { sfits = omega arith } in
     read fits (Casts w64) (casts_up _ (word l 2) fits (header l c.requires).count)
-
-pub returns : goal.returns
-returns c =
-    let l = c.args.s.now in
-    let dim : to_z w64 (of_z w64 (word l 0)) ≡ word l 0 = to_z-of_z {w = w64} (record { sfits = omega arith }) in
-    let bits : to_z w64 (of_z w64 (word l 1)) ≡ word l 1 = to_z-of_z {w = w64} (record { sfits = omega arith }) in
-    let count : to_z w64 (of_z w64 (word l 2)) ≡ word l 2 = to_z-of_z {w = w64} (record { sfits = omega arith }) in
-    λ i. record { dim = nat_abs (dim i); bits = nat_abs (bits i); count = nat_abs (count i) }
