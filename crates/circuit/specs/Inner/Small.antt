@@ -12,8 +12,5 @@ max_branches = 64
 abbrev pub max_qubits : ℕ
 max_qubits = 5
 
-abbrev pub max_rows : ℕ
-max_rows = 32
-
 abbrev pub max_gates : ℕ
 max_gates = 1024

@@ -4,7 +4,7 @@ use Rattle.verdict.proofs.Questions.{returned}
 use Rattle.circuit.specs.declared.sizes.Sizes.{Sizes}
 use Rattle.circuit.specs.Inner.Numbers.{few_cells}
 use Rattle.circuit.specs.Questions.{room_for}
-use Rattle.circuit.proofs.Numbers.{all-low, counts_refuse, sizes_decide}
+use Rattle.circuit.proofs.Numbers.{all-low, counts_refuse}
 use Rattle.circuit.proofs.questions.judge_numbers.Goals as goal
 
 pub returns-in_err-sizes : goal.returns-in_err-sizes
@@ -12,8 +12,3 @@ returns-in_err-sizes c =
     let a = c.args in
     returned _ c.from_residual.ensures.1
     ∙ counts_refuse a.l a.f a.n a.bits a.store.now (few_cells a.l a.f.gates) (λ (s : Sizes). room_for s a.res a.work) (all-low a.l c.requires.0) c.in_err-sizes.ensures
-
-pub returns : goal.returns
-returns c =
-    let a = c.args in
-    sizes_decide a.l a.f a.n a.bits a.store.now (few_cells a.l a.f.gates) (λ (s : Sizes). room_for s a.res a.work) (all-low a.l c.requires.0) c.in_ok-sizes.ensures c.judge_sizes.ensures
