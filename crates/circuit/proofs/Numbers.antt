@@ -13,7 +13,7 @@ use Rattle.algebra.proofs.Tests.{and_split}
 use Rattle.verdict.specs.declared.Refusal.TheVariants.{OverLimit, BadStore, TooHeavy, ShortBuffer}
 use Rattle.verdict.specs.declared.Refusal.{Refusal}
 use Rattle.verdict.specs.Questions.{Verdict, Question, question, granted, first_no}
-use Rattle.verdict.proofs.Questions.{refused, passed, handed_value}
+use Rattle.verdict.proofs.Questions.{refused}
 use Rattle.gate.specs.Gate.{gates_of, weight, max_weight}
 use Rattle.store.specs.Store.{store_fits}
 use Rattle.circuit.specs.declared.limits.Limits.{Limits}
@@ -81,11 +81,6 @@ module _ (l : Limits) (f : Footprint) (n m : ℕ) (σ : List ℕ) (few_cells roo
 
   pub counts_refuse : {r : Refusal} → Err r ≡ granted (sizes_of f n) before → Err r ≡ first_no whole
   counts_refuse e = refused (sizes_of f n) tt before (of_sizes (sizes_of f n)) e ∙ two_parts
-
-  pub sizes_decide : {s : Sizes} {v : Verdict} → Ok s ≡ granted (sizes_of f n) before → v ≡ first_no (of_sizes s) → v ≡ first_no whole
-  sizes_decide e h =
-      h ∙ ap (λ (s : Sizes). first_no (of_sizes s)) (handed_value (sizes_of f n) before e)
-      ∙ passed (sizes_of f n) tt before (of_sizes (sizes_of f n)) e ∙ two_parts
 
 -- ---- circuit_unitary
 -- the last two questions, by their answers
