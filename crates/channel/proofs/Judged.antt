@@ -42,8 +42,8 @@ module _ (l : List ℤ) where
 
   module _ {h : Shape} (e : Ok h ≡ header_of all_kept l) (F : Form) (g : F ≡ full (h.dim * h.dim)) where
     -- the verdict along the chain is the verdict
-    chain_is : verdict_by (right F h) (dull F h) ≡ form_verdict l
-    chain_is =
+    pub channel_verdict : verdict_by (right F h) (dull F h) ≡ form_verdict l
+    channel_verdict =
         let q = header_is all_kept l e in
         let d = dim_at l in
         (λ i. verdict_by (right (g i) h) (dull (g i) h))
@@ -52,7 +52,7 @@ module _ (l : List ℤ) where
         ∙ sym (form-along l q.0)
 
     pub broken : None ≡ when (right F h) (dull F h) → Err Malformed ≡ shape_of l
-    broken f = ap (λ (v : Verdict). shape_by v l) (sym (by_none (right F h) (dull F h) f) ∙ chain_is)
+    broken f = ap (λ (v : Verdict). shape_by v l) (sym (by_none (right F h) (dull F h) f) ∙ channel_verdict)
 
     pub whole : {b t : Bool} → Some b ≡ when (right F h) (dull F h) → b ≡ t → shape_by (verdict_by true t) l ≡ shape_of l
-    whole f u = ap (λ (v : Verdict). shape_by v l) (ap (verdict_by true) (sym u) ∙ sym (by_some (right F h) (dull F h) f) ∙ chain_is)
+    whole f u = ap (λ (v : Verdict). shape_by v l) (ap (verdict_by true) (sym u) ∙ sym (by_some (right F h) (dull F h) f) ∙ channel_verdict)

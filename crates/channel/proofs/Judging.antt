@@ -34,15 +34,12 @@ lacking false x e f = refl
 
 -- ---- one step along the chain
 module _ (F : Form) (l : List ℤ) (m count n : ℕ) (z : ℤ) (first : Bool) (prev : ℕ) (h : 0 < n) where
-  abbrev rest : Bool
+  abbrev pub rest : Bool
   rest = chain_ok F l m count (n - 1) (word l (nat_abs z)) false (store_at l (nat_abs z))
 
-  step : chain_ok F l m count n z first prev ≡ (is_start F count z && (record_ok F l m (nat_abs z) first prev && rest))
+  pub step : chain_ok F l m count n z first prev ≡ (is_start F count z && (record_ok F l m (nat_abs z) first prev && rest))
   unfolding chain_ok
   step = let e : n ≡ suc (n - 1) = omega arith in ap (λ (k : ℕ). chain_ok F l m count k z first prev) e
-
-  pub no_start : is_start F count z ≡ false → chain_ok F l m count n z first prev ≡ false
-  no_start e = step ∙ ap (λ (b : Bool). b && (record_ok F l m (nat_abs z) first prev && rest)) e
 
   pub no_record : is_start F count z ≡ true → record_ok F l m (nat_abs z) first prev ≡ false → chain_ok F l m count n z first prev ≡ false
   no_record e f = step ∙ (λ i. e i && (f i && rest))

@@ -1,8 +1,8 @@
 // Whether words are well formed in a form, whether they are a channel, and whether a block of it is zero.
 ghost use Rattle.std.specs.Prelude.{◌≡◌, true, is_none, unwrap_or, nat_abs};
-ghost use Rattle.channel.specs.Layout.{word};
+ghost use Rattle.channel.specs.Layout.{word, store_at};
 ghost use Rattle.channel.specs.WellFormed.{is_dim, rises, chain_ok, well_formed};
-ghost use Rattle.channel.specs.Inner.Shapes.{when, some_blank, Room, header_of, shape_of};
+ghost use Rattle.channel.specs.Inner.Shapes.{when, some_blank, enters, Room, header_of, shape_of};
 
 use super::Shape;
 use super::forms::{ALL, Form, Parts};
@@ -25,6 +25,22 @@ fn rises(prev: Option<u64>, store: u64) -> bool
 }
 
 // Kept: count is the header's, and no length: the words may go on behind the last record.
+// The store of the record at index z, if one of `count` records starts there, and its store has at most m bits and comes after the one before it.
+pub fn enter(s: &[i64], form: Form, m: u32, count: usize, z: i64, prev: Option<u64>) -> Option<u64>
+    requires { Room form s.now m count }
+    ensures { result ≡ when (enters form s.now m count z (is_none prev) (unwrap_or prev 0)) (store_at s.now (nat_abs z)) }
+{
+    if !form.is_start(count, z) {
+        return None;
+    }
+    let r = Record::at(s, form, z as usize);
+    let store = r.judge_store(m)?;
+    if !rises(prev, store) {
+        return None;
+    }
+    Some(store)
+}
+
 // Whether one of `count` blocks is blank, if the chain visits their records in rising order of their stores, and ends.
 pub fn judge_chain(s: &[i64], form: Form, m: u32, count: usize) -> Option<bool>
     requires { Room form s.now m count }
@@ -34,14 +50,8 @@ pub fn judge_chain(s: &[i64], form: Form, m: u32, count: usize) -> Option<bool>
     let mut prev = None;
     let mut blank = false;
     for i in 0..count {
-        if !form.is_start(count, z) {
-            return None;
-        }
+        let store = enter(s, form, m, count, z, prev)?;
         let r = Record::at(s, form, z as usize);
-        let store = r.judge_store(m)?;
-        if !rises(prev, store) {
-            return None;
-        }
         blank = blank | r.judge_block()?;
         z = r.next();
         prev = Some(store);

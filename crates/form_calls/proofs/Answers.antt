@@ -1,5 +1,6 @@
 -- What is answered by the tests, and what an accepted call may do.
 use Rattle.std.specs.Prelude.{Option, Some, None, is_none, unwrap_or, Result, Ok, Err, is_ok, ⊤}
+use Rattle.std.specs.Result.{result_and}
 use mathlib.Core.Path.{◌≡◌, refl, sym, ap, ◌∙◌, subst}
 use mathlib.Core.Bool.{Bool, true, false, cond, not, true≢false}
 use mathlib.Core.List.{List}
@@ -10,18 +11,18 @@ use lib.IntN.{ℤ}
 use borrow.Author.Tests.{leb-true}
 use Rattle.verdict.specs.declared.Refusal.{Refusal}
 use Rattle.verdict.specs.declared.Refusal.TheVariants.{ShortBuffer, Malformed, ZeroBlock}
-use Rattle.verdict.specs.Questions.{Question, granted}
+use Rattle.verdict.specs.Questions.{Verdict, Question, granted}
 use Rattle.verdict.proofs.Questions.{handed}
 use Rattle.channel.specs.declared.Shape.{Shape}
 use Rattle.channel.specs.declared.forms.Parts.{Parts}
 use Rattle.channel.specs.Layout.{header_size, record_size, count_at, form_of, form_in}
 use Rattle.channel.specs.WellFormed.{well_formed_in, well_formed, has_zero_block, verdict_by, form_verdict}
-use Rattle.channel.specs.Inner.Shapes.{shape_at, shape_of}
+use Rattle.channel.specs.Inner.Shapes.{shape_at, shape_by}
 use Rattle.channel.proofs.Judging.{formed_in, in_channel, form-full, verdict_test, shape-yes, shape_no, Passed, passed_is}
 use Rattle.recast.specs.Words.{size_in}
 use Rattle.recast.specs.Inner.Records.{Ready}
-use Rattle.form_judge.specs.Faults.{fault_of}
-use Rattle.form_judge.specs.Inner.Judging.{Chained, shape_in}
+use Rattle.form_judge.specs.declared.Judged.{Judged}
+use Rattle.form_judge.specs.Inner.Judging.{shape_in, judged_of}
 use Rattle.form_calls.specs.Calls.{own, refusal, fault, write_questions, read_questions, write_verdict, read_verdict}
 
 abbrev pub full : Parts
@@ -71,38 +72,45 @@ module _ (f : Parts) (l res : List ℤ) where
   abbrev answer : Result Shape Refusal
   answer = granted (shape_at l) (write_questions f l res)
 
-  pub refused_write : {r : Refusal} → Err r ≡ shape_of l → Err r ≡ answer
-  refused_write e = refused-first (shape_at l) (well_formed l) (has_zero_block l) (is_none (fault f l)) room (refusal f (unwrap_or (fault f l) 0)) (shape_no (form_verdict l) l e)
+  pub refused_write : {r : Refusal} → Err r ≡ judged_of f l → Err r ≡ answer
+  refused_write {r} e = refused-first (shape_at l) (well_formed l) (has_zero_block l) (is_none (fault f l)) room (refusal f (unwrap_or (fault f l) 0)) (by (form_verdict l) e)
+    where
+      by : (v : Verdict) → ◌≡◌ {A = Result Judged Refusal} (Err r) (result_and v (Ok (record { shape = shape_at l; fault = fault f l }))) → v ≡ Err r
+      by (Ok x) e = absurd (cc)
+      by (Err s) e = cc
 
-  module _ {h : Shape} (e : Ok h ≡ shape_of l) where
-    passed : Passed l h
-    passed = passed_is l e
+  module _ {j : Judged} (e : Ok j ≡ judged_of f l) where
+    passed : (form_verdict l ≡ Ok tt) × ((j.shape ≡ shape_at l) × (j.fault ≡ fault f l))
+    passed = by (form_verdict l) refl e
+      where
+        by : (v : Verdict) → form_verdict l ≡ v → ◌≡◌ {A = Result Judged Refusal} (Ok j) (result_and v (Ok (record { shape = shape_at l; fault = fault f l }))) → (v ≡ Ok tt) × ((j.shape ≡ shape_at l) × (j.fault ≡ fault f l))
+        by (Ok x) p e = (refl, (cc, cc))
+        by (Err s) p e = absurd (cc)
 
-    pub chained : Chained (form_of (h.dim * h.dim) full) l h.count
-    chained = subst (λ (s : Shape). Chained (form_of (s.dim * s.dim) full) l s.count) (sym passed.is)
-        (record { right = sym (in_channel l) ∙ passed.right; counted = refl })
-
-    abbrev found : Option ℕ
-    found = fault_of (form_of (h.dim * h.dim) full) (form_of (h.dim * h.dim) f) l
-
-    faults : found ≡ fault f l
-    faults = ap (λ (s : Shape). fault_of (form_of (s.dim * s.dim) full) (form_of (s.dim * s.dim) f) l) passed.is
+    shape_is : Passed l j.shape
+    shape_is = passed_is l (ap Ok passed.1.0 ∙ sym (ap (λ (v : Verdict). shape_by v l) passed.0))
 
     -- 10 and 16 are passed
-    known : (o : Option ℕ) → o ≡ found → (b : Bool) → room ≡ b → write_by (shape_at l) true true (is_none o) b (refusal f (unwrap_or o 0)) ≡ answer
-    known o p b q = sym (λ i. write_by (shape_at l) (passed.right i) (not (form-full l (ap is_ok passed.verdict) i)) (is_none (sym (p ∙ faults) i)) (q i) (refusal f (unwrap_or (sym (p ∙ faults) i) 0)))
+    known : (o : Option ℕ) → o ≡ j.fault → (b : Bool) → room ≡ b → write_by (shape_at l) true true (is_none o) b (refusal f (unwrap_or o 0)) ≡ answer
+    known o p b q =
+        sym (λ i. write_by (shape_at l) (shape_is.right i) (not (form-full l (ap is_ok passed.0) i)) (is_none (sym (p ∙ passed.1.1) i)) (q i) (refusal f (unwrap_or (sym (p ∙ passed.1.1) i) 0)))
 
-    pub at_fault : {i : ℕ} → Some i ≡ found → Err (refusal f i) ≡ answer
+    pub at_fault : {i : ℕ} → Some i ≡ j.fault → Err (refusal f i) ≡ answer
     at_fault {i} p = known (Some i) p room refl
 
-    pub room_is : (s : ℕ) → s ≡ record_size (form_of (h.dim * h.dim) f) → leb (header_size + h.count * s) (length res) ≡ room
-    room_is s p = ap (λ (s : ℕ). leb (header_size + h.count * s) (length res)) p ∙ ap (λ (g : Shape). leb (header_size + g.count * record_size (form_of (g.dim * g.dim) f)) (length res)) passed.is
+    pub write_narrow : j.shape.dim ≤ 16
+    write_narrow = shape_is.narrow
 
-    pub short_write : None ≡ found → room ≡ false → Err ShortBuffer ≡ answer
+    pub room_is : (s : ℕ) → s ≡ record_size (form_of (j.shape.dim * j.shape.dim) f) → leb (header_size + j.shape.count * s) (length res) ≡ room
+    room_is s p =
+        ap (λ (s : ℕ). leb (header_size + j.shape.count * s) (length res)) p
+        ∙ ap (λ (g : Shape). leb (header_size + g.count * record_size (form_of (g.dim * g.dim) f)) (length res)) passed.1.0
+
+    pub short_write : None ≡ j.fault → room ≡ false → Err ShortBuffer ≡ answer
     short_write p q = known None p false q
 
-    pub written : None ≡ found → room ≡ true → Ok h ≡ answer
-    written p q = ap Ok passed.is ∙ known None p true q
+    pub written : None ≡ j.fault → room ≡ true → Ok j.shape ≡ answer
+    written p q = ap Ok passed.1.0 ∙ known None p true q
 
 -- ---- what a reader answers
 module _ (f : Parts) (l res : List ℤ) where

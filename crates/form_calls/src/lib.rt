@@ -11,8 +11,7 @@ ghost use Rattle.form_calls.specs.Calls.{write_questions, read_questions, write_
 use channel::Shape;
 use channel::forms::{ALL, Form, Parts};
 use channel::layout::HEADER;
-use channel::well_formed::judge;
-use form_judge::{first_fault, judge_form};
+use form_judge::{judge_channel, judge_form};
 use recast::recast;
 use verdict::{Refusal, Verdict};
 
@@ -42,8 +41,9 @@ fn has_room(long: usize, n: usize, form: Form) -> bool
 fn judge_write(channel: &[i64], f: Parts, res: &[i64]) -> Result<Shape, Refusal>
     ensures { result ≡ granted (shape_at channel.now) (write_questions f channel.now res.now) }
 {
-    let h = judge(channel)?;
-    if let Some(i) = first_fault(channel, h.form(ALL), f, h.count) {
+    let j = judge_channel(channel, f)?;
+    let h = j.shape;
+    if let Some(i) = j.fault {
         return Err(refusal(f.half, i));
     }
     if !has_room(res.len(), h.count, h.form(f)) {
@@ -64,6 +64,7 @@ fn judge_read(words: &[i64], f: Parts, res: &[i64]) -> Result<Shape, Refusal>
 }
 
 // Write a channel's words in the form that keeps these parts.
+#[inline(always)]
 pub fn write_form(channel: &[i64], f: Parts, res: &mut [i64]) -> Verdict
     ensures verdict { result ≡ write_verdict f channel.now res.old }
     ensures words { res.new ≡ write_result f channel.now res.old }
@@ -74,6 +75,7 @@ pub fn write_form(channel: &[i64], f: Parts, res: &mut [i64]) -> Verdict
 }
 
 // Read a channel's words from the form that keeps these parts.
+#[inline(always)]
 pub fn read_form(words: &[i64], f: Parts, res: &mut [i64]) -> Verdict
     ensures verdict { result ≡ read_verdict f words.now res.old }
     ensures words { res.new ≡ read_result f words.now res.old }

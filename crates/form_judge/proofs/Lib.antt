@@ -1,3 +1,4 @@
+pub mod Gathered
 pub mod Blocks
 pub mod Faults
 pub mod Headers

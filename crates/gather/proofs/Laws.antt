@@ -92,6 +92,20 @@ all_split m (suc n) p = ap (λ (k : ℕ). all_below k p) (add-suc m n) ∙ ap (�
     assoc true b c = refl
     assoc false b c = refl
 
+-- what is seen of words, and of those after them
+module _ (l : List ℤ) (at k n : ℕ) where
+  each-split : (p : ℤ → Bool) → each_word p l at (k + n) ≡ (each_word p l at k && each_word p l (at + k) n)
+  each-split p =
+      all_split k n (λ (i : ℕ). p (get_or l (at + i) (pos 0)))
+      ∙ ap (λ (t : Bool). each_word p l at k && t) (all_same n _ _ (λ i h j. p (get_or l (sym (add_assoc at k i) j) (pos 0))))
+
+  pub seen-more : {a b : Seen} → a ≡ seen_of l at k → b ≡ seen_of l (at + k) n → ◌≡◌ {A = Seen} (record { range = a.range && b.range; even = a.even && b.even; zero = a.zero && b.zero }) (seen_of l at (k + n))
+  seen-more e f = λ i. record {
+    range = ((λ j. (e j).range && (f j).range) ∙ sym (each-split (λ (x : ℤ). leb (nat_abs x) max_numerator))) i;
+    even = ((λ j. (e j).even && (f j).even) ∙ sym (each-split evenℤ)) i;
+    zero = ((λ j. (e j).zero && (f j).zero) ∙ sym (each-split (λ (x : ℤ). eqℤ x (pos 0)))) i;
+  }
+
 module _ (l : List ℤ) (a : ℕ) (m : List ℤ) (b k w : ℕ) where
   row-split : same_words l a m b (k + w) ≡ (same_words l a m b k && same_words l (a + k) m (b + k) w)
   row-split =

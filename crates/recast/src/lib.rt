@@ -1,4 +1,5 @@
 // Words taken from one form to another: the records in their order, with next indices to match, and of each block what the form keeps. Each block is read once.
+// What copies is inlined into each of the calls: there both forms are known, and no entry asks for them.
 // Kept (buffers, together): `res` is lent whole with a place `out`: given the part from `out` on, each caller would have to show what its own writes make of the whole,
 // at no shorter code.
 #![tactic(auto)]
@@ -19,7 +20,8 @@ use channel::records::Block;
 use exact::numerators::conj4;
 
 // The numerators of entry (r, c) of a block: what is not kept is the conjugate of entry (c, r).
-pub fn read_number(b: &Block, r: usize, c: usize) -> [i64; 4]
+#[inline(always)]
+fn read_number(b: &Block, r: usize, c: usize) -> [i64; 4]
     requires { let m = b.now in (r < m.form.side) × (c < m.form.side) }
     ensures { let m = b.now in result ≡ list_of (numbers_at m.form m.words.now 0 (r * m.form.side + c)) }
 {
@@ -30,6 +32,7 @@ pub fn read_number(b: &Block, r: usize, c: usize) -> [i64; 4]
 }
 
 // Write what is kept of the numerators of an entry from p on.
+#[inline(always)]
 fn write_number(s: &mut [i64], p: usize, plain: bool, x: [i64; 4])
     requires { p + entry_size plain ≤ length s.old }
     ensures { s.new ≡ sets s.old p (entry_words plain (number_of x)) }
@@ -43,6 +46,7 @@ fn write_number(s: &mut [i64], p: usize, plain: bool, x: [i64; 4])
 }
 
 // Write the entries of row r of a block that the form `to` keeps, from `out` on.
+#[inline(always)]
 fn copy_row(b: &Block, to: Form, r: usize, res: &mut [i64], out: usize)
     requires { let m = b.now in (to.side ≡ m.form.side) × ((r < m.form.side) × (out + (m.form.side - from to r) * entry_size to.plain ≤ length res.old)) }
     ensures { let m = b.now in res.new ≡ blocks (entry_size to.plain) res.old out (m.form.side - from to r) (λ (j : ℕ). entry_words to.plain (numbers_at m.form m.words.now 0 (r * m.form.side + (from to r + j)))) }
@@ -57,6 +61,7 @@ fn copy_row(b: &Block, to: Form, r: usize, res: &mut [i64], out: usize)
 }
 
 // Write a block as the form that keeps the parts `to` keeps it, from `out` on.
+#[inline(always)]
 fn copy_block(b: &Block, to: Parts, res: &mut [i64], out: usize)
     requires { let m = b.now in out + block_size (form_of m.form.side to) ≤ length res.old }
     ensures { let m = b.now in res.new ≡ sets res.old out (block_words (form_of m.form.side to) (numbers_at m.form m.words.now 0)) }
@@ -82,6 +87,7 @@ fn relinked(from: Form, to: Form, z: i64) -> i64
 }
 
 // Write the record of a block in the form that keeps the parts `to`, from `out` on.
+#[inline(always)]
 fn copy_record(b: &Block, to: Parts, res: &mut [i64], out: usize)
     requires { let m = b.now in let G = form_of m.form.side to in Linked m.form G (word m.words.now 0) × (out + record_size G ≤ length res.old) }
     ensures { let m = b.now in res.new ≡ sets res.old out (recast_record m.form (form_of m.form.side to) m.words.now 0) }
@@ -94,6 +100,7 @@ fn copy_record(b: &Block, to: Parts, res: &mut [i64], out: usize)
 }
 
 // Write n records in the form that keeps the parts `to`, in their order.
+#[inline(always)]
 fn copy_records(s: &[i64], from: Form, n: usize, res: &mut [i64], to: Parts)
     requires { let G = form_of from.side to in Records from G s.now n × (record_at G n ≤ length res.old) }
     ensures { let G = form_of from.side to in res.new ≡ blocks (record_size G) res.old header_size n (λ (j : ℕ). recast_record from G s.now (record_at from j)) }
@@ -107,6 +114,7 @@ fn copy_records(s: &[i64], from: Form, n: usize, res: &mut [i64], to: Parts)
 }
 
 // Write words of the form `from`, of n records, in the form that keeps the parts `to`.
+#[inline(always)]
 pub fn recast(s: &[i64], from: Form, n: usize, res: &mut [i64], to: Parts)
     requires { Ready from (form_of from.side to) s.now n res.old }
     ensures { res.new ≡ recast_into from (form_of from.side to) s.now res.old }

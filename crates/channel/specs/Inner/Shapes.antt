@@ -1,5 +1,5 @@
 -- What the judge of a channel answers inside: the header or a refusal, and whether a record is blank; the room and the walk that its calls ask for.
-use Rattle.std.specs.Prelude.{◌≡◌, Bool, true, false, cond, ◌||◌, List, ℕ, zero, suc, ◌+◌, ◌*◌, ◌≤◌, length, ℤ, pos, nat_abs, Option, Some, None, Result, Ok}
+use Rattle.std.specs.Prelude.{◌≡◌, Bool, true, false, cond, ◌&&◌, ◌||◌, List, ℕ, zero, suc, ◌+◌, ◌*◌, ◌≤◌, length, ℤ, pos, nat_abs, Option, Some, None, Result, Ok}
 use Rattle.std.specs.Result.{result_and}
 use Rattle.algebra.specs.Words.{up_to}
 use Rattle.exact.specs.Exact.{max_exponent}
@@ -8,8 +8,8 @@ use Rattle.verdict.specs.declared.Refusal.{Refusal}
 use Rattle.channel.specs.declared.Shape.{Shape}
 use Rattle.channel.specs.declared.forms.Parts.{Parts}
 use Rattle.gather.specs.Words.{all_zero as zero_words}
-use Rattle.channel.specs.Layout.{Form, channels, form_in, record_head, record_at, block_size, exponent_place, entry_size, word, dim_at, bits_at, count_at}
-use Rattle.channel.specs.WellFormed.{header_ok, chain_ok, well_formed_in, verdict_by, form_verdict}
+use Rattle.channel.specs.Layout.{Form, channels, form_in, record_head, record_at, block_size, exponent_place, entry_size, word, store_at, dim_at, bits_at, count_at}
+use Rattle.channel.specs.WellFormed.{is_start, store_ok, rises, header_ok, chain_ok, well_formed_in, verdict_by, form_verdict}
 
 abbrev pub shape_at : List ℤ → Shape
 shape_at l = record { dim = dim_at l; bits = bits_at l; count = count_at l }
@@ -28,6 +28,10 @@ header_of f l = shape_by (verdict_by (header_ok (form_in f l) l) false) l
 -- x, where a test holds
 abbrev pub when : {A : Type 0} → Bool → A → Option A
 when b x = cond b (Some x) None
+
+-- index z is that of one of `count` records, whose store has at most m bits and comes after the one before it
+abbrev pub enters : Form → List ℤ → ℕ → ℕ → ℤ → Bool → ℕ → Bool
+enters F l m count z first prev = is_start F count z && (store_ok l (nat_abs z) m && rises first prev (store_at l (nat_abs z)))
 
 -- all numerators that are kept of the record at `at` are 0
 abbrev pub blank : Form → List ℤ → ℕ → Bool

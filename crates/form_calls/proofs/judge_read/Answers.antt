@@ -1,8 +1,5 @@
 -- `judge_read` meets its contract.
-use mathlib.Core.Path.{sym, ap, ◌∙◌}
-use Rattle.channel.specs.Layout.{record_size}
-use Rattle.verdict.proofs.Questions.{returned}
-use Rattle.form_calls.proofs.Answers.{refused-read, read_narrow, read_room_is, short-read, read_out}
+use Rattle.form_calls.proofs.Answers.{read_narrow}
 use Rattle.form_calls.proofs.judge_read.Goals as goal
 
 pub form-requires : goal.form-requires

@@ -1,15 +1,15 @@
 -- `read_form` meets its contract.
 use Rattle.std.specs.Prelude.{Ok, is_ok}
-use mathlib.Core.Path.{◌≡◌, sym, ap, ◌∙◌, subst}
+use mathlib.Core.Path.{◌≡◌, sym, ap, subst}
 use mathlib.Core.Bool.{cond}
 use mathlib.Core.List.{List}
 use Prim.Native.Nat.{◌*◌, ◌≤◌}
 use lib.IntN.{ℤ}
 use Rattle.verdict.specs.Questions.{Verdict, granted}
-use Rattle.verdict.proofs.Questions.{returned, refused_alike, handed}
+use Rattle.verdict.proofs.Questions.{handed}
 use Rattle.channel.specs.declared.Shape.{Shape}
 use Rattle.channel.specs.declared.forms.Parts.{Parts}
-use Rattle.channel.specs.Layout.{Form, form_of, form_in}
+use Rattle.channel.specs.Layout.{form_of, form_in}
 use Rattle.channel.specs.Inner.Shapes.{shape_at}
 use Rattle.channel.proofs.Judging.{formed_in}
 use Rattle.recast.specs.Words.{recast_into}
