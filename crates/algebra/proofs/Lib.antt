@@ -21,3 +21,4 @@ pub mod Signed
 pub mod Bits
 pub mod Ranges
 pub mod Copying
+pub mod Squares

@@ -1,10 +1,9 @@
 -- Banks of branches in words: what is read back of a branch, a bank kept where other words are written, and a bank written by blocks.
-use mathlib.Core.Path.{◌≡◌, sym, ap, ◌∙◌, subst}
+use mathlib.Core.Path.{◌≡◌, sym, ap, ◌∙◌}
 use mathlib.Core.List.{List, ◌++◌}
 use Prim.Native.Nat.{ℕ, ◌+◌, ◌*◌, ◌/◌, ◌%◌, ◌≤◌, ◌<◌}
 use native.Mathlib.Nat.{add_assoc, div-add-mod', div-lt_iff_lt-mul, mod-lt, zero-add, add-zero}
 use native.Mathlib.Omega.{arith}
-use lib.Dec.{leb}
 use lib.ListN.{length, get_or, take, drop, length-append, get_or-append}
 use lib.Seq.{sets, get_or-append-add}
 use lib.IntN.{ℤ, pos}
@@ -12,14 +11,12 @@ use borrow.Author.Tests.{le-leb}
 use Rattle.algebra.specs.Sum.{δ}
 use Rattle.algebra.specs.Words.{from_bits, blocks, up_to}
 use Rattle.algebra.proofs.Lists.{concat_length, concat_at}
-use Rattle.algebra.proofs.Blocks.{Same, length-blocks, blocks_at, block_in_lem, append_block}
-use Rattle.exact.specs.Exact.{Exact, exact, max_exponent, narrow_exponent}
-use Rattle.exact.specs.Inner.Sizes.{Coords}
-use Rattle.cells.specs.Cells.{cell_words, cell_at, exponent_at, cells, cell_size}
-use Rattle.cells.proofs.Cell.{cell_is, exponent_is, length-cells, cells_at, cells_same, fill-block}
+use Rattle.algebra.proofs.Blocks.{length-blocks, blocks_at, block_in_lem, append_block}
+use Rattle.exact.specs.Exact.{Exact, exact, narrow_exponent}
+use Rattle.exact.proofs.Sizes.{well_lowest}
+use Rattle.rows.specs.Inner.Rows.{held_words, held_in, Factors}
+use Rattle.rows.proofs.Held.{length_shared, words_same, held_is, held_factors}
 use Rattle.store.specs.Store.{max_word}
-use Rattle.matrix.specs.Inner.Written.{identified}
-use Rattle.matrix.specs.Inner.Factors.{Factor}
 use Rattle.kraus.specs.Dense.{table}
 use Rattle.kraus.specs.Branch.{Store, Branch}
 use Rattle.kraus.proofs.Dense.{tabulate-at}
@@ -35,34 +32,18 @@ module _ (d : ℕ) (b : Branch) where
   entries i = get_or b.matrix i exact.𝟘
 
   pub length-branch : length (branch_words d b) ≡ branch_size d
-  length-branch = length-append (cells (d * d) entries) (store_words b.store) ∙ ap (λ (n : ℕ). n + 2) (length-cells entries (d * d))
+  length-branch = length-append (held_words (d * d) entries) (store_words b.store) ∙ ap (λ (n : ℕ). n + 2) (length_shared (d * d) entries)
 
-  branch-cell : (i k : ℕ) → i < d * d → k < cell_size → get_or (branch_words d b) (i * cell_size + k) (pos 0) ≡ get_or (cell_words (entries i)) k (pos 0)
-  branch-cell i k h l =
-      get_or-append (cells (d * d) entries) (store_words b.store) (pos 0) (i * cell_size + k) (omega (arith, length-cells entries (d * d), block_in_lem h cell_size))
-      ∙ cells_at entries (d * d) i k h l
+  branch-matrix : (k : ℕ) → k < matrix_size d → get_or (branch_words d b) k (pos 0) ≡ get_or (held_words (d * d) entries) k (pos 0)
+  branch-matrix k h = get_or-append (held_words (d * d) entries) (store_words b.store) (pos 0) k (omega (arith, length_shared (d * d) entries))
 
   branch-store : (k : ℕ) → get_or (branch_words d b) (matrix_size d + k) (pos 0) ≡ get_or (store_words b.store) k (pos 0)
   branch-store k =
-      ap (λ (n : ℕ). get_or (branch_words d b) (n + k) (pos 0)) (sym (length-cells entries (d * d)))
-      ∙ get_or-append-add (cells (d * d) entries) (store_words b.store) k (pos 0)
+      ap (λ (n : ℕ). get_or (branch_words d b) (n + k) (pos 0)) (sym (length_shared (d * d) entries))
+      ∙ get_or-append-add (held_words (d * d) entries) (store_words b.store) k (pos 0)
 
 pub length-bank : (d : ℕ) (bs : List Branch) → length (bank_words d bs) ≡ length bs * branch_size d
 length-bank d bs = concat_length (branch_words d) (branch_size d) (length-branch d) bs
-
--- ---- n numbers f i are read from `at` on
-pub record Read (l : List ℤ) (at n : ℕ) (f : ℕ → Exact) : Type 0 where
-  pub room : at + n * cell_size ≤ length l
-  pub number : (i : ℕ) → i < n → cell_at l (at + i * cell_size) ≡ f i
-  pub exponent : (i : ℕ) → i < n → exponent_at l (at + i * cell_size) ≡ leb (f i).exp max_exponent
-
--- a number with coordinates from −1 to 1
-pub read_factor : {l : List ℤ} {at n : ℕ} {f : ℕ → Exact} → Read l at n f → (e : ℕ) → e ≤ narrow_exponent → (i : ℕ) → i < n → Kraus e (f i) → Factor l (at + i * cell_size)
-read_factor {f = f} r e small i h k = record {
-  room = omega (arith, r.room, block_in_lem h cell_size);
-  exponent = r.exponent i h ∙ le-leb (f i).exp max_exponent (omega (arith, k.coords.exponent));
-  coords = subst (Coords 1 narrow_exponent) (sym (r.number i h)) (record { exponent = omega (arith, k.coords.exponent); size = k.coords.size });
-}
 
 -- ---- what a bank holds; z is what is read past its end
 module _ {l : List ℤ} {at : ℕ} (d : ℕ) (bs : List Branch) (h : Holds l at (bank_words d bs)) where
@@ -77,26 +58,20 @@ module _ {l : List ℤ} {at : ℕ} (d : ℕ) (bs : List Branch) (h : Holds l at 
         ∙ h.word (j * branch_size d + k) (omega (arith, length-bank d bs, block_in_lem hj (branch_size d)))
         ∙ concat_at (branch_words d) (branch_size d) (length-branch d) bs z (pos 0) j k hj hk
 
-    module _ (i : ℕ) (hi : i < d * d) where
-      words : (k : ℕ) → k < cell_size → get_or l (at + j * branch_size d + i * cell_size + k) (pos 0) ≡ get_or (cell_words (entries d (get_or bs j z) i)) k (pos 0)
-      words k hk =
-          ap (λ (w : ℕ). get_or l w (pos 0)) (add_assoc (at + j * branch_size d) (i * cell_size) k)
-          ∙ bank-word (i * cell_size + k) (omega (arith, block_in_lem hi cell_size))
-          ∙ branch-cell d (get_or bs j z) i k hi hk
+    -- its matrix, whose entries are from −1 to 1
+    module _ {E : ℕ} (kraus : (i : ℕ) → i < d * d → Kraus E (get_or (get_or bs j z).matrix i exact.𝟘)) where
+      words : (k : ℕ) → k < d * d * 4 + 1 → get_or l (at + j * branch_size d + k) (pos 0) ≡ get_or (held_words (d * d) (entries d (get_or bs j z))) k (pos 0)
+      words k hk = bank-word k (omega arith) ∙ branch-matrix d (get_or bs j z) k hk
 
-      bank-cell : cell_at l (at + j * branch_size d + i * cell_size) ≡ get_or (get_or bs j z).matrix i exact.𝟘
-      bank-cell = cell_is l (at + j * branch_size d + i * cell_size) (entries d (get_or bs j z) i) words
+      -- its entries
+      pub bank_held : (i : ℕ) → i < d * d → held_in l (at + j * branch_size d) (d * d) i ≡ get_or (get_or bs j z).matrix i exact.𝟘
+      bank_held = held_is l (at + j * branch_size d) (d * d) (entries d (get_or bs j z)) words (λ i hi. well_lowest (entries d (get_or bs j z) i) (kraus i hi).well_formed_lem)
 
-      bank-exponent : exponent_at l (at + j * branch_size d + i * cell_size) ≡ leb (get_or (get_or bs j z).matrix i exact.𝟘).exp max_exponent
-      bank-exponent = exponent_is l (at + j * branch_size d + i * cell_size) (entries d (get_or bs j z) i) words
-
-    -- its numbers
-    pub bank-read : Read l (at + j * branch_size d) (d * d) (λ (i : ℕ). get_or (get_or bs j z).matrix i exact.𝟘)
-    bank-read = record {
-      room = omega (arith, bank-room, block_in_lem hj (branch_size d));
-      number = bank-cell;
-      exponent = bank-exponent;
-    }
+      pub bank_factors : E ≤ narrow_exponent → Factors l (at + j * branch_size d) (d * d)
+      bank_factors small =
+          held_factors l (at + j * branch_size d) (d * d) (entries d (get_or bs j z)) words
+          (λ i hi. record { exponent = omega (arith, (kraus i hi).coords.exponent); size = (kraus i hi).coords.size })
+          (omega (arith, bank-room, block_in_lem hj (branch_size d)))
 
     bank-store : (k : ℕ) → k < 2 → get_or l (at + j * branch_size d + matrix_size d + k) (pos 0) ≡ get_or (store_words (get_or bs j z).store) k (pos 0)
     bank-store k hk =
@@ -117,9 +92,6 @@ module _ {l : List ℤ} {at : ℕ} (d : ℕ) (bs : List Branch) (h : Holds l at 
       low = ap (up_to max_word) bank-low ∙ le-leb (from_bits (take 32 (get_or bs j z).store)) max_word (omega (arith, low_below (get_or bs j z).store b));
       high = ap (up_to max_word) bank_high ∙ le-leb (from_bits (drop 32 (get_or bs j z).store)) max_word (omega (arith, high_below (get_or bs j z).store b few));
     }
-
-pub held_same : {l m : List ℤ} {at : ℕ} {ws : List ℤ} → Holds l at ws → Same m l at (length ws) → Holds m at ws
-held_same h s = record { room = omega (arith, s.long, h.room); word = λ k l. s.word _ (omega arith) (omega arith) ∙ h.word k l }
 
 -- n blocks that are the words of n branches
 pub held_blocks : (l : List ℤ) (at d : ℕ) (f : ℕ → List ℤ) (z : Branch) (bs : List Branch) {b : List ℤ} → b ≡ blocks (branch_size d) l at (length bs) f → ((i : ℕ) → length (f i) ≤ branch_size d)
@@ -152,16 +124,16 @@ held_blocks l at d f z bs {b} is sized room e =
         place = omega (arith, div-add-mod' k s)
 
 -- ---- matrices given by their entries
-pub table-cells : (d : ℕ) (f : ℕ → ℕ → Exact) → cells (d * d) (λ (i : ℕ). f (i / d) (i % d)) ≡ cells (d * d) (λ (i : ℕ). get_or (table d f) i exact.𝟘)
-table-cells d f =
-    cells_same (d * d) (λ (i : ℕ). f (i / d) (i % d)) (λ (i : ℕ). get_or (table d f) i exact.𝟘)
+pub table_words : (d : ℕ) (f : ℕ → ℕ → Exact) → held_words (d * d) (λ (i : ℕ). f (i / d) (i % d)) ≡ held_words (d * d) (λ (i : ℕ). get_or (table d f) i exact.𝟘)
+table_words d f =
+    words_same (d * d) (λ (i : ℕ). f (i / d) (i % d)) (λ (i : ℕ). get_or (table d f) i exact.𝟘)
     (λ i h. ap (λ (k : ℕ). f (k / d) (k % d)) (sym (zero-add i)) ∙ sym (tabulate-at (d * d) 0 (λ (k : ℕ). f (k / d) (k % d)) exact.𝟘 i h))
 
 -- the identity, then its store
-pub started : (l : List ℤ) (at d : ℕ) (σ : Store) {m b : List ℤ} → m ≡ identified l at d → b ≡ sets m (at + matrix_size d) (store_words σ) → b ≡ sets l at (branch_words d (identity_branch d σ))
+pub started : (l : List ℤ) (at d : ℕ) (σ : Store) {m b : List ℤ} → m ≡ sets l at (held_words (d * d) (λ (i : ℕ). δ exact (i / d) (i % d))) → b ≡ sets m (at + matrix_size d) (store_words σ) → b ≡ sets l at (branch_words d (identity_branch d σ))
 started l at d σ p q =
-    append_block l (cells (d * d) unit) (store_words σ) at (matrix_size d) (length-cells unit (d * d)) (p ∙ fill-block unit l at (d * d)) q
-    ∙ ap (λ (ws : List ℤ). sets l at (ws ++ store_words σ)) (table-cells d (δ exact))
+    append_block l (held_words (d * d) unit) (store_words σ) at (matrix_size d) (length_shared (d * d) unit) p q
+    ∙ ap (λ (ws : List ℤ). sets l at (ws ++ store_words σ)) (table_words d (δ exact))
   where
     unit : ℕ → Exact
     unit i = δ exact (i / d) (i % d)

@@ -1,6 +1,9 @@
 pub mod Stores
 pub mod Banks
+pub mod Identity
+pub mod Numerators
 pub mod Products
+pub mod Applied
 pub mod Gates
 pub mod Steps
 pub mod Link

@@ -6,7 +6,6 @@ use Prim.Native.Nat.{ℕ, zero, suc, ◌+◌, ◌*◌, ◌/◌, ◌%◌, ◌^◌
 use native.Mathlib.Nat.{not-suc-le-zero, div-add-mod', div-lt_iff_lt-mul, mod-lt, le_of_eq}
 use native.Mathlib.Omega.{arith}
 use lib.Arith.{digits_lt}
-use lib.Bits.{bit_xor}
 use lib.ListN.{length, get_or, length-map}
 use lib.IntN.{ℤ}
 use Rattle.algebra.specs.Sum.{times}
@@ -14,18 +13,16 @@ use Rattle.algebra.specs.Lists.{All}
 use Rattle.algebra.specs.Words.{blocks}
 use Rattle.algebra.proofs.Lists.{all_get_d, concat_at}
 use Rattle.algebra.proofs.Sum.{times-same}
-use Rattle.exact.specs.Exact.{Exact, exact, is_lowest, narrow_exponent}
+use Rattle.algebra.proofs.Squares.{row_lt, column_lt}
+use Rattle.exact.specs.Exact.{exact, is_lowest, narrow_exponent}
 use Rattle.exact.specs.Inner.Sizes.{Coords}
 use Rattle.exact.proofs.Exact.{exacts}
 use Rattle.exact.proofs.Sizes.{well_lowest}
-use Rattle.cells.specs.Cells.{cell_at, cell_size}
-use Rattle.cells.proofs.Cell.{cells_same}
-use Rattle.matrix.specs.Matrix as matrix
-use Rattle.matrix.specs.Inner.Factors.{Factor}
-use Rattle.matrix.proofs.Terms.{row_lt, column_lt}
+use Rattle.rows.specs.Inner.Rows.{Factors}
+use Rattle.rows.proofs.Held.{words_same}
 use Rattle.gate.specs.Gate.{Gate}
 use Rattle.gate.specs.Operators.{Operator, operator, operators, no_unitary}
-use Rattle.gate.specs.Inner.Entries.{valid, flips, Ready}
+use Rattle.gate.specs.Inner.Entries.{valid, flips, row_entry}
 use Rattle.gate.specs.Embed.{gate_entry}
 use Rattle.gate.proofs.Bits.{Word}
 use Rattle.gate.proofs.Dispatch.{valid_ready}
@@ -36,12 +33,13 @@ use Rattle.kraus.proofs.Counting.{step-length}
 use Rattle.kraus.proofs.Limits.{Kraus, Enough, matrix_of, gate-entries}
 use Rattle.store.specs.Inner.Held.{StoreAt}
 use Rattle.branches.specs.Inner.Store.{outcome_pair, outcome_bit}
-use Rattle.branches.specs.Inner.Bank.{matrix_size, branch_size, branch_words, bank_words, Holds, row_size}
-use Rattle.branches.specs.Inner.Step.{row_sum, product, RowsAt, step_words}
+use Rattle.branches.specs.Inner.Bank.{matrix_size, branch_size, branch_words, bank_words, Holds}
+use Rattle.branches.specs.Inner.Step as step
+use Rattle.branches.specs.Inner.Step.{row_sum, product, step_words}
+use Rattle.branches.specs.Inner.Run.{gate_stepped}
 use Rattle.branches.proofs.Stores.{outcome-store}
-use Rattle.branches.proofs.Banks.{read_factor, bank-read, bank-low, bank_high, store_at, held_blocks, table-cells}
-use Rattle.branches.proofs.Gates.{operators-some}
-use Rattle.branches.proofs.Products.{partner_lt, own_factor, other_factor, sum_is}
+use Rattle.branches.proofs.Banks.{bank_held, bank_factors, bank-low, bank_high, store_at, held_blocks, table_words}
+use Rattle.branches.proofs.Products.{sum_is}
 use Rattle.branches.proofs.Steps.{factor_pos, length-product}
 
 -- ---- a step of a bank is the step of its branches; z is read past the end of a list
@@ -74,53 +72,30 @@ module _ (n m : ℕ) (g : Gate) (ok : valid n m g ≡ true) (z : Branch) (bs : L
       past b zero (x ∷ xs) h = refl
       past b (suc k) (x ∷ xs) h = past b k xs (omega arith)
 
-  -- the entries of its operators are small
-  pub step_small : (v r c : ℕ) → v < length (operators g) → r < 2 ^ n → c < 2 ^ n → Coords 1 narrow_exponent (gate_entry n g v r c)
-  step_small v r c hv hr hc =
+  -- the entries of its operators are small, and in lowest form
+  pub step_entries : (v r c : ℕ) → v < length (operators g) → r < 2 ^ n → c < 2 ^ n → Coords 1 narrow_exponent (gate_entry n g v r c) × (is_lowest (gate_entry n g v r c) ≡ true)
+  step_entries v r c hv hr hc =
       let k = all_get_d (λ (o : Operator). Everywhere (Kraus 1) n (matrix_of n g o)) os (gate-entries n m g ok) v hv o c hc r hr in
-      record { exponent = omega (arith, k.coords.exponent); size = k.coords.size }
+      (record { exponent = omega (arith, k.coords.exponent); size = k.coords.size }, well_lowest (gate_entry n g v r c) k.well_formed_lem)
 
-  module _ {l : List ℤ} {from : ℕ} (held : Holds l from (bank_words (2 ^ n) bs)) where
-    -- the entries of a bank's branches are factors in lowest form
-    module _ (E : ℕ) (small : E ≤ narrow_exponent) (enough : Enough E n bs) (j i : ℕ) (h : j < length bs) (hi : i < 2 ^ n * 2 ^ n) where
-      abbrev x : Exact
-      x = get_or (get_or bs j z).matrix i exact.𝟘
+  module _ {l : List ℤ} {from : ℕ} (held : Holds l from (bank_words (2 ^ n) bs)) {E : ℕ} (enough : Enough E n bs) where
+    kraus : (j : ℕ) → j < length bs → (i : ℕ) → i < 2 ^ n * 2 ^ n → Kraus E (get_or (get_or bs j z).matrix i exact.𝟘)
+    kraus j h = all_get_d (λ (b : Branch). (i : ℕ) → i < 2 ^ n * 2 ^ n → Kraus E (get_or b.matrix i exact.𝟘)) bs enough.entries j h z
 
-      kraus : Kraus E x
-      kraus = all_get_d (λ (b : Branch). (i : ℕ) → i < 2 ^ n * 2 ^ n → Kraus E (get_or b.matrix i exact.𝟘)) bs enough.entries j h z i hi
-
-      cell_is : cell_at l (from + j * branch_size (2 ^ n) + i * cell_size) ≡ x
-      cell_is = (bank-read (2 ^ n) bs held z j h).number i hi
-
-      pub step_factor : Factor l (from + j * branch_size (2 ^ n) + i * cell_size)
-      step_factor = read_factor (bank-read (2 ^ n) bs held z j h) E small i hi kraus
-
-      pub step-lowest : is_lowest (cell_at l (from + j * branch_size (2 ^ n) + i * cell_size)) ≡ true
-      step-lowest = ap is_lowest cell_is ∙ well_lowest x kraus.well_formed_lem
+    -- the matrices of a bank's branches are factors
+    pub step_factors : E ≤ narrow_exponent → (j : ℕ) → j < length bs → Factors l (from + j * branch_size (2 ^ n)) (2 ^ n * 2 ^ n)
+    step_factors small j h = bank_factors (2 ^ n) bs held z j h (kraus j h) small
 
     -- the product with a branch in words is that with its matrix
     product_is : (j : ℕ) → j < length bs → (v r c : ℕ) → c < 2 ^ n
         → product l n g v (from + j * branch_size (2 ^ n)) (2 ^ n) r c ≡ times exact (2 ^ n) (matrix_of n g (get_or os v o)) (cell exact (2 ^ n) (get_or bs j z).matrix) r c
-    product_is j h v r c q = times-same exacts (2 ^ n) (gate_entry n g v) (gate_entry n g v) (matrix.cell l (from + j * branch_size (2 ^ n)) (2 ^ n)) (cell exact (2 ^ n) (get_or bs j z).matrix) r c
-        (λ k hk. refl) (λ k hk. (bank-read (2 ^ n) bs held z j h).number (k * 2 ^ n + c) (digits_lt hk q))
+    product_is j h v r c q = times-same exacts (2 ^ n) (gate_entry n g v) (gate_entry n g v) (step.entry_at l (from + j * branch_size (2 ^ n)) (2 ^ n)) (cell exact (2 ^ n) (get_or bs j z).matrix) r c
+        (λ k hk. refl) (λ k hk. bank_held (2 ^ n) bs held z j h (kraus j h) (k * 2 ^ n + c) (digits_lt hk q))
 
-    -- the sum of two rows is an entry of the product, where the rows of the operators lie in slots
-    module _ (slots : ℕ) (few_qubits : n ≤ 5) (rows : (v : ℕ) → v < length (operators g) → RowsAt l (slots + v * branch_size (2 ^ n)) n g v (2 ^ n)) where
-      operable : (v : ℕ) → v < ops → Ready n g v
-      operable v hv = valid_ready n m g v ok hv
-
-      pub step_below : (r : ℕ) → r < 2 ^ n → bit_xor r (flips n g) < 2 ^ n
-      step_below r hr = partner_lt (operable 0 (operators-some g)) few_qubits refl hr
-
-      pub step-own : (v r : ℕ) → v < length (operators g) → r < 2 ^ n → Factor l (slots + v * branch_size (2 ^ n) + r * row_size)
-      step-own v r hv hr = own_factor (operable v hv) few_qubits refl refl (rows v hv) (λ r c hr hc. step_small v r c hv hr hc) r hr
-
-      pub step_other : (v r : ℕ) → v < length (operators g) → r < 2 ^ n → Factor l (slots + v * branch_size (2 ^ n) + r * row_size + cell_size)
-      step_other v r hv hr = other_factor (operable v hv) few_qubits refl refl (rows v hv) (λ r c hr hc. step_small v r c hv hr hc) r hr
-
-      row-sums : (j : ℕ) → j < length bs → (v r c : ℕ) → v < ops → r < 2 ^ n → c < 2 ^ n
-          → row_sum l (flips n g) (slots + v * branch_size (2 ^ n)) (from + j * branch_size (2 ^ n)) (2 ^ n) r c ≡ times exact (2 ^ n) (matrix_of n g (get_or os v o)) (cell exact (2 ^ n) (get_or bs j z).matrix) r c
-      row-sums j h v r c hv hr hc = sum_is (operable v hv) few_qubits refl refl (rows v hv) (λ r c hr hc. step_small v r c hv hr hc) (from + j * branch_size (2 ^ n)) r c hr ∙ product_is j h v r c hc
+    -- the sum of two rows is an entry of the product
+    row-sums : n ≤ 5 → (j : ℕ) → j < length bs → (v r c : ℕ) → v < ops → r < 2 ^ n → c < 2 ^ n
+        → row_sum l (flips n g) (row_entry n g v) (from + j * branch_size (2 ^ n)) (2 ^ n) r c ≡ times exact (2 ^ n) (matrix_of n g (get_or os v o)) (cell exact (2 ^ n) (get_or bs j z).matrix) r c
+    row-sums few j h v r c hv hr hc = sum_is (valid_ready n m g v ok hv) few refl hr l (from + j * branch_size (2 ^ n)) c ∙ product_is j h v r c hc
 
     module _ (words : All (λ (b : Branch). Word m b.store) bs) (few : m ≤ 64) where
       -- its stores are two words below 2^32 each
@@ -129,22 +104,22 @@ module _ (n m : ℕ) (g : Gate) (ok : valid n m g ≡ true) (z : Branch) (bs : L
           let (e, b) = all_get_d (λ (b : Branch). Word m b.store) bs words j h z in
           store_at (2 ^ n) bs held z j h b (omega arith)
 
-      module _ (slots : ℕ) (few_qubits : n ≤ 5) (rows : (v : ℕ) → v < length (operators g) → RowsAt l (slots + v * branch_size (2 ^ n)) n g v (2 ^ n)) where
-        step_words_lem : (j : ℕ) → j < length bs * ops → step_words l (flips n g) slots (branch_size (2 ^ n)) (λ (j : ℕ). j % ops) ops from (2 ^ n) (outcome_bit g) j ≡ branch_words (2 ^ n) (get_or (gate_step n bs g) j (apply n z (K o)))
+      module _ (few_qubits : n ≤ 5) where
+        step_words_lem : (j : ℕ) → j < length bs * ops → step_words l (flips n g) (row_entry n g) (λ (j : ℕ). j % ops) ops from (2 ^ n) (outcome_bit g) j ≡ branch_words (2 ^ n) (get_or (gate_step n bs g) j (apply n z (K o)))
         step_words_lem j h =
             let p = factor_pos j (length bs) ops h in
             let b = (div-lt_iff_lt-mul p).1 h in
             let M = matrix_of n g (get_or os (j % ops) o) in
             let x = get_or bs (j / ops) z in
-            (λ i. (cells_same (2 ^ n * 2 ^ n) _ _ (λ k hk. row-sums slots few_qubits rows (j / ops) b (j % ops) (k / 2 ^ n) (k % 2 ^ n) (mod-lt j p) (row_lt k (2 ^ n) hk) (column_lt k (2 ^ n) hk))
-            ∙ table-cells (2 ^ n) (times exact (2 ^ n) M (cell exact (2 ^ n) x.matrix))) i
+            (λ i. (words_same (2 ^ n * 2 ^ n) _ _ (λ k hk. row-sums few_qubits (j / ops) b (j % ops) (k / 2 ^ n) (k % 2 ^ n) (mod-lt j p) (row_lt k (2 ^ n) hk) (column_lt k (2 ^ n) hk))
+            ∙ table_words (2 ^ n) (times exact (2 ^ n) M (cell exact (2 ^ n) x.matrix))) i
             ++ (ap₂ (outcome_pair (outcome_bit g) (j % ops)) (bank-low (2 ^ n) bs held z (j / ops) b) (bank_high (2 ^ n) bs held z (j / ops) b)
             ∙ outcome-store n m g o x.store (j % ops) ok (all_get_d (λ (b : Branch). Word m b.store) bs words (j / ops) b z) few (mod-lt j p)) i)
             ∙ ap (branch_words (2 ^ n)) (sym (step-at j h))
 
-        pub step_held : {to : ℕ} {q : List ℤ} → q ≡ blocks (branch_size (2 ^ n)) l to (length bs * length (operators g)) (step_words l (flips n g) slots (branch_size (2 ^ n)) (λ (j : ℕ). j % length (operators g)) (length (operators g)) from (2 ^ n) (outcome_bit g))
-            → to + length bs * length (operators g) * branch_size (2 ^ n) ≤ length l → Holds q to (bank_words (2 ^ n) (gate_step n bs g))
+        pub step_held : {to : ℕ} {q : List ℤ} → q ≡ gate_stepped l n (2 ^ n) from to (length bs) g → to + length bs * length (operators g) * branch_size (2 ^ n) ≤ length l → Holds q to (bank_words (2 ^ n) (gate_step n bs g))
         step_held {to} e room =
-            let f = step_words l (flips n g) slots (branch_size (2 ^ n)) (λ (j : ℕ). j % ops) ops from (2 ^ n) (outcome_bit g) in
+            let f = step_words l (flips n g) (row_entry n g) (λ (j : ℕ). j % ops) ops from (2 ^ n) (outcome_bit g) in
             held_blocks l to (2 ^ n) f (apply n z (K o)) (gate_step n bs g) (e ∙ ap (λ (k : ℕ). blocks (branch_size (2 ^ n)) l to k f) (sym gate-length))
-            (λ j. le_of_eq (length-product l (flips n g) _ _ (2 ^ n) (outcome_bit g) (j % ops))) (omega (arith, ap (λ (k : ℕ). k * branch_size (2 ^ n)) gate-length)) (λ j h. step_words_lem j (omega (arith, gate-length)))
+            (λ j. le_of_eq (length-product l (flips n g) (row_entry n g (j % ops)) (from + j / ops * branch_size (2 ^ n)) (2 ^ n) (outcome_bit g) (j % ops)))
+            (omega (arith, ap (λ (k : ℕ). k * branch_size (2 ^ n)) gate-length)) (λ j h. step_words_lem j (omega (arith, gate-length)))

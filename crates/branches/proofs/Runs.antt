@@ -4,43 +4,41 @@ use mathlib.Core.Bool.{true}
 use mathlib.Core.Logic.{◌⊎◌, inl, inr, ⊎_elim}
 use mathlib.Core.List.{List, [], ◌∷◌, foldl-append}
 use Prim.Native.Nat.{ℕ, ◌+◌, ◌*◌, ◌-◌, ◌/◌, ◌%◌, ◌^◌, ◌≤◌, ◌<◌}
-use native.Mathlib.Nat.{mod-lt, mul-le-mul, le_refl, le_of_eq, add-mul, mul_assoc, zero-add}
+use native.Mathlib.Nat.{mul-le-mul, le_refl, le_of_eq, add-mul, mul_assoc, zero-add}
 use native.Mathlib.Numerals.{add-one}
 use native.Mathlib.Omega.{arith}
 use lib.Pow.{pow_mono, pow_pos}
 use lib.ListN.{length, get_or, take, get_or-append}
 use lib.Seq.{sets, take-suc, take_all, length-sets}
 use lib.IntN.{ℤ, pos}
-use Rattle.cells.specs.Cells.{cell_size}
 use Rattle.algebra.specs.Lists.{All, total}
-use Rattle.algebra.specs.Words.{blocks}
-use Rattle.algebra.specs.Inner.Apart.{Apart}
 use Rattle.algebra.proofs.Lists.{every-all, all_get_d}
 use Rattle.algebra.proofs.Totals.{sub_whole, sub_take, sub_total}
-use Rattle.algebra.proofs.Blocks.{Writing, wrote, kept, long, block_in_lem, sets_at, sets_above}
-use Rattle.cells.proofs.Cell.{length-cells, block-cell, block-word, exponent_is}
+use Rattle.algebra.proofs.Blocks.{Writing, wrote, kept, long, sets_at, sets_above}
 use Rattle.gate.specs.Gate.{Gate, gate_at, gates_of, splits, gate_size}
 use Rattle.gate.specs.Operators.{operators}
-use Rattle.gate.specs.Inner.Entries.{valid, flips, row_entry, Ready}
+use Rattle.gate.specs.Inner.Entries.{valid, flips, row_entry}
 use Rattle.gate.proofs.Bits.{Word}
 use Rattle.gate.proofs.Dispatch.{valid_ready}
-use Rattle.gate.proofs.Partner.{row-two}
 use Rattle.gate.proofs.Listed.{gates-length, gates-at}
 use Rattle.kraus.specs.Branch.{Store, Branch, branches, start, gate_step}
 use Rattle.kraus.proofs.Counting.{branch_count, branches-bits}
 use Rattle.kraus.proofs.Limits.{Enough, kraus_exponent, circuit_enough}
 use Rattle.branches.specs.Inner.Store.{outcome_bit}
-use Rattle.branches.specs.Inner.Bank.{branch_size, branch_words, bank_words, identity_branch, Holds, row_size}
-use Rattle.branches.specs.Inner.Step.{RowsAt, step_words}
-use Rattle.branches.specs.Inner.Run.{work_size, operator_words, with_operators, gate_stepped, GateStep, Runs, Ran}
-use Rattle.branches.proofs.Banks.{length-branch, length-bank, held_same}
-use Rattle.branches.proofs.Products.{rows_at}
+use Rattle.branches.specs.Inner.Bank.{branch_size, slot_size, branch_words, bank_words, identity_branch, Holds}
+use Rattle.branches.specs.Inner.Step.{step_words}
+use Rattle.branches.specs.Inner.Run.{work_size, gate_stepped, GateStep, Runs, Ran}
+use Rattle.branches.proofs.Banks.{length-branch, length-bank}
 use Rattle.branches.proofs.Steps.{length-product}
-use Rattle.branches.proofs.Gates.{two-operators, operators-some}
-use Rattle.branches.proofs.Link.{gate-length, step_small, step_below, step-own, step_other, step_factor, step-lowest, step-store, step_held}
+use Rattle.branches.proofs.Gates.{operators-some}
+use Rattle.branches.proofs.Link.{gate-length, step_entries, step_factors, step-store, step_held}
 
-pub work_is : (d banks : ℕ) → work_size d banks ≡ 2 * (banks * branch_size d) + 2 * branch_size d
-work_is d banks = add-mul (2 * banks) 2 (branch_size d) ∙ ap (λ (k : ℕ). k + 2 * branch_size d) (mul_assoc 2 banks (branch_size d))
+pub branch_fits : (d : ℕ) → 1 ≤ d → branch_size d ≤ slot_size d
+branch_fits d h = omega (arith, mul-le-mul h h)
+
+-- the work buffer has room for two banks
+pub work_room : (d banks : ℕ) → 1 ≤ d → 2 * (banks * branch_size d) ≤ work_size d banks
+work_room d banks h = omega (arith, add-mul (2 * banks) 2 (slot_size d), mul_assoc 2 banks (slot_size d), mul-le-mul (le_refl banks) (branch_fits d h))
 
 -- the buffer after i gates: their branches at `from`
 pub record Running (l₀ : List ℤ) (ws : List ℕ) (σ : Store) (n d banks : ℕ) (l : List ℤ) (from count i : ℕ) : Type 0 where
@@ -81,7 +79,7 @@ module _ {l₀ : List ℤ} {ws : List ℕ} {σ : Store} {n banks : ℕ} (r : Run
     first = branch_words d (identity_branch d σ)
 
     first-room : size ≤ length l₀
-    first-room = omega (arith, r.room, work_is d banks)
+    first-room = omega (arith, r.room, work_room d banks (pow_pos n), branch_fits d (pow_pos n))
 
     running_begin : Running b ws σ n (2 ^ n) banks b 0 1 0
     running_begin = record {
@@ -143,45 +141,8 @@ module _ {l₀ : List ℤ} {ws : List ℕ} {σ : Store} {n banks : ℕ} (r : Run
     next-size : count * ops * size ≤ bank
     next-size = omega (arith, bank_le (i + 1), ap (λ (k : ℕ). k * size) next-count)
 
-    ops-size : ops * size ≤ 2 * size
-    ops-size = mul-le-mul (two-operators g) (le_refl size)
-
-    room : 2 * bank + 2 * size ≤ length l
-    room = omega (arith, r.room, work_is d banks, w.same_length)
-
-    -- the rows of the operators are written
-    abbrev slots : ℕ
-    slots = 2 * bank
-
-    abbrev m : List ℤ
-    m = with_operators l slots n d g
-
-    operable : Ready n g 0
-    operable = valid_ready n (length σ) g 0 ok (operators-some g)
-
-    -- a gate's qubit is there, so that two entries to a row are no more than all
-    two : 2 ≤ d
-    two = let t = row-two operable r.few 0 (pow_pos n) in omega (arith, t.below, t.other)
-
-    wide : d * row_size ≤ size
-    wide = omega (arith, mul-le-mul two (le_refl d))
-
-    sized : (k : ℕ) → length (operator_words n d g k) ≤ size
-    sized k = omega (arith, length-cells (row_entry n g k) (d * 2), wide)
-
-    writing : Writing size l slots ops (operator_words n d g) m ops
-    writing = wrote sized refl
-
-    held_still : Holds m from (bank_words d (after i))
-    held_still = held_same w.held (kept writing from (length (bank_words d (after i))) (inl (omega (arith, length-bank d (after i), bank_le i, from_le))))
-
-    rows : (v : ℕ) → v < ops → RowsAt m (slots + v * size) n g v d
-    rows v hv = rows_at (omega (arith, long writing, full, block_in_lem hv size, wide)) (λ k hk. block-cell size l slots (operator_words n d g) sized ops v (d * 2) k (row_entry n g v) refl hv hk full)
-        (λ k hk. exponent_is m (slots + v * size + k * cell_size) (row_entry n g v k) (block-word size l slots (operator_words n d g) sized ops v (d * 2) k (row_entry n g v) refl hv hk full))
-        (λ q c hq hc. (step_small n (length σ) g ok (identity_branch d σ) (after i) v q c hv hq hc).exponent) (λ q hq. (row-two operable r.few q hq).below)
-      where
-        full : slots + ops * size ≤ length l
-        full = omega (arith, ops-size, room)
+    room : 2 * bank ≤ length l
+    room = omega (arith, r.room, work_room d banks (pow_pos n), w.same_length)
 
     to_room : to + count * ops * size ≤ 2 * bank
     to_room = omega (arith, next-size, from_le)
@@ -193,58 +154,36 @@ module _ {l₀ : List ℤ} {ws : List ℕ} {σ : Store} {n banks : ℕ} (r : Run
     abbrev z : Branch
     z = identity_branch d σ
 
-    apart : Apart from (count * size) to (count * ops * size)
-    apart = ⊎_elim (λ e. inl (omega (arith, count-size))) (λ e. inr (omega (arith, next-size))) w.place
-
     enough : Enough kraus_exponent n (after i)
     enough = circuit_enough n (length σ) σ (gates_of ws) r.accepted r.light i
 
-    running_ready : GateStep l ws (i * gate_size) (2 * (banks * branch_size (2 ^ n))) n (2 ^ n) from (banks * branch_size (2 ^ n) - from) count
+    running_ready : GateStep l (gate_at ws (i * gate_size)) n (2 ^ n) from (banks * branch_size (2 ^ n) - from) count
     running_ready = record {
-      gate_room = omega arith;
-      slots_ready = record { few = r.few; dim = refl; ready = operable; wide = wide; room = room };
-      ready = record {
-        dim = pow_mono {i = n} {j = 5} r.few;
-        below = step_below n (length σ) g ok z (after i) held_still slots r.few rows;
-        some_op = operators-some g;
-        few_ops = two-operators g;
-        number = λ j hj. mod-lt j (operators-some g);
-        few_held = two-operators g;
-        wide = wide;
-        slots_room = omega (arith, long writing, ops-size, room);
-        own = step-own n (length σ) g ok z (after i) held_still slots r.few rows;
-        other = step_other n (length σ) g ok z (after i) held_still slots r.few rows;
-        slots_apart = inr to_room;
-        from_room = omega (arith, long writing, count-size, from_le, room);
-        to_room = omega (arith, long writing, to_room, room);
-        from_apart = apart;
-        factor = λ b j hb hj. step_factor n (length σ) g ok z (after i) held_still kraus_exponent (omega arith) enough b j (omega (arith, w.counted)) hj;
-        lowest = λ b j hb hj. step-lowest n (length σ) g ok z (after i) held_still kraus_exponent (omega arith) enough b j (omega (arith, w.counted)) hj;
-        stores = λ b hb. step-store n (length σ) g ok z (after i) held_still words r.short b (omega (arith, w.counted));
-      };
+      few = r.few;
+      dim = refl;
+      ready = valid_ready n (length σ) g 0 ok (operators-some g);
+      entries = step_entries n (length σ) g ok z (after i);
+      from_room = omega (arith, count-size, from_le, room);
+      to_room = omega (arith, to_room, room);
+      from_apart = ⊎_elim (λ e. inl (omega (arith, count-size))) (λ e. inr (omega (arith, next-size))) w.place;
+      factors = λ b hb. step_factors n (length σ) g ok z (after i) w.held enough (omega arith) b (omega (arith, w.counted));
+      stores = λ b hb. step-store n (length σ) g ok z (after i) w.held enough words r.short b (omega (arith, w.counted));
     }
 
-    running_more : {q : List ℤ} {c : ℕ} → c ≡ count * length (operators (gate_at ws (i * gate_size))) → q ≡ gate_stepped l (2 * (banks * branch_size (2 ^ n))) n (2 ^ n) from (banks * branch_size (2 ^ n) - from) count (gate_at ws (i * gate_size))
+    running_more : {q : List ℤ} {c : ℕ} → c ≡ count * length (operators (gate_at ws (i * gate_size))) → q ≡ gate_stepped l n (2 ^ n) from (banks * branch_size (2 ^ n) - from) count (gate_at ws (i * gate_size))
         → Running l₀ ws σ n (2 ^ n) banks q (banks * branch_size (2 ^ n) - from) c (i + 1)
     running_more {q} p e = record {
       below = omega arith;
       counted = p ∙ next-count;
       held = subst (λ (bs : List Branch). Holds q to (bank_words d bs)) (sym next)
-          (step_held n (length σ) g ok z (after i) held_still words r.short slots r.few rows
-          (e ∙ ap (λ (k : ℕ). blocks size m to (k * ops) stepped) w.counted) (omega (arith, long writing, to_room, room, ap (λ (k : ℕ). k * ops * size) w.counted)));
+          (step_held n (length σ) g ok z (after i) w.held enough words r.short r.few (e ∙ ap (λ (k : ℕ). gate_stepped l n d from to k g) w.counted) (omega (arith, to_room, room, ap (λ (k : ℕ). k * ops * size) w.counted)));
       place = ⊎_elim (λ e. inr (omega arith)) (λ e. inl (omega arith)) w.place;
-      same_length = long after-step ∙ long writing ∙ w.same_length;
-      past = λ k hk.
-          (kept after-step k 1 (inr (omega (arith, to_room, hk, work_is d banks)))).word k (omega arith) (omega arith)
-          ∙ (kept writing k 1 (inr (omega (arith, ops-size, hk, work_is d banks)))).word k (omega arith) (omega arith)
-          ∙ w.past k hk;
+      same_length = long after-step ∙ w.same_length;
+      past = λ k hk. (kept after-step k 1 (inr (omega (arith, to_room, hk, work_room d banks (pow_pos n))))).word k (omega arith) (omega arith) ∙ w.past k hk;
     }
       where
-        stepped : ℕ → List ℤ
-        stepped = step_words m (flips n g) slots (branch_size d) (λ (j : ℕ). j % ops) ops from d (outcome_bit g)
-
-        after-step : Writing size m to (count * ops) stepped q (count * ops)
-        after-step = wrote (λ j. le_of_eq (length-product m (flips n g) _ _ d (outcome_bit g) (j % ops))) e
+        after-step : Writing size l to (count * ops) (step_words l (flips n g) (row_entry n g) (λ (j : ℕ). j % ops) ops from d (outcome_bit g)) q (count * ops)
+        after-step = wrote (λ j. le_of_eq (length-product l (flips n g) (row_entry n g (j % ops)) (from + j / ops * size) d (outcome_bit g) (j % ops))) e
 
 -- ---- the same with the number of rows, and the size of a bank, as they are handed over
 -- b is the buffer with the first branch written
@@ -259,6 +198,9 @@ module _ {l₀ : List ℤ} {ws : List ℕ} {σ : Store} {n d banks : ℕ} (r₀ 
   runs : Runs b ws σ n d banks
   runs = record { few = r₀.few; dim = r₀.dim; accepted = r₀.accepted; light = r₀.light; short = r₀.short; bits = r₀.bits; banked = r₀.banked; room = omega (arith, r₀.room, same) }
 
+  some : 1 ≤ d
+  some = omega (arith, r₀.dim, pow_pos n)
+
   pub ends : {l : List ℤ} {from count i : ℕ} → Running b ws σ n d banks l from count i → length ws / gate_size ≤ i → Ran l₀ l ws σ n d banks from
   ends {l} {from} {i = i} w h =
       let all : take i (gates_of ws) ≡ gates_of ws = take_all i (gates_of ws) (omega (arith, gates-length ws 0 (length ws / gate_size))) in
@@ -268,23 +210,20 @@ module _ {l₀ : List ℤ} {ws : List ℕ} {σ : Store} {n d banks : ℕ} (r₀ 
         inside = ⊎_elim (λ p. omega arith) (λ p. omega arith) w.place;
         long = w.same_length ∙ same;
         kept = λ k q. w.past k q ∙ ap (λ (m : List ℤ). get_or m k (pos 0)) start_is
-            ∙ sets_above (branch_words d (identity_branch d σ)) l₀ 0 k (pos 0) (omega (arith, length-branch d (identity_branch d σ), work_is d banks));
+            ∙ sets_above (branch_words d (identity_branch d σ)) l₀ 0 k (pos 0) (omega (arith, length-branch d (identity_branch d σ), work_room d banks some, branch_fits d some));
       }
 
   module _ {l : List ℤ} {from count i size : ℕ} (w : Running b ws σ n d banks l from count i) (h : i < length ws / gate_size) (e : size ≡ branch_size d) where
-    pub place_le : from ≤ banks * size
-    place_le = ⊎_elim (λ p. omega arith) (λ p. omega (arith, ap (λ (k : ℕ). banks * k) e)) w.place
-
-    pub ready : GateStep l ws (i * gate_size) (2 * (banks * size)) n d from (banks * size - from) count
+    pub ready : GateStep l (gate_at ws (i * gate_size)) n d from (banks * size - from) count
     ready =
-        subst (λ (s : ℕ). GateStep l ws (i * gate_size) (2 * (banks * s)) n d from (banks * s - from) count) (sym e)
-        (subst (λ (d : ℕ). Runs b ws σ n d banks → Running b ws σ n d banks l from count i → GateStep l ws (i * gate_size) (2 * (banks * branch_size d)) n d from (banks * branch_size d - from) count) (sym r₀.dim)
+        subst (λ (s : ℕ). GateStep l (gate_at ws (i * gate_size)) n d from (banks * s - from) count) (sym e)
+        (subst (λ (d : ℕ). Runs b ws σ n d banks → Running b ws σ n d banks l from count i → GateStep l (gate_at ws (i * gate_size)) n d from (banks * branch_size d - from) count) (sym r₀.dim)
         (λ r w. running_ready r w h) runs w)
 
-    pub more : {q : List ℤ} {c : ℕ} → c ≡ count * length (operators (gate_at ws (i * gate_size))) → q ≡ gate_stepped l (2 * (banks * size)) n d from (banks * size - from) count (gate_at ws (i * gate_size))
+    pub more : {q : List ℤ} {c : ℕ} → c ≡ count * length (operators (gate_at ws (i * gate_size))) → q ≡ gate_stepped l n d from (banks * size - from) count (gate_at ws (i * gate_size))
         → Running b ws σ n d banks q (banks * size - from) c (i + 1)
     more {q} {c} p =
-        subst (λ (s : ℕ). q ≡ gate_stepped l (2 * (banks * s)) n d from (banks * s - from) count (gate_at ws (i * gate_size)) → Running b ws σ n d banks q (banks * s - from) c (i + 1)) (sym e)
+        subst (λ (s : ℕ). q ≡ gate_stepped l n d from (banks * s - from) count (gate_at ws (i * gate_size)) → Running b ws σ n d banks q (banks * s - from) c (i + 1)) (sym e)
         (subst (λ (d : ℕ). Runs b ws σ n d banks → Running b ws σ n d banks l from count i
-        → q ≡ gate_stepped l (2 * (banks * branch_size d)) n d from (banks * branch_size d - from) count (gate_at ws (i * gate_size)) → Running b ws σ n d banks q (banks * branch_size d - from) c (i + 1)) (sym r₀.dim)
+        → q ≡ gate_stepped l n d from (banks * branch_size d - from) count (gate_at ws (i * gate_size)) → Running b ws σ n d banks q (banks * branch_size d - from) c (i + 1)) (sym r₀.dim)
         (λ r w f. running_more r w h p f) runs w)

@@ -1,38 +1,61 @@
 -- One turn of a step's loop: the branch is as it was, its product may be taken, and one branch more is written.
-use mathlib.Core.Path.{◌≡◌, refl, ap, ◌∙◌, fun_ext}
+use mathlib.Core.Path.{◌≡◌, refl, sym, ap, ◌∙◌, subst₂, transport⁻¹, fun_ext}
+use mathlib.Core.Logic.{inl, inr}
 use mathlib.Core.List.{List, ◌++◌}
 use Prim.Native.Nat.{ℕ, zero, suc, ◌+◌, ◌*◌, ◌-◌, ◌/◌, ◌%◌, ◌^◌, ◌≤◌, ◌<◌}
-use native.Mathlib.Nat.{div-one, div-lt_iff_lt-mul, le_refl}
+use native.Mathlib.Nat.{le_of_eq, div-one, div-lt_iff_lt-mul}
 use native.Mathlib.Omega.{arith}
 use lib.Bits.{bit_and, and_mask}
-use lib.ListN.{length, length-append}
-use lib.Seq.{sets}
-use lib.IntN.{ℤ}
+use lib.ListN.{length, length-append, get_or}
+use lib.Seq.{sets, length-sets}
+use lib.IntN.{ℤ, pos, nat_abs}
 use Rattle.algebra.specs.Words.{up_to}
 use Rattle.algebra.specs.Inner.Apart.{Apart}
-use Rattle.algebra.proofs.Blocks.{Writing, again, kept, wrote, Same, same_trans, part, cut, narrow, block_in_lem, append_block}
-use Rattle.exact.specs.Exact.{Exact, is_lowest}
-use Rattle.cells.specs.Cells.{cells, cell_size}
-use Rattle.cells.proofs.Cell.{fill-block, length-cells, cell_same, cells_same}
+use Rattle.algebra.proofs.Blocks.{Writing, begin, again, kept, sets_below, sets_above, Same, same_trans, part, cut, narrow, block_in_lem, append_block}
+use Rattle.algebra.proofs.Squares.{row_lt, column_lt}
+use Rattle.exact.specs.Exact.{Number, Exact, narrow_exponent}
+use Rattle.exact.specs.Inner.Sizes.{Within}
+use Rattle.gate.specs.declared.rows.Rows.{Rows}
+use Rattle.gate.specs.Inner.Rows.{entry_in}
+use Rattle.share.proofs.Numbers.{number_same}
+use Rattle.rows.specs.Inner.Rows.{held_words, Factors}
+use Rattle.rows.proofs.Held.{length_shared, words_same}
 use Rattle.store.specs.Store.{max_word}
-use Rattle.matrix.specs.Inner.Written.{written}
-use Rattle.matrix.proofs.Terms.{row_lt, column_lt, factor_same}
 use Rattle.store.specs.Inner.Held.{StoreAt}
 use Rattle.branches.specs.Inner.Store.{outcome_pair, outcome_words}
-use Rattle.branches.specs.Inner.Bank.{matrix_size, branch_size, row_size}
+use Rattle.branches.specs.Inner.Bank.{matrix_size, branch_size}
 use Rattle.branches.specs.Inner.Step.{row_sum, Applying, operator_number, product_words, step_words, Step}
-use Rattle.branches.proofs.Products.{own_at, other_at, sum_same}
+use Rattle.branches.proofs.Numerators.{sum_same}
 
 pub factor_pos : (j n k : ℕ) → j < n * k → 0 < k
 factor_pos j n zero h = absurd (omega arith)
 factor_pos j n (suc k) h = omega arith
 
-pub length-product : (l : List ℤ) (m op old d bit v : ℕ) → length (product_words l m op old d bit v) ≡ branch_size d
-length-product l m op old d bit v =
-    length-append (cells (d * d) entry) (outcome_words l (old + matrix_size d) bit v) ∙ ap (λ (k : ℕ). k + 2) (length-cells entry (d * d))
+pub length-product : (l : List ℤ) (m : ℕ) (E : ℕ → Exact) (old d bit v : ℕ) → length (product_words l m E old d bit v) ≡ branch_size d
+length-product l m E old d bit v =
+    length-append (held_words (d * d) entry) (outcome_words l (old + matrix_size d) bit v) ∙ ap (λ (k : ℕ). k + 2) (length_shared (d * d) entry)
   where
     entry : ℕ → Exact
-    entry i = row_sum l m op old d (i / d) (i % d)
+    entry i = row_sum l m E old d (i / d) (i % d)
+
+-- ---- what holds of the same words
+factors_same : {l m : List ℤ} {at n : ℕ} → Same l m at (n * 4 + 1) → Factors m at n → Factors l at n
+factors_same {l} {m} {at} {n} h t = record {
+  room = omega (arith, h.long, t.room);
+  exponent = ap (up_to narrow_exponent) last ∙ t.exponent;
+  sizes = λ i p. let q = block_in_lem p 4 in subst₂ (λ (e : ℕ) (x : Number). Within (2 ^ e) x) (sym (ap nat_abs last)) (sym (number_same (cut h 4 i (omega arith)))) (t.sizes i p);
+}
+  where
+    last : get_or l (at + n * 4) (pos 0) ≡ get_or m (at + n * 4) (pos 0)
+    last = h.word (at + n * 4) (omega arith) (omega arith)
+
+-- a part that lies apart from the words that are written
+apart-kept : {l m : List ℤ} {at : ℕ} (ws : List ℤ) → m ≡ sets l at ws → (a n : ℕ) → Apart a n at (length ws) → Same m l a n
+apart-kept {l} {m} {at} ws e a n p = record { long = ap length e ∙ length-sets l at ws; word = λ w h k. ap (λ (c : List ℤ). get_or c w (pos 0)) e ∙ by p w h k }
+  where
+    by : Apart a n at (length ws) → (w : ℕ) → a ≤ w → w < a + n → get_or (sets l at ws) w (pos 0) ≡ get_or l w (pos 0)
+    by (inl p) w h k = sets_below ws l at w (pos 0) (omega arith)
+    by (inr p) w h k = sets_above ws l at w (pos 0) (omega arith)
 
 -- ---- the numbers of operator and branch, by a mask and a shift
 number_by : (j ops : ℕ) → 1 ≤ ops → ops ≤ 2 → operator_number 0 (ops - 1) j ≡ j % ops
@@ -55,11 +78,15 @@ branch_by j (suc (suc zero)) h k = refl
 branch_by j (suc (suc (suc ops))) h k = absurd (omega arith)
 
 -- what a step asks of its sizes
-module _ {l : List ℤ} {f slots stride held : ℕ} {v : ℕ → ℕ} {ops from to d count : ℕ} (p : Step l f slots stride held v ops from to d count) where
-  pub branch_is : (j : ℕ) → j / 2 ^ (ops - 1) ≡ j / ops
+module _ {l : List ℤ} {f : ℕ} {R : ℕ → Rows} {held : ℕ} {v : ℕ → ℕ} {ops from to d count : ℕ} (p : Step l f R held v ops from to d count) where
+  branch_is : (j : ℕ) → j / 2 ^ (ops - 1) ≡ j / ops
   branch_is j = branch_by j ops p.some_op p.few_ops
 
-  module _ {j : ℕ} (h : j < count * ops) where
+  pub none_stepped : (bit : ℕ) → Writing (branch_size d) l to (count * ops) (step_words l f (λ (v : ℕ). entry_in (R v)) v ops from d bit) l 0
+  none_stepped bit = begin (λ j. le_of_eq (length-product l f (entry_in (R (v j))) (from + j / ops * branch_size d) d bit (v j)))
+
+  -- turn j, where code counts s words for a matrix
+  module _ {j : ℕ} (h : j < count * ops) {s : ℕ} (es : s ≡ matrix_size d) where
     abbrev old : ℕ
     old = from + j / ops * branch_size d
 
@@ -69,89 +96,79 @@ module _ {l : List ℤ} {f slots stride held : ℕ} {v : ℕ → ℕ} {ops from 
     abbrev size : ℕ
     size = branch_size d
 
-    number_lt : v j < held
-    number_lt = p.number j h
-
     old_lt : j / ops < count
     old_lt = (div-lt_iff_lt-mul p.some_op).1 h
 
-    pub op-at : slots + v j * stride + d * row_size ≤ length l
-    op-at = omega (arith, block_in_lem number_lt stride, p.wide, p.slots_room)
-
-    pub old_in : j / ops * branch_size d + branch_size d ≤ count * branch_size d
+    old_in : j / ops * branch_size d + branch_size d ≤ count * branch_size d
     old_in = block_in_lem old_lt size
 
-    pub new_in : j * branch_size d + branch_size d ≤ count * ops * branch_size d
+    new_in : j * branch_size d + branch_size d ≤ count * ops * branch_size d
     new_in = block_in_lem h size
 
-    module _ (bit : ℕ) {b : List ℤ} (w : Writing (branch_size d) l to (count * ops) (step_words l f slots stride v ops from d bit) b j) where
+    -- both branches end within the words
+    pub old_end : from + j / 2 ^ (ops - 1) * (s + 2) + (s + 2) ≤ length l
+    old_end = transport⁻¹ (λ i. from + branch_is j i * (es i + 2) + (es i + 2) ≤ length l) (omega (arith, old_in, p.from_room))
+
+    pub new_end : to + j * (s + 2) + (s + 2) ≤ length l
+    new_end = transport⁻¹ (λ i. to + j * (es i + 2) + (es i + 2) ≤ length l) (omega (arith, new_in, p.to_room))
+
+    module _ (bit : ℕ) {b : List ℤ} (w : Writing (branch_size d) l to (count * ops) (step_words l f (λ (v : ℕ). entry_in (R v)) v ops from d bit) b j) {Q : Rows} (eq : Q ≡ R (v j)) where
       branch : Same b l old size
       branch = part (kept w from (count * size) p.from_apart) old size (omega arith) (omega (arith, old_in))
 
-      matrix : Same b l old (d * d * cell_size)
-      matrix = part branch old (d * d * cell_size) (omega arith) (omega arith)
-
-      same_at : (i : ℕ) → i < d * d → Same b l (old + i * cell_size) cell_size
-      same_at i hi = cut matrix cell_size i (block_in_lem hi cell_size)
+      matrix : Same b l old (matrix_size d)
+      matrix = part branch old (matrix_size d) (omega arith) (omega arith)
 
       -- the branch lies apart from the place of its product
       old_apart : Apart old size new size
       old_apart = narrow from (count * size) to (count * ops * size) old size new size p.from_apart (omega arith) (omega (arith, old_in)) (omega arith) (omega (arith, new_in))
 
-      op_in : v j * stride + d * row_size ≤ held * stride
-      op_in = omega (arith, block_in_lem number_lt stride, p.wide)
-
-      abbrev op : ℕ
-      op = slots + v j * stride
-
-      entries : Same b l op (d * row_size)
-      entries = part (kept w slots (held * stride) p.slots_apart) op (d * row_size) (omega arith) (omega (arith, op_in))
-
-      pub turn_applying : Applying b f (slots + v j * stride) (from + j / ops * branch_size d) (to + j * branch_size d) d
-      turn_applying = record {
+      pub turn_applying : Applying b f Q (from + j / 2 ^ (ops - 1) * (s + 2)) (to + j * (s + 2)) d
+      turn_applying = transport⁻¹ (λ i. Applying b f (eq i) (from + branch_is j i * (es i + 2)) (to + j * (es i + 2)) d) (record {
         dim = p.dim;
         below = p.below;
-        op_room = omega (arith, entries.long, op-at);
-        own = λ r hr. factor_same (own_at d entries matrix r hr) (p.own (v j) r number_lt hr);
-        other = λ r hr. factor_same (other_at d entries matrix r hr) (p.other (v j) r number_lt hr);
-        op_apart = narrow slots (held * stride) to (count * ops * size) (slots + v j * stride) (d * row_size) new (d * d * cell_size) p.slots_apart (omega arith) (omega (arith, op_in)) (omega arith) (omega (arith, new_in));
-        old_room = omega (arith, branch.long, old_in, p.from_room);
-        factor = λ i hi. factor_same (same_at i hi) (p.factor (j / ops) i old_lt hi);
-        lowest = λ i hi. ap is_lowest (cell_same (same_at i hi)) ∙ p.lowest (j / ops) i old_lt hi;
+        sized = p.sized (v j) (p.number j h);
+        factors = factors_same matrix (p.factors (j / ops) old_lt);
         new_room = omega (arith, branch.long, new_in, p.to_room);
-        apart = narrow old size new size old (d * d * cell_size) new (d * d * cell_size) old_apart (omega arith) (omega arith) (omega arith) (omega arith);
-      }
+        apart = narrow old size new size old (matrix_size d) new (matrix_size d) old_apart (omega arith) (omega arith) (omega arith) (omega arith);
+      })
 
       -- after the product
-      module _ {m : List ℤ} (e : m ≡ written b (to + j * branch_size d) d (row_sum b f (slots + v j * stride) (from + j / ops * branch_size d) d)) where
+      module _ {m : List ℤ} (em : m ≡ sets b (to + j * (s + 2)) (held_words (d * d) (λ (k : ℕ). row_sum b f (entry_in Q) (from + j / 2 ^ (ops - 1) * (s + 2)) d (k / d) (k % d)))) where
         abbrev entry : ℕ → Exact
-        entry i = row_sum b f op old d (i / d) (i % d)
+        entry k = row_sum b f (entry_in (R (v j))) old d (k / d) (k % d)
+
+        product : m ≡ sets b new (held_words (d * d) entry)
+        product = em ∙ (λ i. sets b (to + j * (es i + 2)) (held_words (d * d) (λ (k : ℕ). row_sum b f (entry_in (eq i)) (from + branch_is j i * (es i + 2)) d (k / d) (k % d))))
 
         store : Same m l (old + matrix_size d) 2
         store =
             same_trans
-            (kept (wrote (λ k. le_refl cell_size) e) (old + matrix_size d) 2 (narrow old size new size (old + matrix_size d) 2 new (d * d * cell_size) old_apart (omega arith) (omega arith) (omega arith) (omega arith)))
+            (apart-kept (held_words (d * d) entry) product (old + matrix_size d) 2
+            (narrow old size new size (old + matrix_size d) 2 new (length (held_words (d * d) entry)) old_apart (omega arith) (omega arith) (omega arith) (omega (arith, length_shared (d * d) entry))))
             (part branch (old + matrix_size d) 2 (omega arith) (omega arith))
 
-        pub turn-store : StoreAt m (from + j / ops * branch_size d + matrix_size d)
+        low : get_or m (old + matrix_size d) (pos 0) ≡ get_or l (old + matrix_size d) (pos 0)
+        low = store.word (old + matrix_size d) (omega arith) (omega arith)
+
+        high : get_or m (old + matrix_size d + 1) (pos 0) ≡ get_or l (old + matrix_size d + 1) (pos 0)
+        high = store.word (old + matrix_size d + 1) (omega arith) (omega arith)
+
+        pub turn-store : StoreAt m (from + j / 2 ^ (ops - 1) * (s + 2) + s)
         turn-store =
-            let s = p.stores (j / ops) old_lt in
-            record {
-              room = omega (arith, store.long, s.room);
-              low = ap (up_to max_word) (store.word (old + matrix_size d) (omega arith) (omega arith)) ∙ s.low;
-              high = ap (up_to max_word) (store.word (old + matrix_size d + 1) (omega arith) (omega arith)) ∙ s.high;
-            }
+            let t = p.stores (j / ops) old_lt in
+            transport⁻¹ (λ i. StoreAt m (from + branch_is j i * (es i + 2) + es i)) (record { room = omega (arith, store.long, t.room); low = ap (up_to max_word) low ∙ t.low; high = ap (up_to max_word) high ∙ t.high })
 
-        pub turn-room : to + j * branch_size d + matrix_size d + 2 ≤ length m
-        turn-room = omega (arith, store.long, new_in, p.to_room)
+        pub turn-room : to + j * (s + 2) + s + 2 ≤ length m
+        turn-room = transport⁻¹ (λ i. to + j * (es i + 2) + es i + 2 ≤ length m) (omega (arith, store.long, new_in, p.to_room))
 
-        entry-same : (k : ℕ) → k < d * d → entry k ≡ row_sum l f op old d (k / d) (k % d)
-        entry-same k hk = sum_same d entries matrix f (k / d) (k % d) (row_lt k d hk) (column_lt k d hk) (p.below (k / d) (row_lt k d hk))
+        entry-same : (k : ℕ) → k < d * d → entry k ≡ row_sum l f (entry_in (R (v j))) old d (k / d) (k % d)
+        entry-same k hk = sum_same d matrix f (entry_in (R (v j))) (k / d) (k % d) (row_lt k d hk) (column_lt k d hk) (p.below (k / d) (row_lt k d hk))
 
-        pub turn_more : {q : List ℤ} → q ≡ sets m (to + j * branch_size d + matrix_size d) (outcome_words m (from + j / ops * branch_size d + matrix_size d) bit (v j))
-            → Writing (branch_size d) l to (count * ops) (step_words l f slots stride v ops from d bit) q (j + 1)
+        pub turn_more : {q : List ℤ} → q ≡ sets m (to + j * (s + 2) + s) (outcome_words m (from + j / 2 ^ (ops - 1) * (s + 2) + s) bit (v j))
+            → Writing (branch_size d) l to (count * ops) (step_words l f (λ (v : ℕ). entry_in (R v)) v ops from d bit) q (j + 1)
         turn_more g =
             again w h
-            (append_block b (cells (d * d) entry) (outcome_words m (old + matrix_size d) bit (v j)) new (matrix_size d) (length-cells entry (d * d)) (e ∙ fill-block entry b new (d * d)) g)
-            (λ i. cells_same (d * d) entry _ entry-same i
-            ++ outcome_pair bit (v j) (store.word (old + matrix_size d) (omega arith) (omega arith) i) (store.word (old + matrix_size d + 1) (omega arith) (omega arith) i))
+            (append_block b (held_words (d * d) entry) (outcome_words m (old + matrix_size d) bit (v j)) new (matrix_size d) (length_shared (d * d) entry) product
+            (g ∙ (λ i. sets m (to + j * (es i + 2) + es i) (outcome_words m (from + branch_is j i * (es i + 2) + es i) bit (v j)))))
+            (λ i. words_same (d * d) entry _ entry-same i ++ outcome_pair bit (v j) (low i) (high i))

@@ -1,27 +1,46 @@
 // Branches in words: where they lie, the first one, and a step of all of them.
-// Kept (buffers, together): a place in the buffer. Both banks and the operators lie in one lent buffer, which a step reads at two places and writes at a third.
-// Kept (facts): d ≤ 32 keeps two products in range. Two of the four functions take a bare d; as a ghost of Bank it would be shown at each of the five places that make one.
-ghost use Rattle.std.specs.Prelude.{◌≡◌, ◌+◌, ◌*◌, ◌^◌, ◌<◌, ◌≤◌, length, unwrap_or};
+// Kept (buffers, together): a place in the buffer. Both banks lie in one lent buffer, of which a step reads one and writes the other.
+// Kept (facts): d ≤ 32 keeps two products in range. Most functions take a bare d; as a ghost of Bank it would be shown at each place that makes one.
+ghost use Rattle.std.specs.Prelude.{◌≡◌, ◌+◌, ◌*◌, ◌/◌, ◌%◌, ◌^◌, ◌<◌, ◌≤◌, length, unwrap_or};
 ghost use Rattle.std.proofs.lemmas.List.Edits.{sets};
+ghost use Rattle.algebra.specs.Sum.{δ};
 ghost use Rattle.algebra.specs.Words.{blocks};
+ghost use Rattle.exact.specs.Exact.{exact};
+ghost use Rattle.rows.specs.Inner.Rows.{held_words};
 ghost use Rattle.store.specs.Inner.Held.{Bits};
 ghost use Rattle.branches.specs.Inner.Store.{no_bit};
-ghost use Rattle.branches.specs.Inner.Bank.{matrix_size, branch_size, branch_words, identity_branch};
-ghost use Rattle.branches.specs.Inner.Step.{Step, operator_number, step_words};
+ghost use Rattle.branches.specs.Inner.Bank.{matrix_size, branch_size, slot_size, branch_words, identity_branch};
+ghost use Rattle.gate.specs.Inner.Rows.{entry_in};
+ghost use Rattle.branches.specs.Inner.Step.{Step, operator_in, operator_number, step_words};
 
 use super::apply::apply_operator;
 use super::outcome::write_store;
 use cells::CELL;
-use matrix::identity::identity_into;
+use channel::layout::ENTRY;
+use gate::rows::Rows;
+use matrix::words::clear;
 use store::pack;
 
-// The words of a row of an operator: its two entries.
-pub const ROW: usize = 2 * CELL;
+// The words of a matrix.
+fn matrix_size(d: usize) -> usize
+    requires { d ≤ 32 }
+    ensures { result ≡ matrix_size d }
+{
+    d * d * ENTRY + 1
+}
 
 // The words of a branch.
 pub fn branch_size(d: usize) -> usize
     requires { d ≤ 32 }
     ensures { result ≡ branch_size d }
+{
+    matrix_size(d) + 2
+}
+
+// The words that a circuit asks for a branch.
+pub fn slot_size(d: usize) -> usize
+    requires { d ≤ 32 }
+    ensures { result ≡ slot_size d }
 {
     d * d * CELL + 2
 }
@@ -48,7 +67,18 @@ impl Bank {
         requires { (self.d ≤ 32) × (self.at + j * branch_size self.d + branch_size self.d < 2 ^ 64) }
         ensures { result ≡ self.at + j * branch_size self.d + matrix_size self.d }
     {
-        self.branch(j) + self.d * self.d * CELL
+        self.branch(j) + matrix_size(self.d)
+    }
+}
+
+// Write the identity to `at` on.
+fn identity_into(work: &mut [i64], at: usize, d: usize)
+    requires { (d ≤ 32) × (at + matrix_size d ≤ length work.old) }
+    ensures { work.new ≡ sets work.old at (held_words (d * d) (λ i. δ exact (i / d) (i % d))) }
+{
+    clear(work, at, matrix_size(d));
+    for r in 0..d {
+        work[at + (r * d + r) * ENTRY] = 1;
     }
 }
 
@@ -59,23 +89,35 @@ pub fn start_branch(work: &mut [i64], at: usize, d: usize, store: &[u8])
 {
     identity_into(work, at, d);
     let (low, high) = store.split_at(store.len().min(32));
-    let s = at + d * d * CELL;
+    let s = at + matrix_size(d);
     work[s] = pack(low) as i64;
     work[s + 1] = pack(high) as i64;
 }
 
-// Operators by their rows, which lie from `slots` on, `stride` words from each to the next.
-// Product j is with the one whose number is j >> shift, of which `mask` keeps the bits that number operators.
+// One or two operators. Product j is with the one whose number is j >> shift, of which `mask` keeps the bits that number operators.
 #[derive(Clone, Copy)]
-pub struct Operators {
-    pub slots: usize,
-    pub stride: usize,
+pub struct Operators<'a> {
+    pub first: &'a Rows,
+    pub second: &'a Rows,
     pub shift: u32,
     pub mask: usize,
     pub ghost shifts: { shift < 64 },
 }
 
+impl<'a> Operators<'a> {
+    // The operator with the number v.
+    fn numbered(self, v: usize) -> &'a Rows
+        ensures { result.now ≡ operator_in self.entry.first.now self.entry.second.now v }
+    {
+        if v == 0 {
+            return self.first;
+        }
+        self.second
+    }
+}
+
 // Send each branch of a bank to its `ops` products with these operators, a bank at `to`, and write the operator's number to the store's bit `bit`, if there is one.
+// m are the bits that take a row of an operator to its partner.
 #[inline(always)]
 pub fn step(
     work: &mut [i64],
@@ -86,20 +128,21 @@ pub fn step(
     to: usize,
     bit: Option<u32>,
 )
-    requires { Step work.old m operators.slots operators.stride (operators.mask + 1) (operator_number operators.shift operators.mask) ops from.at to from.d from.count }
-    ensures { work.new ≡ blocks (branch_size from.d) work.old to (from.count * ops) (step_words work.old m operators.slots operators.stride (operator_number operators.shift operators.mask) ops from.at from.d (unwrap_or bit no_bit)) }
+    requires { Step work.old m (operator_in operators.first.now operators.second.now) (operators.mask + 1) (operator_number operators.shift operators.mask) ops from.at to from.d from.count }
+    ensures { let o = operators.entry in work.new ≡ blocks (branch_size from.d) work.old to (from.count * ops)
+        (step_words work.old m (λ v. entry_in (operator_in o.first.now o.second.now v)) (operator_number o.shift o.mask) ops from.at from.d (unwrap_or bit no_bit)) }
 {
     let d = from.d;
-    let matrix = d * d * CELL;
+    let matrix = matrix_size(d);
     let size = matrix + 2;
     let total = from.count * ops;
     let last = ops - 1;
     for j in 0..total {
         let v = (j >> operators.shift) & operators.mask;
-        let op = operators.slots + v * operators.stride;
+        let rows = operators.numbered(v);
         let old = from.at + (j >> last) * size;
         let new = to + j * size;
-        apply_operator(work, m, op, old, new, d);
+        apply_operator(work, m, rows, old, new, d);
         write_store(work, old + matrix, new + matrix, bit, v as u64);
     }
 }

@@ -1,5 +1,5 @@
 // A scalar as five words of a lent slice, n0 to n3 and e: read, written, and tested.
-// Kept (buffers): words and a place in them. Rows of cells are read at two places of one lent buffer and written at a third: cut into a slice a cell, the buffer would have to be split there and joined again for every row.
+// Kept (buffers): words and a place in them. Numerators are read at two places of one lent buffer and written at a third, row by row: cut into a slice a number, the buffer would have to be split there and joined again for every row.
 // Kept (facts): that five words are there, of the readers: a type that says so is the cut slice of which the line above speaks.
 #![tactic(auto)]
 

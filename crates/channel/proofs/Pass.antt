@@ -33,7 +33,7 @@ use Rattle.channel.proofs.RoundTrip.{all_same}
 use Rattle.channel.proofs.ByWords.{by-words, words_test, zero_test}
 
 -- a number is zero exactly where its lowest form is
-zero-lowest : (z : Number) (e : ℕ) → is_zero (lowest z e).num ≡ is_zero z
+pub zero-lowest : (z : Number) (e : ℕ) → is_zero (lowest z e).num ≡ is_zero z
 zero-lowest z e = test_same _ _ (λ t. ap is_zero (up t)) (λ t. ap (λ (x : Exact). is_zero x.num) (ap (λ (y : Number). lowest y e) (zero_is z t) ∙ low-zero ℤ√2i exact_halving e))
   where
     up : is_zero (lowest z e).num ≡ true → z ≡ numbers.𝟘

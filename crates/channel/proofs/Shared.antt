@@ -42,7 +42,7 @@ reached (suc n) x = go (dec_lt (shared_exponent n x) (x n).exp) (reached n x)
     go (no l) (whole z) = whole (omega arith)
     go (no l) (at k h e) = at k (omega arith) (omega arith)
 
-exponent-up : (n : ℕ) (x : ℕ → Exact) (e : ℕ) → ((k : ℕ) → k < n → (x k).exp ≤ e) → shared_exponent n x ≤ e
+pub exponent-up : (n : ℕ) (x : ℕ → Exact) (e : ℕ) → ((k : ℕ) → k < n → (x k).exp ≤ e) → shared_exponent n x ≤ e
 exponent-up n x e f = go (reached n x)
   where
     go : Reached n x (shared_exponent n x) → shared_exponent n x ≤ e

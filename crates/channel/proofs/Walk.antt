@@ -68,7 +68,11 @@ module _ (F : Form) (l : List ℤ) (m count : ℕ) (z : ℤ) (first : Bool) (pre
     found = chain_found F l m count left z first prev b
 
     pub no_place : None ≡ found_store → found ≡ None
-    no_place p = refused F l m count left z first prev b (step F l m count left z first prev h ∙ outside (is_start F count z) (store_ok l at m) (rises first prev (store_at l at)) (block_ok F l at) (rest F l m count left z first prev h) (lacking (enters F l m count z first prev) (store_at l at) p refl))
+    no_place p =
+        refused F l m count left z first prev b
+        (step F l m count left z first prev h
+        ∙ outside (is_start F count z) (store_ok l at m) (rises first prev (store_at l at)) (block_ok F l at) (rest F l m count left z first prev h)
+        (lacking (enters F l m count z first prev) (store_at l at) p refl))
       where
         outside : (a b c d e : Bool) → (a && (b && c)) ≡ false → (a && ((b && (c && d)) && e)) ≡ false
         outside true true true d e t = absurd (cc)

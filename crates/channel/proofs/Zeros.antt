@@ -1,6 +1,6 @@
 -- The shared form by one shift of a whole block: as far as the trailing zeros that all its numerators share.
 use mathlib.Core.Path.{◌≡◌, sym, ap, ◌∙◌, subst}
-use mathlib.Core.Bool.{true, false, not}
+use mathlib.Core.Bool.{Bool, true, false, not}
 use Prim.Native.Nat.{ℕ, ◌/◌, ◌-◌, ◌%◌, ◌^◌, min, ◌≤◌, ◌<◌}
 use native.Mathlib.Decide.{dec_lt}
 use native.Mathlib.Omega.{arith}
@@ -28,21 +28,32 @@ by_shift n e t z h ev od =
     test (yes l) = or_right (eqb (e - t) 0) _ (ap not (od l))
     test (no l) = shared-zero n (frac (λ (k : ℕ). shifted (z k) t) (e - t)) (omega arith)
 
--- by the count t of the zeros that end u, whose digits tell where all are even
-pub by-zeros : (n e t u : ℕ) (z : ℕ → Number) → ((j : ℕ) → j < 63 → eqb (u / 2 ^ j % 2) 0 ≡ (all_halves n).even (λ (k : ℕ). shifted (z k) j)) → e ≤ 63 → t ≡ count_trailing_zeros 64 (u % 2 ^ 63)
-    → Alike n (frac (λ (k : ℕ). shifted (z k) (min t e)) (e - min t e)) (shared n (λ (k : ℕ). lowest (z k) e))
-by-zeros n e t u z digits small count = by_shift n e (min t e) z (omega arith) evens odd
+-- p holds below the lesser of t and e, and not at it, unless it is e
+pub record Least (e t : ℕ) (p : ℕ → Bool) : Type 0 where
+  pub below : (j : ℕ) → j < min t e → p j ≡ true
+  pub at : min t e < e → p (min t e) ≡ false
+
+-- by the count t of the zeros that end u, whose digits tell where p holds
+pub zeros_least : (e t u : ℕ) (p : ℕ → Bool) → ((j : ℕ) → j < 63 → eqb (u / 2 ^ j % 2) 0 ≡ p j) → e ≤ 63 → t ≡ count_trailing_zeros 64 (u % 2 ^ 63) → Least e t p
+zeros_least e t u p digits small count = record { below = below; at = at }
   where
-    digit : (j : ℕ) → j < 63 → eqb (u % 2 ^ 63 / 2 ^ j % 2) 0 ≡ (all_halves n).even (λ (k : ℕ). shifted (z k) j)
+    digit : (j : ℕ) → j < 63 → eqb (u % 2 ^ 63 / 2 ^ j % 2) 0 ≡ p j
     digit j h = ap (λ (k : ℕ). eqb k 0) (masked u j h) ∙ digits j h
 
-    evens : (j : ℕ) → j < min t e → (all_halves n).even (λ (k : ℕ). shifted (z k) j) ≡ true
-    evens j h = sym (digit j (omega arith)) ∙ eq-eqb _ 0 (zeros-low 64 (u % 2 ^ 63) j (omega arith))
+    below : (j : ℕ) → j < min t e → p j ≡ true
+    below j h = sym (digit j (omega arith)) ∙ eq-eqb _ 0 (zeros-low 64 (u % 2 ^ 63) j (omega arith))
 
-    odd : min t e < e → (all_halves n).even (λ (k : ℕ). shifted (z k) (min t e)) ≡ false
-    odd h =
+    at : min t e < e → p (min t e) ≡ false
+    at h =
         let q : t ≡ min t e = omega arith in
-        subst (λ (s : ℕ). (all_halves n).even (λ (k : ℕ). shifted (z k) s) ≡ false) q (sym (digit t (omega arith)) ∙ ne_eqb _ 0 top)
+        subst (λ (s : ℕ). p s ≡ false) q (sym (digit t (omega arith)) ∙ ne_eqb _ 0 top)
       where
         top : u % 2 ^ 63 / 2 ^ t % 2 ≡ 0 → ⊥
         top q = zeros-top 64 (u % 2 ^ 63) (omega arith) (subst (λ (k : ℕ). u % 2 ^ 63 / 2 ^ k % 2 ≡ 0) count q)
+
+-- the digits of u tell where all are even
+pub by-zeros : (n e t u : ℕ) (z : ℕ → Number) → ((j : ℕ) → j < 63 → eqb (u / 2 ^ j % 2) 0 ≡ (all_halves n).even (λ (k : ℕ). shifted (z k) j)) → e ≤ 63 → t ≡ count_trailing_zeros 64 (u % 2 ^ 63)
+    → Alike n (frac (λ (k : ℕ). shifted (z k) (min t e)) (e - min t e)) (shared n (λ (k : ℕ). lowest (z k) e))
+by-zeros n e t u z digits small count =
+    let least = zeros_least e t u (λ (j : ℕ). (all_halves n).even (λ (k : ℕ). shifted (z k) j)) digits small count in
+    by_shift n e (min t e) z (omega arith) least.below least.at

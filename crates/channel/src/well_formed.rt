@@ -1,4 +1,5 @@
 // Whether words are well formed in a form, whether they are a channel, and whether a block of it is zero.
+// Kept (facts, together, buffers): the words, their form and two counts of the header go through the two functions on a chain; count is the header's, and no length: the words may go on behind the last record.
 ghost use Rattle.std.specs.Prelude.{◌≡◌, true, is_none, unwrap_or, nat_abs};
 ghost use Rattle.channel.specs.Layout.{word, store_at};
 ghost use Rattle.channel.specs.WellFormed.{is_dim, rises, chain_ok, well_formed};
@@ -24,7 +25,6 @@ fn rises(prev: Option<u64>, store: u64) -> bool
     prev.is_none_or(|p| comes_before(p, store))
 }
 
-// Kept: count is the header's, and no length: the words may go on behind the last record.
 // The store of the record at index z, if one of `count` records starts there, and its store has at most m bits and comes after the one before it.
 pub fn enter(s: &[i64], form: Form, m: u32, count: usize, z: i64, prev: Option<u64>) -> Option<u64>
     requires { Room form s.now m count }
@@ -85,7 +85,7 @@ pub fn header(s: &[i64], f: Parts) -> Result<Shape, Refusal>
     })
 }
 
-// The header of words given as a channel, or why they are refused. A refusal is told apart here alone.
+// The header of words given as a channel, or why they are refused.
 pub fn judge(s: &[i64]) -> Result<Shape, Refusal>
     ensures { result ≡ shape_of s.now }
 {

@@ -13,8 +13,8 @@ use Rattle.algebra.specs.Words.{from_bits}
 use Rattle.algebra.specs.Lists.{All, all_below, every, some, filter_by}
 use Rattle.algebra.proofs.Tests.{test_same, eqb_same, all-at, all-by}
 use Rattle.algebra.proofs.Lists.{every-all, all_append, all_get_d, some_append}
+use Rattle.algebra.proofs.Squares.{row_lt, column_lt}
 use Rattle.exact.specs.Exact.{Exact, exact, conj, is_zero}
-use Rattle.matrix.proofs.Terms.{row_lt, column_lt}
 use Rattle.gate.specs.Operators.{same_bits}
 use Rattle.gate.proofs.Bits.{same_true, same_refl, same_sym}
 use Rattle.kraus.specs.Dense.{tabulate}
@@ -25,7 +25,11 @@ use Rattle.kraus.proofs.Stores.{other}
 use Rattle.store.specs.Store.{bits}
 use Rattle.store.proofs.Bytes.{bits_back}
 use Rattle.channel.specs.Layout.{side, channel_words}
-use Rattle.collect.specs.Inner.Bank.{store_of, entry, survives, has, is_first, starts, overlaps, stores_of, block_of, bank_in}
+use Rattle.channel.proofs.RoundTrip.{all_same}
+use Rattle.channel.proofs.Pass.{zero-lowest}
+use Rattle.share.specs.Share.{number_in}
+use Rattle.rows.specs.Inner.Rows.{exponent_in}
+use Rattle.collect.specs.Inner.Bank.{place, store_of, entry, survives, has, is_first, starts, overlaps, stores_of, block_of, bank_in}
 use Rattle.collect.specs.Delivered.{block_no, branches_words}
 use Rattle.collect.proofs.Whole.{channel_same}
 
@@ -93,7 +97,9 @@ module _ (l : List ℤ) (at d m : ℕ) where
   branch_in j = record { matrix = tabulate (d * d) 0 (entry l at d j); store = bits m (store_of l at d j) }
 
   alive_is : (j : ℕ) → alive (branch_in j) ≡ survives l at d j
-  alive_is j = ap not (every-tabulate exact.𝟘 (λ (x : Exact). is_zero x.num) (d * d) (entry l at d j))
+  alive_is j =
+      ap not (every-tabulate exact.𝟘 (λ (x : Exact). is_zero x.num) (d * d) (entry l at d j)
+      ∙ all_same (d * d) _ _ (λ i h. zero-lowest (number_in l (place at d j + i * 4)) (exponent_in l (place at d j) (d * d))))
 
   entry_is : (j i : ℕ) → i < d * d → get_or (branch_in j).matrix i exact.𝟘 ≡ entry l at d j i
   entry_is j i h = tabulate-at (d * d) 0 (entry l at d j) exact.𝟘 i h ∙ ap (entry l at d j) (zero-add i)

@@ -16,8 +16,6 @@ use Rattle.algebra.proofs.Totals.{sub_whole, sub_filter, sub_take}
 use Rattle.algebra.proofs.Bits.{bits_below, bits_parts}
 use Rattle.exact.specs.Exact.{exact}
 use Rattle.exact.specs.Inner.Sizes.{Room, room_exponent}
-use Rattle.cells.specs.Cells.{cell_size}
-use Rattle.matrix.specs.Inner.Factors.{Factor}
 use Rattle.gate.specs.Gate.{Gate, weight, splits, max_weight}
 use Rattle.gate.specs.Inner.Entries.{valid}
 use Rattle.gate.proofs.Bits.{Word}
@@ -28,10 +26,10 @@ use Rattle.kraus.proofs.Counting.{branch_count, branches-bits}
 use Rattle.kraus.proofs.Limits.{Kraus, Enough, kraus_exponent, circuit_enough}
 use Rattle.store.specs.Inner.Held.{Bits}
 use Rattle.branches.specs.Inner.Bank.{bank_words, Holds}
-use Rattle.branches.proofs.Banks.{read_factor, bank-room, bank-read, bank-low, bank_high, store_at}
+use Rattle.branches.proofs.Banks.{bank-room, bank_held, bank_factors, bank-low, bank_high, store_at}
 use Rattle.store.specs.Store.{bits, store_from}
 use Rattle.channel.specs.Layout.{header_size, record_size, channels}
-use Rattle.collect.specs.Inner.Bank.{place, entry, store_of, overlaps, bank_in, Bank, Deliverable}
+use Rattle.collect.specs.Inner.Bank.{entry, store_of, overlaps, bank_in, Bank, Deliverable}
 use Rattle.store.proofs.Bytes.{bits-word}
 use Rattle.collect.proofs.Branching.{branch_in, block_is, store-count}
 
@@ -104,14 +102,11 @@ module _ {l : List ℤ} {at n m : ℕ} {bs : List Branch} (h : Held l at n m bs)
     store_below : store_of l at d j < 2 ^ m
     store_below = subst₂ (λ (x k : ℕ). x < 2 ^ k) (sym store_is) word_of.0 (bits_below (at_place j).store bits_of)
 
-    entry_of : (i : ℕ) → i < d * d → entry l at d j i ≡ get_or (at_place j).matrix i exact.𝟘
-    entry_of = (bank-read d bs h.words z j hj).number
-
     kraus_of : (i : ℕ) → i < d * d → Kraus kraus_exponent (get_or (at_place j).matrix i exact.𝟘)
     kraus_of = all_get_d (λ (b : Branch). (i : ℕ) → i < d * d → Kraus kraus_exponent (get_or b.matrix i exact.𝟘)) bs h.enough.entries j hj z
 
-    factor_of : (i : ℕ) → i < d * d → Factor l (place at d j + i * cell_size)
-    factor_of i hi = read_factor (bank-read d bs h.words z j hj) kraus_exponent (omega arith) i hi (kraus_of i hi)
+    entry_of : (i : ℕ) → i < d * d → entry l at d j i ≡ get_or (at_place j).matrix i exact.𝟘
+    entry_of = bank_held d bs h.words z j hj kraus_of
 
     branch_is : branch_in l at d m j ≡ at_place j
     branch_is =
@@ -145,7 +140,7 @@ module _ {l : List ℤ} {at n m : ℕ} {bs : List Branch} (h : Held l at n m bs)
     few = h.few;
     room = bank-room d bs h.words;
     stores = λ j hj. store_at d bs h.words z j hj (bits_of j hj) (omega (arith, (word_of j hj).0, h.narrow));
-    entries = λ j i p q. factor_of j p i q;
+    entries = λ j hj. bank_factors d bs h.words z j hj (kraus_of j hj) (omega arith);
     sums = sums-of;
   }
 

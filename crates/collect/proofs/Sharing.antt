@@ -3,31 +3,29 @@ use mathlib.Core.Path.{◌≡◌, refl, sym, ap, ◌∙◌}
 use mathlib.Core.Bool.{Bool, true, false, cond}
 use mathlib.Core.List.{List, [], ◌∷◌}
 use Prim.Native.Nat.{ℕ, zero, suc, ◌+◌, ◌*◌, ◌/◌, ◌%◌, ◌≤◌, ◌<◌}
-use native.Mathlib.Nat.{le_refl}
+use native.Mathlib.Nat.{le_refl, div-add-mod'}
 use native.Mathlib.Omega.{arith}
 use lib.Dec.{leb}
-use lib.ListN.{length, get_or, set}
+use lib.ListN.{length, set}
 use lib.Seq.{sets, set_comm}
-use lib.IntN.{ℤ, pos}
-use borrow.Author.Tests.{leb-false}
+use lib.IntN.{ℤ}
+use borrow.Author.Tests.{leb-true, leb-false}
 use Rattle.algebra.specs.Quadratic.{conjugate}
 use Rattle.algebra.specs.Words.{joined}
-use Rattle.algebra.proofs.Blocks.{length-blocks, blocks-same, blocks_over, blocks-joined}
-use Rattle.exact.specs.Exact.{Number, number, numbers, root2, list_of, Exact, exact, lowest, conj}
-use Rattle.exact.specs.Inner.Sizes.{room_exponent}
+use Rattle.algebra.proofs.Blocks.{blocks-same, blocks_over, blocks-joined}
+use Rattle.algebra.proofs.Squares.{row_lt, column_lt}
+use Rattle.exact.specs.Exact.{Number, root2, list_of, Exact, exact, lowest, conj}
 use Rattle.exact.proofs.Exact.{exacts, conj-plus, conj-by, conj-conj, conj-lowest, conj-𝟘}
-use Rattle.matrix.proofs.Terms.{row_lt, column_lt}
 use Rattle.channel.specs.Forms.{Alike}
 use Rattle.channel.specs.Layout.{channels, block_words}
 use Rattle.channel.proofs.Shared.{shared_same}
 use Rattle.channel.proofs.Full.{full-words}
-use Rattle.share.specs.Share.{number_at, with_numerators, shared_from}
-use Rattle.overlaps.specs.Inner.Overlap.{number_in}
-use Rattle.hermitian.specs.Inner.Sparse.{mirrored_at}
-use Rattle.overlaps.proofs.Numbers.{number-filled}
-use Rattle.collect.specs.Inner.Bank.{entry, has, overlaps, numerators, shared_of, Bank}
+use Rattle.share.specs.Share.{number_in, with_numerators}
+use Rattle.hermitian.specs.Inner.Upper.{mirrored_at, mirrored_from}
+use Rattle.hermitian.proofs.Mirrored.{mirror_is}
+use Rattle.collect.specs.Inner.Bank.{store_of, entry, has, overlaps, largest, numerators, shared_of, Bank}
 use Rattle.collect.proofs.Numerators.{entry_is}
-use Rattle.collect.proofs.Summing.{Summed, number_is, upper_is, summed_long}
+use Rattle.collect.proofs.Summing.{Summed, upper_is}
 
 -- ---- blocks are Hermitian
 sum_mirror : (a x y : Exact) → conj (exact.◌⊕◌ a (exact.◌⊗◌ x (conj y))) ≡ exact.◌⊕◌ (conj a) (exact.◌⊗◌ y (conj x))
@@ -45,22 +43,6 @@ overlaps_mirror l at d (suc n) s r c = go (has l at d s n) (overlaps_mirror l at
     go true h = sum_mirror (overlaps l at d n s c r) (entry l at d n c) (entry l at d n r) ∙ ap (more r c) h
     go false h = h
 
--- ---- two ways to name a number
-number-at : (l : List ℤ) (at k : ℕ) → number_at l at k ≡ number_in l (at + k * 4)
-number-at l at k = λ i. number (get_or l (p0 i) (pos 0)) (get_or l (p1 i) (pos 0)) (get_or l (p2 i) (pos 0)) (get_or l (p3 i) (pos 0))
-  where
-    p0 : at + (k * 4 + 0) ≡ at + k * 4
-    p0 = omega arith
-
-    p1 : at + (k * 4 + 1) ≡ at + k * 4 + 1
-    p1 = omega arith
-
-    p2 : at + (k * 4 + 2) ≡ at + k * 4 + 2
-    p2 = omega arith
-
-    p3 : at + (k * 4 + 3) ≡ at + k * 4 + 3
-    p3 = omega arith
-
 -- ---- a word written before others that are written
 set_past : (vs l : List ℤ) (i j : ℕ) (x : ℤ) → j < i → set (sets l i vs) j x ≡ sets (set l j x) i vs
 set_past [] l i j x h = refl
@@ -76,12 +58,20 @@ block_written m to d f x =
     first = omega arith
 
 -- ---- the sums of a bank's branches, mirrored and shared
-module _ {m : List ℤ} {out : ℕ} {l : List ℤ} {at d n : ℕ} (bank : Bank l at d n) (s : ℕ) (room : out + d * d * (d * d) * 4 ≤ length m) {b : List ℤ} (ws : Summed m out l at d s b n) where
+module _ {m : List ℤ} {out : ℕ} {l : List ℤ} {at d n b : ℕ} (bank : Bank l at d n) (room : out + d * d * (d * d) * 4 ≤ length m) {q : List ℤ} (ws : Summed m out l at d (largest l at d n) b q n) where
   abbrev size : ℕ
   size = d * d * (d * d)
 
-  mirrored_is : (k : ℕ) → k < size → lowest (mirrored_at b out (d * d) k) room_exponent ≡ overlaps l at d n s (k / (d * d)) (k % (d * d))
-  mirrored_is k h = go (leb (k / (d * d)) (k % (d * d))) refl
+  abbrev e : ℕ
+  e = largest l at d n
+
+  abbrev s : ℕ
+  s = store_of l at d b
+
+  mirrored_is : (k : ℕ) → k < size → lowest (mirrored_at q out (d * d) k) (e + e) ≡ overlaps l at d n s (k / (d * d)) (k % (d * d))
+  mirrored_is k h =
+      ap (λ (i : ℕ). lowest (mirrored_at q out (d * d) i) (e + e)) (sym (div-add-mod' k (d * d)))
+      ∙ ap (λ (z : Number). lowest z (e + e)) (mirror_is q out (d * d) r c (leb r c) hc refl) ∙ go (leb r c) refl
     where
       r : ℕ
       r = k / (d * d)
@@ -95,35 +85,21 @@ module _ {m : List ℤ} {out : ℕ} {l : List ℤ} {at d n : ℕ} (bank : Bank l
       hc : c < d * d
       hc = column_lt k (d * d) h
 
-      go : (t : Bool) → leb r c ≡ t → lowest (cond t (number_in b (out + k * 4)) (conjugate root2 (number_in b (out + (c * (d * d) + r) * 4)))) room_exponent ≡ overlaps l at d n s r c
-      go true e =
-          ap (λ (z : Number). lowest z room_exponent) (number_is ws room k h ∙ ap (λ (t : Bool). cond t (numerators l at d n s r c) numbers.𝟘) e)
-          ∙ entry_is bank s r c hr hc n (le_refl n)
-      go false e =
-          let below : c ≤ r = let q = leb-false r c e in omega arith in
-          ap (λ (z : Number). lowest (conjugate root2 z) room_exponent) (upper_is ws room c r below hr)
-          ∙ sym (conj-lowest (numerators l at d n s c r) room_exponent)
-          ∙ ap conj (entry_is bank s c r hc hr n (le_refl n))
+      go : (t : Bool) → leb r c ≡ t → lowest (cond t (number_in q (out + (r * (d * d) + c) * 4)) (conjugate root2 (number_in q (out + (c * (d * d) + r) * 4)))) (e + e) ≡ overlaps l at d n s r c
+      go true p = ap (λ (z : Number). lowest z (e + e)) (upper_is ws room r c (leb-true r c p) hc) ∙ entry_is bank s r c n (le_refl n)
+      go false p =
+          let below : c ≤ r = let f = leb-false r c p in omega arith in
+          ap (λ (z : Number). lowest (conjugate root2 z) (e + e)) (upper_is ws room c r below hr)
+          ∙ sym (conj-lowest (numerators l at d e n s c r) (e + e))
+          ∙ ap conj (entry_is bank s c r n (le_refl n))
           ∙ overlaps_mirror l at d n s r c
 
-  module _ {o : List ℤ} (e : o ≡ with_numerators b out size (mirrored_at b out (d * d))) where
-    b-room : out + size * 4 ≤ length b
-    b-room = omega (arith, room, summed_long ws)
+  pub alike : Alike (d * d * (d * d)) (mirrored_from q out (d * d) (largest l at d n + largest l at d n)) (shared_of l at d n (store_of l at d b))
+  alike = shared_same size _ _ mirrored_is
 
-    pub mirrored_long : length o ≡ length b
-    mirrored_long = ap length e ∙ length-blocks 4 b out (λ (k : ℕ). list_of (mirrored_at b out (d * d) k)) size
-
-    alike : Alike size (shared_from o out size room_exponent) (shared_of l at d n s)
-    alike = shared_same size _ _ (λ k h. ap (λ (z : Number). lowest z room_exponent) (number-at o out k ∙ ap (λ (q : List ℤ). number_in q (out + k * 4)) e ∙ number-filled (mirrored_at b out (d * d)) b out size k h b-room) ∙ mirrored_is k h)
-
-    pub exponent_is : (shared_from o out size room_exponent).exp ≡ (shared_of l at d n s).exp
-    exponent_is = alike.exp
-
-    pub numerators_are : {c : List ℤ} → c ≡ with_numerators o out size (shared_from o out size room_exponent).num → c ≡ with_numerators m out size (shared_of l at d n s).num
-    numerators_are {c} f =
-        f
-        ∙ blocks-same 4 o out size _ _ (λ k h. ap list_of (alike.num k h))
-        ∙ ap (λ (q : List ℤ). with_numerators q out size (shared_of l at d n s).num) e
-        ∙ blocks_over 4 b out size _ _ (λ i. refl) (λ i. refl) b-room
-        ∙ ap (λ (q : List ℤ). with_numerators q out size (shared_of l at d n s).num) ws.is
-        ∙ blocks_over 4 m out size _ _ (λ i. refl) (λ i. refl) room
+  pub numerators_are : {c : List ℤ} → c ≡ with_numerators q out (d * d * (d * d)) (mirrored_from q out (d * d) (largest l at d n + largest l at d n)).num → c ≡ with_numerators m out (d * d * (d * d)) (shared_of l at d n (store_of l at d b)).num
+  numerators_are {c} f =
+      f
+      ∙ blocks-same 4 q out size _ _ (λ k h. ap list_of (alike.num k h))
+      ∙ ap (λ (p : List ℤ). with_numerators p out size (shared_of l at d n s).num) ws.is
+      ∙ blocks_over 4 m out size _ _ (λ i. refl) (λ i. refl) room

@@ -22,7 +22,7 @@ use Rattle.channel.proofs.Restore.{block_same}
 use Rattle.channel.proofs.Words.{square_small}
 use Rattle.collect.specs.Inner.Links.{block_in, linked, headed, Records}
 use Rattle.collect.specs.Delivered.{overwritten}
-use Rattle.overlaps.proofs.Numbers.{sets_there}
+use Rattle.share.proofs.Numbers.{sets_there}
 use Rattle.collect.proofs.Recording.{length_record}
 use Rattle.collect.proofs.Linking.{least-same, stores_in, Linked, store_kept}
 

@@ -4,7 +4,7 @@ ghost use Rattle.collect.specs.Inner.Bank as held;
 ghost use Rattle.collect.specs.Inner.Bank.{store_of, survives, has, is_first, Branches};
 
 use branches::bank::Bank;
-use matrix::words::is_zero;
+use rows::is_zero;
 use store::store_from;
 
 // Branch j of a bank, which lies in the words.

@@ -1,19 +1,16 @@
-// The block of one store: integer products over one power of two, summed on and above the diagonal, mirrored, and brought to their shared form at once.
+// The block of one store: integer products over one power of two, summed on and above the diagonal, and then brought to their shared form and mirrored.
+// Kept (facts): that a branch is the first to survive with its store is found before its block is written; as a ghost of Source it would be shown for each branch of which it is asked.
 // Kept (buffers): a place in the result. The contracts say what all of it becomes, record by record; a cut slice would tell of its own part alone.
-ghost use Rattle.std.specs.Prelude.{◌≡◌, ◌+◌, ◌*◌, ◌<◌, ◌≤◌, length};
+ghost use Rattle.std.specs.Prelude.{◌≡◌, true, ◌+◌, ◌*◌, ◌<◌, ◌≤◌, length};
 ghost use Rattle.std.proofs.lemmas.List.Edits.{sets};
 ghost use Rattle.share.specs.Share.{with_numerators};
 ghost use Rattle.collect.specs.Inner.Bank as held;
-ghost use Rattle.collect.specs.Inner.Bank.{store_of, upper, shared_words};
+ghost use Rattle.collect.specs.Inner.Bank.{store_of, starts, largest, summed, shared_words};
 
 use super::bank::Branch;
 use channel::layout::ENTRY;
-use hermitian::{mirror, share_block};
-use matrix::words::clear;
-use overlaps::add_upper;
-
-// The largest power of two that a factor is over: all factors are brought over it.
-const SCALE: u32 = 29;
+use hermitian::share_block;
+use overlaps::{add_upper, write_upper};
 
 // A branch whose store is collected over its bank.
 #[derive(Clone, Copy)]
@@ -24,34 +21,53 @@ pub struct Source<'a> {
 }
 
 impl<'a> Source<'a> {
-    // Write the sums of its store to `out` on, on and above the diagonal of its block, and zeros below it.
-    fn sum_block(self, res: &mut [i64], out: usize)
-        requires { let d = self.branch.bank.d in out + d * d * (d * d) * 4 ≤ length res.old }
-        ensures { let b = self.entry.branch in let d = b.bank.d in res.new ≡ with_numerators res.old out (d * d * (d * d)) (upper b.work.now b.bank.at d b.bank.count (store_of b.work.now b.bank.at d b.j)) }
+    // The largest exponent of its bank's branches: all factors are brought over that power of two.
+    fn largest_exponent(self) -> u32
+        ensures { let b = self.entry.branch in result ≡ largest b.work.now b.bank.at b.bank.d b.bank.count }
+    {
+        let work = self.branch.work;
+        let bank = self.branch.bank;
+        let n = bank.d * bank.d;
+        let mut e = 0u32;
+        for j in 0..bank.count {
+            let at = bank.branch(j) + n * ENTRY;
+            e = e.max(work[at] as u32);
+        }
+        e
+    }
+
+    // Write the sums of its store, of factors over 2^e, to `out` on, on and above the diagonal of its block; it is the first with its store. A row where its entry is zero is made zero below the diagonal too.
+    fn sum_block(self, res: &mut [i64], out: usize, e: u32)
+        requires room { let d = self.branch.bank.d in out + d * d * (d * d) * 4 ≤ length res.old }
+        requires first { let b = self.branch in starts b.work.now b.bank.at b.bank.d b.j ≡ true }
+        requires largest { let b = self.branch in e ≡ largest b.work.now b.bank.at b.bank.d b.bank.count }
+        ensures { let b = self.entry.branch in let d = b.bank.d in res.new ≡ with_numerators res.old out (d * d * (d * d)) (summed res.old out b.work.now b.bank.at d e b.j b.bank.count) }
     {
         let work = self.branch.work;
         let bank = self.branch.bank;
         let store = self.branch.store();
         let w = bank.d * bank.d;
-        clear(res, out, w * w * ENTRY);
-        for j in 0..bank.count {
+        let first = self.branch.j;
+        write_upper(res, out, work, bank.branch(first), w, e);
+        for j in first + 1..bank.count {
             let branch = Branch { work, bank, j };
             if branch.has_store(store) {
-                add_upper(res, out, work, bank.branch(j), w, SCALE);
+                add_upper(res, out, work, bank.branch(j), w, e);
             }
         }
     }
 
-    // Write the exponent and then the numerators of the block of its store to `to` on.
+    // Write the exponent and then the numerators of the block of its store to `to` on; it is the first with its store.
     pub fn write_block(self, res: &mut [i64], to: usize)
-        requires { let d = self.branch.bank.d in to + 1 + d * d * (d * d) * 4 ≤ length res.old }
+        requires room { let d = self.branch.bank.d in to + 1 + d * d * (d * d) * 4 ≤ length res.old }
+        requires first { let b = self.branch in starts b.work.now b.bank.at b.bank.d b.j ≡ true }
         ensures { let b = self.entry.branch in let d = b.bank.d in res.new ≡ sets res.old to (shared_words b.work.now b.bank.at d b.bank.count (store_of b.work.now b.bank.at d b.j)) }
     {
         let out = to + 1;
         let w = self.branch.bank.d * self.branch.bank.d;
-        self.sum_block(res, out);
-        mirror(res, out, w);
-        let e = share_block(res, out, w, SCALE + SCALE);
-        res[to] = e as i64;
+        let e = self.largest_exponent();
+        self.sum_block(res, out, e);
+        let shared = share_block(res, out, w, e + e);
+        res[to] = shared as i64;
     }
 }

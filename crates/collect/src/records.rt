@@ -1,6 +1,7 @@
 // A record for each store, in the order of its first surviving branch.
+// Kept (facts): that a branch starts a record, as in `blocks`.
 // Kept (buffers): places in the result, as in `blocks`; n counts the records that it holds so far, and is no length.
-ghost use Rattle.std.specs.Prelude.{◌≡◌, cond, ◌+◌, ◌*◌, ◌≤◌, length};
+ghost use Rattle.std.specs.Prelude.{◌≡◌, true, cond, ◌+◌, ◌*◌, ◌≤◌, length};
 ghost use Rattle.std.proofs.lemmas.List.Edits.{sets};
 ghost use Rattle.channel.specs.Layout.{header_size, record_size, channels};
 ghost use Rattle.collect.specs.Inner.Bank as held;
@@ -12,9 +13,10 @@ use branches::bank::Bank;
 use channel::layout::{EXPONENT, HEADER, record_size};
 
 impl<'a> Source<'a> {
-    // Write the record of its store, to `to` on, as the last of a chain.
+    // Write the record of its store, to `to` on, as the last of a chain; it is the first with its store.
     fn write_record(self, res: &mut [i64], to: usize)
-        requires { to + record_size (channels self.branch.bank.d) ≤ length res.old }
+        requires room { to + record_size (channels self.branch.bank.d) ≤ length res.old }
+        requires first { let b = self.branch in starts b.work.now b.bank.at b.bank.d b.j ≡ true }
         ensures { let b = self.entry.branch in res.new ≡ sets res.old to (record_of b.work.now b.bank.at b.bank.d b.bank.count (store_of b.work.now b.bank.at b.bank.d b.j)) }
     {
         let work = self.branch.work;

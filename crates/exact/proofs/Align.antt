@@ -2,22 +2,22 @@
 use mathlib.Core.Path.{◌≡◌, sym, ap, ◌∙◌}
 use mathlib.Core.List.{List, [], ◌∷◌}
 use Prim.Native.Nat.{ℕ, ◌+◌, ◌*◌, ◌-◌, ◌^◌, ◌≤◌}
-use native.Mathlib.Nat.{mul_assoc, mul-le-mul, le_refl, le_trans, le_of_eq, one-mul}
+use native.Mathlib.Nat.{mul_assoc, mul-le-mul, le_refl, le_trans, le_of_eq}
 use native.Mathlib.Omega.{arith}
 use lib.Dec.{lit≤}
 use lib.Pow.{pow-add, pow_mono}
 use lib.IntN.{ℤ, pos, nat_abs, ◌*ℤ◌}
 use Rattle.algebra.specs.Quadratic.{Pair, pair}
-use Rattle.algebra.specs.Dyadic.{power, by, plus}
+use Rattle.algebra.specs.Dyadic.{power}
 use Rattle.algebra.proofs.Parts.{abs-mul}
 use Rattle.algebra.proofs.Ring.{ℤR, mul-one}
 use Rattle.algebra.proofs.Solver.{Expr, con, var, ◌⊠◌, eqn, look, ⟦◌⟧}
 use Rattle.algebra.proofs.Quadratic.{ℤ√2i}
 use Rattle.algebra.proofs.Bound as Bound
-use Rattle.algebra.proofs.Dyadic.{power_int, align, late-right, plus_comm, plus-up}
+use Rattle.algebra.proofs.Dyadic.{power_int, align}
 use Rattle.exact.specs.Exact.{Number, number, numbers, Exact, exact, lowest, max_numerator, narrow_numerator, narrow_exponent}
-use Rattle.exact.specs.Inner.Sizes.{Within, scaled, Coords, room_numerator, room_exponent}
-use Rattle.exact.proofs.Exact.{exact_halving, exacts}
+use Rattle.exact.specs.Inner.Sizes.{Within, scaled, Coords, room_numerator}
+use Rattle.exact.proofs.Exact.{exact_halving}
 use Rattle.exact.proofs.Coordinates.{formulas, x, xy, eight, bounds, bounded}
 
 -- ---- numerators times a power of two
@@ -39,13 +39,6 @@ scaled-none z k h = scaled_is z k ∙ ap (λ (j : ℕ). numbers.◌⊗◌ z (pow
 -- ---- the sum
 pub aligned : (x y : Exact) → x.exp ≤ y.exp → lowest (numbers.◌⊕◌ (scaled x.num (y.exp - x.exp)) y.num) y.exp ≡ exact.◌⊕◌ x y
 aligned x y h = ap (λ (z : Number). lowest (numbers.◌⊕◌ z y.num) y.exp) (scaled_is x.num (y.exp - x.exp)) ∙ align ℤ√2i exact_halving x y h
-
--- a sum with a product: the product need not be put into lowest form first
-pub fused : (a x y : Exact) → exact.◌⊕◌ a (exact.◌⊗◌ x y) ≡ exact.◌⊕◌ a (by numbers x y)
-fused a x y = late-right ℤ√2i exact_halving (plus numbers) (plus_comm ℤ√2i exact_halving) (plus-up ℤ√2i exact_halving) a (by numbers x y)
-
-pub fused_both : (x p y q : Exact) → exact.◌⊕◌ (exact.◌⊗◌ x p) (exact.◌⊗◌ y q) ≡ exact.◌⊕◌ (by numbers x p) (by numbers y q)
-fused_both x p y q = fused (exact.◌⊗◌ x p) y q ∙ exacts.add_comm (exact.◌⊗◌ x p) (by numbers y q) ∙ fused (by numbers y q) x p ∙ exacts.add_comm (by numbers y q) (by numbers x p)
 
 -- ---- sizes
 pub widen : (m n : ℕ) (z : Number) → m ≤ n → Within m z → Within n z
@@ -73,16 +66,6 @@ mul-within p q x y h k = record { w0 = size xy.re.re (omega arith); w1 = size xy
     size : (e : Expr) → Bound.bnd (look 0 (bounds p q)) e ≤ 6 * (p * q) → nat_abs (⟦◌⟧ ℤR (look (pos 0) (eight x y)) e) ≤ 6 * (p * q)
     size e u = le_trans (Bound.bounded (eight x y) (bounds p q) e (bounded h k)) u
 
--- the numerators of a product of numbers with coordinates from −1 to 1
-pub product-within : (x y : Exact) → Within (1 * 2 ^ x.exp) x.num → Within (1 * 2 ^ y.exp) y.num → Within (8 * 2 ^ (x.exp + y.exp)) (numbers.◌⊗◌ x.num y.num)
-product-within x y h k = widen (6 * (1 * 2 ^ x.exp * (1 * 2 ^ y.exp))) (8 * 2 ^ (x.exp + y.exp)) (numbers.◌⊗◌ x.num y.num) le (mul-within (1 * 2 ^ x.exp) (1 * 2 ^ y.exp) x.num y.num h k)
-  where
-    one : 1 * 2 ^ x.exp * (1 * 2 ^ y.exp) ≡ 2 ^ (x.exp + y.exp)
-    one = (λ i. one-mul (2 ^ x.exp) i * one-mul (2 ^ y.exp) i) ∙ sym (pow-add 2 x.exp y.exp)
-
-    le : 6 * (1 * 2 ^ x.exp * (1 * 2 ^ y.exp)) ≤ 8 * 2 ^ (x.exp + y.exp)
-    le = omega (arith, one)
-
 -- a factor that `product` takes
 pub factor_within : (x : Exact) → Coords 1 narrow_exponent x → Within narrow_numerator x.num
 factor_within x b = widen (1 * 2 ^ narrow_exponent) narrow_numerator x.num (lit≤ tt) (power-within 1 x.exp narrow_exponent x.num b.exponent b.size)
@@ -90,7 +73,3 @@ factor_within x b = widen (1 * 2 ^ narrow_exponent) narrow_numerator x.num (lit�
 -- what is in range has room as a first term
 pub roomy : (z : Number) → Within max_numerator z → Within room_numerator z
 roomy z = widen max_numerator room_numerator z (lit≤ tt)
-
--- coordinates from −8 to 8 over at most the power of a product
-pub small : (e : ℕ) (z : Number) → e ≤ room_exponent → Within (8 * 2 ^ e) z → Within max_numerator z
-small e z h w = widen (8 * 2 ^ room_exponent) max_numerator z (lit≤ tt) (power-within 8 e room_exponent z h w)

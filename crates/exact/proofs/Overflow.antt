@@ -1,8 +1,9 @@
 -- A sum is too large where its first term is, raised to the second's exponent: that is decided before the term is scaled.
--- A product of narrow numbers is never too large.
+-- A product of narrow numbers is never too large, and coordinates from −1 to 1 are so in lowest form.
 use mathlib.Core.Path.{◌≡◌, refl, sym, ap, ◌∙◌, subst}
 use mathlib.Core.Bool.{Bool, true, false, cond, ◌&&◌}
 use Prim.Native.Nat.{ℕ, zero, suc, ◌+◌, ◌*◌, ◌-◌, ◌/◌, ◌%◌, ◌^◌, ◌≤◌, ◌<◌}
+use native.Mathlib.Nat.{pow-succ'}
 use native.Mathlib.Decide.{dec_lt}
 use native.Mathlib.Omega.{arith}
 use lib.Dec.{T, eqb, leb, lit≤}
@@ -14,7 +15,7 @@ use Rattle.algebra.proofs.Quadratic.{ℤ√2i}
 use Rattle.algebra.proofs.Dyadic.{low-odd}
 use Rattle.exact.specs.Exact.{Number, numbers, number_halves, Exact, exact, lowest, within, in_range, well_formed, max_numerator, max_exponent, narrow_numerator}
 use Rattle.exact.specs.Claims.{ProductsFit}
-use Rattle.exact.specs.Inner.Sizes.{Within, scaled, room_numerator}
+use Rattle.exact.specs.Inner.Sizes.{Within, Coords, scaled, room_numerator}
 use Rattle.exact.proofs.Exact.{exact_halving, mul-lowest, lowest-odd}
 use Rattle.exact.proofs.Align.{aligned, scaled-none, widen, mul-within}
 use Rattle.exact.proofs.Sizes.{and4, within_of, of-within, well_bound, well_within, well_lowest, narrow_bound, narrow_exponent_lem}
@@ -94,6 +95,28 @@ lowest-size m z (suc e) w = go (number_halves.even z) (lowest-size m (number_hal
         → Within m (cond b (lowest (number_halves.half z) e) (frac z (suc e))).num × ((cond b (lowest (number_halves.half z) e) (frac z (suc e))).exp ≤ suc e)
     go true r = (r.0, omega (arith, r.1))
     go false r = (w, omega arith)
+
+half-within : (m : ℕ) (z : ℤ) → nat_abs z ≤ 2 * m → nat_abs (halfℤ z) ≤ m
+half-within m (pos n) h = omega (arith, h)
+half-within m (negsuc n) h = omega (arith, h)
+
+-- coordinates from −1 to 1 are so in lowest form
+pub lowest-coords : (k : ℕ) (z : Number) (e : ℕ) → e ≤ k → Within (1 * 2 ^ e) z → Coords 1 k (lowest z e)
+lowest-coords k z zero l w = record { exponent = l; size = w }
+lowest-coords k z (suc e) l w = go (number_halves.even z) (lowest-coords k (number_halves.half z) e (omega arith) shrunk)
+  where
+    twice : 1 * 2 ^ suc e ≡ 2 * (1 * 2 ^ e)
+    twice = omega (arith, pow-succ' 2 e)
+
+    one : (a : ℤ) → nat_abs a ≤ 1 * 2 ^ suc e → nat_abs (halfℤ a) ≤ 1 * 2 ^ e
+    one a u = half-within (1 * 2 ^ e) a (omega (arith, u, twice))
+
+    shrunk : Within (1 * 2 ^ e) (number_halves.half z)
+    shrunk = record { w0 = one z.re.re w.w0; w1 = one z.re.im w.w1; w2 = one z.im.re w.w2; w3 = one z.im.im w.w3 }
+
+    go : (b : Bool) → Coords 1 k (lowest (number_halves.half z) e) → Coords 1 k (cond b (lowest (number_halves.half z) e) (frac z (suc e)))
+    go true r = r
+    go false r = record { exponent = l; size = w }
 
 pub products_fit : ProductsFit
 products_fit x y g h =

@@ -4,7 +4,7 @@ use Rattle.std.specs.Result.{result_and}
 use mathlib.Core.Path.{◌≡◌, refl, sym, ap, ◌∙◌, subst}
 use mathlib.Core.Bool.{Bool, true, false, cond, not, true≢false}
 use mathlib.Core.List.{List}
-use Prim.Native.Nat.{ℕ, ◌+◌, ◌*◌, ◌≤◌}
+use Prim.Native.Nat.{ℕ, ◌≤◌}
 use lib.Dec.{leb}
 use lib.ListN.{length}
 use lib.IntN.{ℤ}
@@ -15,15 +15,15 @@ use Rattle.verdict.specs.Questions.{Verdict, Question, granted}
 use Rattle.verdict.proofs.Questions.{handed}
 use Rattle.channel.specs.declared.Shape.{Shape}
 use Rattle.channel.specs.declared.forms.Parts.{Parts}
-use Rattle.channel.specs.Layout.{header_size, record_size, count_at, form_of, form_in}
+use Rattle.channel.specs.Layout.{count_at, form_in}
 use Rattle.channel.specs.WellFormed.{well_formed_in, well_formed, has_zero_block, verdict_by, form_verdict}
 use Rattle.channel.specs.Inner.Shapes.{shape_at, shape_by}
-use Rattle.channel.proofs.Judging.{formed_in, in_channel, form-full, verdict_test, shape-yes, shape_no, Passed, passed_is}
+use Rattle.channel.proofs.Judging.{formed_in, in_channel, verdict_test, shape-yes, Passed, passed_is}
 use Rattle.recast.specs.Words.{size_in}
 use Rattle.recast.specs.Inner.Records.{Ready}
 use Rattle.form_judge.specs.declared.Judged.{Judged}
 use Rattle.form_judge.specs.Inner.Judging.{shape_in, judged_of}
-use Rattle.form_calls.specs.Calls.{own, refusal, fault, write_questions, read_questions, write_verdict, read_verdict}
+use Rattle.form_calls.specs.Calls.{own, refusal, fault, write_verdict, read_verdict}
 
 abbrev pub full : Parts
 full = record { half = false; plain = false }
@@ -58,90 +58,28 @@ given {A = A} x qs {z} e = inside (e ∙ sym (handed x x qs e))
     inside : ◌≡◌ {A = Result A Refusal} (Ok z) (Ok x) → z ≡ x
     inside e = cc
 
--- a channel that is refused first
-refused-first : {A : Type 0} (x : A) (p z t b : Bool) (q : Refusal) {r : Refusal} → verdict_by p z ≡ Err r → Err r ≡ write_by x p (not z) t b q
-refused-first x true true t b q e = cc
-refused-first x true false t b q e = absurd (cc)
-refused-first x false z t b q e = cc
-
--- ---- what a writer answers
-module _ (f : Parts) (l res : List ℤ) where
-  abbrev room : Bool
-  room = leb (size_in (form_in f l) l) (length res)
-
-  abbrev answer : Result Shape Refusal
-  answer = granted (shape_at l) (write_questions f l res)
-
-  pub refused_write : {r : Refusal} → Err r ≡ judged_of f l → Err r ≡ answer
-  refused_write {r} e = refused-first (shape_at l) (well_formed l) (has_zero_block l) (is_none (fault f l)) room (refusal f (unwrap_or (fault f l) 0)) (by (form_verdict l) e)
+-- ---- channels that a writer does not refuse
+module _ (f : Parts) (l : List ℤ) {j : Judged} (e : Ok j ≡ judged_of f l) where
+  passed : (form_verdict l ≡ Ok tt) × ((j.shape ≡ shape_at l) × (j.fault ≡ fault f l))
+  passed = by (form_verdict l) refl e
     where
-      by : (v : Verdict) → ◌≡◌ {A = Result Judged Refusal} (Err r) (result_and v (Ok (record { shape = shape_at l; fault = fault f l }))) → v ≡ Err r
-      by (Ok x) e = absurd (cc)
-      by (Err s) e = cc
+      by : (v : Verdict) → form_verdict l ≡ v → ◌≡◌ {A = Result Judged Refusal} (Ok j) (result_and v (Ok (record { shape = shape_at l; fault = fault f l }))) → (v ≡ Ok tt) × ((j.shape ≡ shape_at l) × (j.fault ≡ fault f l))
+      by (Ok x) p e = (refl, (cc, cc))
+      by (Err s) p e = absurd (cc)
 
-  module _ {j : Judged} (e : Ok j ≡ judged_of f l) where
-    passed : (form_verdict l ≡ Ok tt) × ((j.shape ≡ shape_at l) × (j.fault ≡ fault f l))
-    passed = by (form_verdict l) refl e
-      where
-        by : (v : Verdict) → form_verdict l ≡ v → ◌≡◌ {A = Result Judged Refusal} (Ok j) (result_and v (Ok (record { shape = shape_at l; fault = fault f l }))) → (v ≡ Ok tt) × ((j.shape ≡ shape_at l) × (j.fault ≡ fault f l))
-        by (Ok x) p e = (refl, (cc, cc))
-        by (Err s) p e = absurd (cc)
+  shape_is : Passed l j.shape
+  shape_is = passed_is l (ap Ok passed.1.0 ∙ sym (ap (λ (v : Verdict). shape_by v l) passed.0))
 
-    shape_is : Passed l j.shape
-    shape_is = passed_is l (ap Ok passed.1.0 ∙ sym (ap (λ (v : Verdict). shape_by v l) passed.0))
+  pub write_narrow : j.shape.dim ≤ 16
+  write_narrow = shape_is.narrow
 
-    -- 10 and 16 are passed
-    known : (o : Option ℕ) → o ≡ j.fault → (b : Bool) → room ≡ b → write_by (shape_at l) true true (is_none o) b (refusal f (unwrap_or o 0)) ≡ answer
-    known o p b q =
-        sym (λ i. write_by (shape_at l) (shape_is.right i) (not (form-full l (ap is_ok passed.0) i)) (is_none (sym (p ∙ passed.1.1) i)) (q i) (refusal f (unwrap_or (sym (p ∙ passed.1.1) i) 0)))
+-- ---- channels that a reader does not refuse
+module _ (f : Parts) (l : List ℤ) {h : Shape} (e : Ok h ≡ shape_in f l) where
+  is : (well_formed_in (form_in f l) l ≡ true) × (h ≡ shape_at l)
+  is = let q = shape-yes (verdict_by (well_formed_in (form_in f l) l) false) l e in (sym (verdict_test (well_formed_in (form_in f l) l)) ∙ ap is_ok q.0, q.1)
 
-    pub at_fault : {i : ℕ} → Some i ≡ j.fault → Err (refusal f i) ≡ answer
-    at_fault {i} p = known (Some i) p room refl
-
-    pub write_narrow : j.shape.dim ≤ 16
-    write_narrow = shape_is.narrow
-
-    pub room_is : (s : ℕ) → s ≡ record_size (form_of (j.shape.dim * j.shape.dim) f) → leb (header_size + j.shape.count * s) (length res) ≡ room
-    room_is s p =
-        ap (λ (s : ℕ). leb (header_size + j.shape.count * s) (length res)) p
-        ∙ ap (λ (g : Shape). leb (header_size + g.count * record_size (form_of (g.dim * g.dim) f)) (length res)) passed.1.0
-
-    pub short_write : None ≡ j.fault → room ≡ false → Err ShortBuffer ≡ answer
-    short_write p q = known None p false q
-
-    pub written : None ≡ j.fault → room ≡ true → Ok j.shape ≡ answer
-    written p q = ap Ok passed.1.0 ∙ known None p true q
-
--- ---- what a reader answers
-module _ (f : Parts) (l res : List ℤ) where
-  abbrev read_room : Bool
-  read_room = leb (size_in (own l) l) (length res)
-
-  abbrev read_answer : Result Shape Refusal
-  read_answer = granted (shape_at l) (read_questions f l res)
-
-  pub refused-read : {r : Refusal} → Err r ≡ shape_in f l → Err r ≡ read_answer
-  refused-read e = by (well_formed_in (form_in f l) l) (shape_no (verdict_by (well_formed_in (form_in f l) l) false) l e)
-    where
-      by : (b : Bool) {r : Refusal} → verdict_by b false ≡ Err r → Err r ≡ read_by (shape_at l) b read_room
-      by true e = absurd (cc)
-      by false e = cc
-
-  module _ {h : Shape} (e : Ok h ≡ shape_in f l) where
-    is : (well_formed_in (form_in f l) l ≡ true) × (h ≡ shape_at l)
-    is = let q = shape-yes (verdict_by (well_formed_in (form_in f l) l) false) l e in (sym (verdict_test (well_formed_in (form_in f l) l)) ∙ ap is_ok q.0, q.1)
-
-    pub read_narrow : h.dim ≤ 16
-    read_narrow = subst (λ (s : Shape). s.dim ≤ 16) (sym is.1) (formed_in (form_in f l) l is.0).0.small
-
-    pub read_room_is : (s : ℕ) → s ≡ record_size (form_of (h.dim * h.dim) full) → leb (header_size + h.count * s) (length res) ≡ read_room
-    read_room_is s p = ap (λ (s : ℕ). leb (header_size + h.count * s) (length res)) p ∙ ap (λ (g : Shape). leb (header_size + g.count * record_size (form_of (g.dim * g.dim) full)) (length res)) is.1
-
-    pub short-read : read_room ≡ false → Err ShortBuffer ≡ read_answer
-    short-read q = sym (λ i. read_by (shape_at l) (is.0 i) (q i))
-
-    pub read_out : read_room ≡ true → Ok h ≡ read_answer
-    read_out q = ap Ok is.1 ∙ sym (λ i. read_by (shape_at l) (is.0 i) (q i))
+  pub read_narrow : h.dim ≤ 16
+  read_narrow = subst (λ (s : Shape). s.dim ≤ 16) (sym is.1) (formed_in (form_in f l) l is.0).0.small
 
 -- ---- what an accepted call may do
 module _ (f : Parts) (l res : List ℤ) where

@@ -109,7 +109,10 @@ module _ (w : ℕ) (half plain : Bool) (z : ℕ → Number) (range : (r c : ℕ)
           u = and_split (not half || all_below w (λ (r : ℕ). all_below w (conjugates r))) _ t
 
           first : (b : Bool) (r : ℕ) → r < w → (not b || all_below w (λ (r : ℕ). all_below w (conjugates r))) ≡ true → (not b || mirrored w z r) ≡ true
-          first true r p h = all-by (w - r) (λ (j : ℕ). mirrors (z (r * w + (r + j))) (z ((r + j) * w + r))) (λ j q. let l : r + j < w = omega arith in close r (r + j) p l ∙ all-at w (conjugates r) (all-at w (λ (r : ℕ). all_below w (conjugates r)) h r p) (r + j) l)
+          first true r p h =
+              let row = all-at w (λ (r : ℕ). all_below w (conjugates r)) h r p in
+              all-by (w - r) (λ (j : ℕ). mirrors (z (r * w + (r + j))) (z ((r + j) * w + r)))
+              (λ j q. let l : r + j < w = omega arith in close r (r + j) p l ∙ all-at w (conjugates r) row (r + j) l)
           first false r p h = refl
 
           second : (b : Bool) (r : ℕ) → r < w → (not b || all_below (w * w) whole) ≡ true → (not b || rational w z r) ≡ true

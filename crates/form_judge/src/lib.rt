@@ -47,7 +47,7 @@ fn fault_at(fault: Option<usize>, fits: bool, i: usize) -> Option<usize>
 }
 
 // Kept: `judge_chain` of channel::well_formed is its twin, of which it is a block's judge and one answer more; a function of both would be given the judge of a block, and promise what that promises.
-// What is found along the chain of a channel, if it is right, as judge_chain of channel::well_formed has it. Each block is read once.
+// What is found along the chain of a channel, if it is right, as judge_chain of channel::well_formed has it. Each block is gone over once, row by row.
 fn judge_blocks(s: &[i64], form: Form, m: u32, count: usize, to: Parts) -> Option<Found>
     requires room { Room form s.now m count }
     requires whole { form ≡ full form.side }
@@ -80,6 +80,7 @@ pub struct Judged {
     pub fault: Option<usize>,
 }
 
+// Kept: `judge` of channel::well_formed is its twin without a fault; one function of both would be given the walk along the chain.
 // What is judged of words given as a channel that is to be written in the form that keeps these parts, or why they are refused.
 pub fn judge_channel(s: &[i64], to: Parts) -> Result<Judged, Refusal>
     ensures { result ≡ judged_of to s.now }

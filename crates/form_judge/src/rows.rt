@@ -96,13 +96,14 @@ fn row_fits(b: &Record, to: Parts, r: usize) -> bool
     (!to.half || mirrored(b, r)) && (!to.plain || rational(b, r))
 }
 
-// What one pass sees of a block: its words, and whether a form restores each of its rows, while the words of the row are at hand.
+// What is seen of a block's words, and whether a form restores each of its rows.
 #[derive(Clone, Copy, Debug, PartialEq, Eq)]
 struct Pass {
     seen: Seen,
     fits: bool,
 }
 
+// Go over a block row by row; a row is held against the form while its words are at hand.
 fn look(b: &Record, to: Parts) -> Pass
     requires { b.now.form ≡ full b.now.form.side }
     ensures seen { let m = b.now in result.seen ≡ seen_of m.words.now record_head (block_size m.form) }

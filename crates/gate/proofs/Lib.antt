@@ -11,3 +11,4 @@ pub mod Placed
 pub mod Dispatch
 pub mod Partner
 pub mod Masks
+pub mod Represented

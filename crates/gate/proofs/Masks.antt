@@ -12,7 +12,7 @@ use lib.Dec.{T, eqb}
 use lib.ListN.{length}
 use borrow.Author.Tests.{eqb-false, eq-eqb, ne_eqb}
 use Rattle.algebra.specs.Lists.{all_below}
-use Rattle.algebra.proofs.Tests.{exhaust, equal1, equal2, or_no}
+use Rattle.algebra.proofs.Tests.{exhaust, equal2, or_no}
 use Rattle.exact.specs.Exact.{Exact, exact}
 use Rattle.scalar.specs.Calls.{value}
 use Rattle.gate.specs.declared.rows.Pair.{Pair}
@@ -28,9 +28,6 @@ use Rattle.gate.proofs.Dispatch.{one-kinds, two-kinds, three-kinds, three_else, 
 use Rattle.gate.proofs.Partner.{Two, small, changed, one-two, swap-two, single-own, single-other}
 
 -- ---- facts by computation
-pub shift_is : (w : ℕ) → w < 5 → 1 * 2 ^ w % 2 ^ 64 ≡ 2 ^ w
-shift_is = equal1 (λ (w : ℕ). 1 * 2 ^ w % 2 ^ 64) (λ (w : ℕ). 2 ^ w) 5 tt
-
 -- 0 or 1 where the bits m of r are all 0 or all 1, else 2
 abbrev class : ℕ → ℕ → ℕ
 class m r = cond (eqb (bit_and r m) 0) 0 (cond (eqb (bit_and r m) m) 1 2)
@@ -300,16 +297,3 @@ row-entry i {n} {g} {j} ready few em eh el eu l =
         ≡ gate_entry n g j (i / 2) (cond b (i / 2) (partner n g (i / 2)))
     go true = h.in_own
     go false = h.in_other
-
--- the two entries of row r, by their numbers among the entries of the rows
-pub side-own : (f : ℕ → Pair) (r : ℕ) → (f r).own ≡ side (f (r * 2 / 2)) (r * 2)
-side-own f r =
-    let e : r * 2 / 2 ≡ r = omega arith in
-    let h : r * 2 % 2 ≡ 0 = omega arith in
-    sym (ap (λ (t : Bool). cond t (f (r * 2 / 2)).own (f (r * 2 / 2)).other) (eq-eqb (r * 2 % 2) 0 h) ∙ ap (λ (k : ℕ). (f k).own) e)
-
-pub side-other : (f : ℕ → Pair) (r : ℕ) → (f r).other ≡ side (f ((r * 2 + 1) / 2)) (r * 2 + 1)
-side-other f r =
-    let e : (r * 2 + 1) / 2 ≡ r = omega arith in
-    let h : (r * 2 + 1) % 2 ≡ 1 = omega arith in
-    sym (ap (λ (t : Bool). cond t (f ((r * 2 + 1) / 2)).own (f ((r * 2 + 1) / 2)).other) (ne_eqb ((r * 2 + 1) % 2) 0 (λ z. absurd (omega (arith, h, z)))) ∙ ap (λ (k : ℕ). (f k).other) e)

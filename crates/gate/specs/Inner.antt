@@ -2,3 +2,5 @@
 pub mod Words
 pub mod Kinds
 pub mod Entries
+pub mod Rows
+pub mod Tables

@@ -1,20 +1,19 @@
 // The rows of a gate's matrices on n qubits. Row r has entries in two columns alone: its own, r, and its partner's, which has the bits flipped that the gate may change.
-// Kept (facts): n ≤ 5 stands in four functions here, Ready in three and in core_table. A struct of a gate and n with both as ghost fields would be made by branches::run at each gate, from a clause on the whole circuit,
-// and be taken apart again by each function: the masks need n and one qubit, core_table needs Ready alone, and only n ≤ 5 would leave the clauses.
+// Kept (facts, together): n ≤ 5 stands in four functions here, Ready in three and in tables::core_at. A struct of a gate and n with both as ghost fields would be made by branches::run at each gate, from a clause on the whole circuit,
+// and be taken apart again by each function: the masks need n and one qubit, core_at needs Ready alone, and only n ≤ 5 would leave the clauses.
 // Kept (switches): the arms of flips and controls are sums of masks of a kind's qubits, and none is a step that a caller could choose.
-// Kept (buffers): the rows go to a slot of the one lent work area, and what branches says of the whole area, `blocks` at a place, would have to be put together again from two parts of it.
-ghost use Rattle.std.specs.Prelude.{◌≡◌, ◌+◌, ◌-◌, ◌*◌, ◌^◌, ◌≤◌, ◌<◌, length};
-ghost use Rattle.cells.specs.Cells.{cell_size, fill};
+ghost use Rattle.std.specs.Prelude.{◌≡◌, ◌-◌, ◌*◌, ◌^◌, ◌≤◌, ◌<◌};
 ghost use Rattle.gate.specs.Inner.Words.{gate_of};
-ghost use Rattle.gate.specs.Inner.Entries.{Ready, flips, controls, row_entry, pair_of, row_pair};
+ghost use Rattle.gate.specs.Inner.Entries.{Ready, flips, controls, row_entry};
+ghost use Rattle.gate.specs.Inner.Rows.{is_even, row_in, row_over, Over, Represents};
 
 use super::judge::GateWords;
 use super::kinds::Kind;
-use super::tables::core_table;
-use cells::{CELL, write_cell};
-use scalar::{ONE, Scalar, ZERO};
+use super::tables::{Unmixed, core_at, unmixed_over};
+use exact::numerators::scaled4;
+use scalar::Scalar;
 
-// The entries of a row in its own column and in its partner's.
+// The entries of a row in its own column and in its partner's, as scalars in lowest form.
 #[derive(Clone, Copy)]
 pub struct Pair {
     pub own: Scalar,
@@ -62,60 +61,89 @@ fn controls(g: GateWords, n: u32, j: usize) -> usize
     }
 }
 
-// The pair of the rows in which the target's bit is x.
-fn pair_of(u: [[Scalar; 2]; 2], x: usize) -> Pair
-    requires { x < 2 }
-    ensures { result ≡ pair_of u x }
+// The entries of a row in its own column and in its partner's: numerators over the power of two of their operator.
+#[derive(Clone, Copy)]
+pub struct Row {
+    pub own: [i64; 4],
+    pub other: [i64; 4],
+}
+
+// By which bits of its number a row is chosen.
+#[derive(Clone, Copy)]
+pub enum Choice {
+    // Of a gate with these controls that may change these bits: the kept row where some control is 0; else `low` where the bits are all 0, `high` where they are all 1, and the exchanged row where they differ.
+    Controls(usize, usize, &'static Unmixed),
+    // Of an axis that signs and flips these bits: `low` where the row's partner has an even number of the signed bits, and `high` where it has an odd one.
+    Signs(usize, usize),
+}
+
+// An operator by its rows, of which `choice` says which is low and which is high.
+#[derive(Clone, Copy)]
+pub struct Rows {
+    pub choice: Choice,
+    pub low: Row,
+    pub high: Row,
+    // The power of two that all entries are over.
+    pub exponent: u32,
+}
+
+// Whether a row's number has an even number of the bits `signs`.
+fn is_even(signs: usize, r: usize) -> bool
+    ensures { result ≡ is_even signs r }
 {
-    Pair {
-        own: u[x][x],
-        other: u[x][1 - x],
+    (signs & r).count_ones() % 2 == 0
+}
+
+impl Rows {
+    // Row r.
+    pub fn row(&self, r: usize) -> &Row
+        ensures { result.now ≡ row_in self.now r }
+    {
+        match self.choice {
+            Choice::Controls(held, m, unmixed) => {
+                if r & held != held {
+                    return &unmixed.kept;
+                }
+                let x = r & m;
+                if x == 0 {
+                    return &self.low;
+                }
+                if x == m {
+                    return &self.high;
+                }
+                &unmixed.exchanged
+            }
+            Choice::Signs(signs, flips) => {
+                if is_even(signs, r ^ flips) {
+                    return &self.low;
+                }
+                &self.high
+            }
+        }
     }
 }
 
-// The pair of a row that the gate leaves as it is.
-const KEPT: Pair = Pair {
-    own: ONE,
-    other: ZERO,
-};
-
-// The pair of a row in which the bits of two qubits that change places differ.
-const EXCHANGED: Pair = Pair {
-    own: ZERO,
-    other: ONE,
-};
-
-// The pair of row r: `low` where the bits m that the gate may change are 0, and `high` where they are 1; `held` are the controls.
-fn row_pair(low: Pair, high: Pair, held: usize, m: usize, r: usize) -> Pair
-    ensures { result ≡ row_pair low high held m r }
+// The numerators of a pair over 2^k.
+pub fn row_over(p: Pair, k: u32) -> Row
+    requires { Over p k }
+    ensures { result ≡ row_over p k }
 {
-    if r & held != held {
-        return KEPT;
+    Row {
+        own: scaled4(p.own.n, k - p.own.e),
+        other: scaled4(p.other.n, k - p.other.e),
     }
-    let x = r & m;
-    if x == 0 {
-        return low;
-    }
-    if x == m {
-        return high;
-    }
-    EXCHANGED
 }
 
-// Write the two entries of each row of operator j, on n qubits with d rows and columns, to `at` on; m are the bits that the gate may change.
-pub fn write_rows(buf: &mut [i64], at: usize, n: u32, d: usize, g: GateWords, j: usize, m: usize)
-    requires { (m ≡ flips n (gate_of g)) × ((at + d * 2 * cell_size ≤ length buf.old) × ((n ≤ 5) × ((d ≡ 2 ^ n) × Ready n (gate_of g) j))) }
-    ensures { buf.new ≡ fill buf.old at (d * 2) (row_entry n (gate_of g) j) }
+// Operator j of a gate on n qubits; m are the bits that the gate may change.
+pub fn gate_rows(g: GateWords, n: u32, j: usize, m: usize) -> Rows
+    requires { (m ≡ flips n (gate_of g)) × ((n ≤ 5) × Ready n (gate_of g) j) }
+    ensures { Represents result (2 ^ n * 2) (row_entry n (gate_of g) j) }
 {
-    let u = core_table(g, n, j);
-    let low = pair_of(u, 0);
-    let high = pair_of(u, 1);
-    let held = controls(g, n, j);
-    for r in 0..d {
-        let p = row_pair(low, high, held, m, r);
-        let to = at + r * 2 * CELL;
-        let next = at + (r * 2 + 1) * CELL;
-        write_cell(buf, to, p.own);
-        write_cell(buf, next, p.other);
+    let u = core_at(g, n, j);
+    Rows {
+        choice: Choice::Controls(controls(g, n, j), m, unmixed_over(u.e)),
+        low: u.low,
+        high: u.high,
+        exponent: u.e,
     }
 }

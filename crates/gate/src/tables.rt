@@ -1,130 +1,227 @@
-// The two-by-two matrices of the kinds, as arrays by value.
-// Kept (twins): the matrices differ in their entries alone; as constants they would have no contract that says which matrix of the specs each is.
-// Kept (switches): core_table names the matrix of each kind, and no caller chooses it.
-// Kept (facts): Ready, as in rows.rt.
+// The two-by-two matrices of the kinds and the rows that are in none of them: phases by the powers of ω, all others by table.
+// Kept (facts, together): Ready, with n that it needs, as in rows.rt.
+// Kept (switches): `phase_of` and `place` name the matrix of each kind, and no caller chooses it.
 ghost use Rattle.std.specs.Prelude.{◌≡◌, true, ◌<◌};
-ghost use Rattle.gate.specs.Gate.{gate, elem};
+ghost use Rattle.algebra.specs.Lists.{all_below};
 ghost use Rattle.gate.specs.Kinds.{number_of};
-ghost use Rattle.gate.specs.Operators.{hadamard, pauli_x, pauli_y, root_x, phase, operator_at, identity};
 ghost use Rattle.gate.specs.Inner.Words.{gate_of};
-ghost use Rattle.gate.specs.Inner.Kinds.{splitting};
-ghost use Rattle.gate.specs.Inner.Entries.{Ready, table_of, core_of};
+ghost use Rattle.gate.specs.Inner.Entries.{Ready, core_of};
+ghost use Rattle.gate.specs.Inner.Tables.{phase_of, phase_core, place, are_cores, is_core, is_unmixed, are_unmixed};
 
 use super::judge::GateWords;
 use super::kinds::Kind;
+use super::rows::Row;
+use scalar::Scalar;
 use scalar::powers::power;
-use scalar::{ONE, Scalar, ZERO};
 
-pub fn identity_table() -> [[Scalar; 2]; 2]
-    ensures { result ≡ table_of identity }
-{
-    let z = ZERO;
-    let o = ONE;
-    [[o, z], [z, o]]
+// The rows of a two-by-two matrix, as numerators over 2^e: where the target's bit is 0, and where it is 1.
+#[derive(Clone, Copy)]
+pub struct Core {
+    pub low: Row,
+    pub high: Row,
+    pub e: u32,
 }
 
-// diag(1, ω^k)
-fn phase_table(k: u32) -> [[Scalar; 2]; 2]
-    ensures { result ≡ table_of (phase k) }
-{
-    let z = ZERO;
-    let o = ONE;
-    let w = power(k);
-    [[o, z], [z, w]]
+// The row that a gate leaves as it is, and that in which the bits of two qubits that change places differ.
+#[derive(Clone, Copy)]
+pub struct Unmixed {
+    pub kept: Row,
+    pub exchanged: Row,
 }
 
-// 1/√2 (1 1; 1 −1)
-fn hadamard_table() -> [[Scalar; 2]; 2]
-    ensures { result ≡ table_of hadamard }
-{
-    let p = Scalar {
-        n: [0, 1, 0, 0],
+static CORES: [Core; 7] = [
+    // h: 1/√2 (1 1; 1 −1)
+    Core {
+        low: Row {
+            own: [0, 1, 0, 0],
+            other: [0, 1, 0, 0],
+        },
+        high: Row {
+            own: [0, -1, 0, 0],
+            other: [0, 1, 0, 0],
+        },
         e: 1,
-    };
-    let m = Scalar {
-        n: [0, -1, 0, 0],
-        e: 1,
-    };
-    [[p, p], [p, m]]
-}
-
-fn x_table() -> [[Scalar; 2]; 2]
-    ensures { result ≡ table_of pauli_x }
-{
-    let z = ZERO;
-    let o = ONE;
-    [[z, o], [o, z]]
-}
-
-fn y_table() -> [[Scalar; 2]; 2]
-    ensures { result ≡ table_of pauli_y }
-{
-    let z = ZERO;
-    let i = Scalar {
-        n: [0, 0, 1, 0],
+    },
+    // x
+    Core {
+        low: Row {
+            own: [0; 4],
+            other: [1, 0, 0, 0],
+        },
+        high: Row {
+            own: [0; 4],
+            other: [1, 0, 0, 0],
+        },
         e: 0,
-    };
-    let j = Scalar {
-        n: [0, 0, -1, 0],
+    },
+    // y: (0 −i; i 0)
+    Core {
+        low: Row {
+            own: [0; 4],
+            other: [0, 0, -1, 0],
+        },
+        high: Row {
+            own: [0; 4],
+            other: [0, 0, 1, 0],
+        },
         e: 0,
-    };
-    [[z, j], [i, z]]
+    },
+    // sx: 1/2 (1 + i, 1 − i; 1 − i, 1 + i)
+    Core {
+        low: Row {
+            own: [1, 0, 1, 0],
+            other: [1, 0, -1, 0],
+        },
+        high: Row {
+            own: [1, 0, 1, 0],
+            other: [1, 0, -1, 0],
+        },
+        e: 1,
+    },
+    // measure's first and reset's: |0⟩⟨0|
+    Core {
+        low: Row {
+            own: [1, 0, 0, 0],
+            other: [0; 4],
+        },
+        high: Row {
+            own: [0; 4],
+            other: [0; 4],
+        },
+        e: 0,
+    },
+    // measure's second: |1⟩⟨1|
+    Core {
+        low: Row {
+            own: [0; 4],
+            other: [0; 4],
+        },
+        high: Row {
+            own: [1, 0, 0, 0],
+            other: [0; 4],
+        },
+        e: 0,
+    },
+    // reset's second: |0⟩⟨1|
+    Core {
+        low: Row {
+            own: [0; 4],
+            other: [1, 0, 0, 0],
+        },
+        high: Row {
+            own: [0; 4],
+            other: [0; 4],
+        },
+        e: 0,
+    },
+];
+
+// Over 1 and over 2.
+static UNMIXED: [Unmixed; 2] = [
+    Unmixed {
+        kept: Row {
+            own: [1, 0, 0, 0],
+            other: [0; 4],
+        },
+        exchanged: Row {
+            own: [0; 4],
+            other: [1, 0, 0, 0],
+        },
+    },
+    Unmixed {
+        kept: Row {
+            own: [2, 0, 0, 0],
+            other: [0; 4],
+        },
+        exchanged: Row {
+            own: [0; 4],
+            other: [2, 0, 0, 0],
+        },
+    },
+];
+
+// The table of matrices, which is tested whole.
+fn cores() -> &'static [Core; 7]
+    ensures { are_cores result.now ≡ true }
+{
+    &CORES
 }
 
-// 1/2 (1 + i, 1 − i; 1 − i, 1 + i)
-fn sx_table() -> [[Scalar; 2]; 2]
-    ensures { result ≡ table_of root_x }
+// The other table, which is tested whole.
+fn unmixed_table() -> &'static [Unmixed; 2]
+    ensures { all_below 2 (is_unmixed result.now) ≡ true }
 {
-    let p = Scalar {
-        n: [1, 0, 1, 0],
-        e: 1,
-    };
-    let q = Scalar {
-        n: [1, 0, -1, 0],
-        e: 1,
-    };
-    [[p, q], [q, p]]
+    &UNMIXED
 }
 
-// Operator j of measure or reset.
-fn split_table(kind: Kind, j: usize) -> [[Scalar; 2]; 2]
-    requires { (elem (number_of kind) splitting ≡ true) × (j < 2) }
-    ensures { result ≡ table_of (operator_at (gate (number_of kind) 0 0 0 0) j).small }
+// The rows over 2^e.
+pub fn unmixed_over(e: u32) -> &'static Unmixed
+    requires { e < 2 }
+    ensures { are_unmixed result.now e ≡ true }
 {
-    let z = ZERO;
-    let o = ONE;
-    if j == 0 {
-        return [[o, z], [z, z]];
+    &unmixed_table()[e as usize]
+}
+
+// The phase diag(1, ω^k).
+fn phase_core(k: u32) -> Core
+    ensures { result ≡ phase_core k }
+{
+    let Scalar { n, e } = power(k);
+    Core {
+        low: Row {
+            own: [1 << e, 0, 0, 0],
+            other: [0; 4],
+        },
+        high: Row {
+            own: n,
+            other: [0; 4],
+        },
+        e,
     }
+}
+
+// The k of a kind whose matrix is the phase diag(1, ω^k); rz is given its own. A swap has the identity.
+fn phase_of(kind: Kind, k: u32) -> Option<u32>
+    ensures { result ≡ phase_of (number_of kind) k }
+{
     match kind {
-        Kind::Measure => [[z, z], [z, o]],
-        _ => [[z, o], [z, z]],
+        Kind::Z | Kind::Cz | Kind::Ccz => Some(4),
+        Kind::S => Some(2),
+        Kind::Sdg => Some(6),
+        Kind::T => Some(1),
+        Kind::Tdg => Some(7),
+        Kind::Rz => Some(k),
+        Kind::Swap | Kind::Cswap => Some(0),
+        _ => None,
+    }
+}
+
+// Where the matrix of operator j of another kind stands. The kinds that are not supported are not asked.
+fn place(kind: Kind, j: usize) -> usize
+    requires { j < 2 }
+    ensures value { result ≡ place (number_of kind) j }
+    ensures inside { result < 7 }
+{
+    match kind {
+        Kind::H | Kind::Ch => 0,
+        Kind::X | Kind::Cnot | Kind::Ccx => 1,
+        Kind::Y | Kind::Cy => 2,
+        Kind::Sx => 3,
+        Kind::Reset => 4 + 2 * j,
+        _ => 4 + j,
     }
 }
 
 // The two-by-two matrix of operator j: on the only qubit, or on the target; the identity for a swap.
-pub fn core_table(g: GateWords, n: u32, j: usize) -> [[Scalar; 2]; 2]
+pub fn core_at(g: GateWords, n: u32, j: usize) -> Core
     requires { Ready n (gate_of g) j }
-    ensures { result ≡ core_of (gate_of g) j }
+    ensures { is_core result (core_of (gate_of g) j) ≡ true }
 {
     let Some(kind) = g.known_kind() else {
         unreachable!()
     };
-    match kind {
-        Kind::H | Kind::Ch => hadamard_table(),
-        Kind::X | Kind::Cnot | Kind::Ccx => x_table(),
-        Kind::Y | Kind::Cy => y_table(),
-        Kind::Sx => sx_table(),
-        Kind::Z | Kind::Cz | Kind::Ccz => phase_table(4),
-        Kind::S => phase_table(2),
-        Kind::Sdg => phase_table(6),
-        Kind::T => phase_table(1),
-        Kind::Tdg => phase_table(7),
-        Kind::Rz => phase_table(g.k),
-        Kind::Measure | Kind::Reset => split_table(kind, j),
-        Kind::Swap | Kind::Cswap => identity_table(),
-        Kind::P | Kind::Rx | Kind::Ry | Kind::Cp | Kind::Crx | Kind::Cry | Kind::Crz => {
-            unreachable!()
-        }
+    match phase_of(kind, g.k) {
+        Some(k) => phase_core(k),
+        None => cores()[place(kind, j)],
     }
 }

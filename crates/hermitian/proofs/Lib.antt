@@ -1,2 +1,3 @@
+pub mod Shifts
+pub mod Bits
 pub mod Mirrored
-pub mod Shared

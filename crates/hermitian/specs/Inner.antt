@@ -1,2 +1,2 @@
 -- What inner functions ask and proofs need.
-pub mod Sparse
+pub mod Upper

@@ -1,21 +1,18 @@
-// Hermitian blocks of numerators over one power of two: their lower half from their upper, and all of them brought to their shared form in place.
+// Hermitian blocks of numerators over one power of two, given on and above the diagonal: brought to their shared form in place, the lower half from the upper.
 // A row whose number on the diagonal is zero is zero, and is passed over.
-// Kept (facts): t ≤ 63, the bits of a word, is what a shift itself asks; that a block is sparse is known between two writes of it, and a struct with the words would be made anew behind each.
+// Kept (facts): t ≤ 63, the bits of a word, is what a shift itself asks; that a row may be passed over is known of each write of it, and a struct with the words would be made anew behind each.
 // Kept (buffers, together): a block by its place and its w rows. It is read and written across its diagonal, at two places of one buffer, and stands in a result that is longer; a struct that holds the `&mut` would be lent anew for each row.
 #![tactic(auto)]
 
-ghost use Rattle.std.specs.Prelude.{◌≡◌, ℕ, ◌+◌, ◌*◌, ◌^◌, ◌<◌, ◌≤◌, length, get_or, pos};
+ghost use Rattle.std.specs.Prelude.{◌≡◌, ℕ, ◌+◌, ◌*◌, ◌-◌, ◌<◌, ◌≤◌, length, get_or, pos};
 ghost use Rattle.std.proofs.lemmas.List.Edits.{sets};
-ghost use Rattle.std.specs.Int.Signed.{shr_z};
 ghost use Rattle.std.specs.Int.{w64};
 ghost use Rattle.std.proofs.Common.{SFits, of_z};
 ghost use Rattle.algebra.specs.Quadratic.{conjugate};
-ghost use Rattle.algebra.specs.Words.{fill_words};
 ghost use Rattle.exact.specs.Exact.{root2, list_of, is_zero};
 ghost use Rattle.exact.specs.Inner.Sizes.{Within, room_numerator};
-ghost use Rattle.share.specs.Share.{or_words, shared_from, with_numerators};
-ghost use Rattle.overlaps.specs.Inner.Overlap.{number_in};
-ghost use Rattle.hermitian.specs.Inner.Sparse.{diagonal, mirrored_at, Half, Column, Row, Sparse};
+ghost use Rattle.share.specs.Share.{number_in, or_words, with_numerators};
+ghost use Rattle.hermitian.specs.Inner.Upper.{diagonal, or_upper, row_shared, upper_shared, mirrored_from, Row, Column, Shifting, Half};
 
 use cells::{numerators_at, write_numerators};
 use channel::layout::ENTRY;
@@ -32,6 +29,31 @@ fn is_zero_row(s: &[i64], at: usize, w: usize, r: usize) -> bool
     all_zero(x)
 }
 
+// The bits that g has or some word of row r of the block at `at`, from its diagonal on.
+fn or_row(s: &[i64], at: usize, w: usize, r: usize, g: i64) -> i64
+    requires { Row s.now at w r }
+    ensures bits { of_z w64 result ≡ or_words (of_z w64 g) s.now (at + (r * w + r) * 4) ((w - r) * 4) }
+    ensures fit { (i : ℕ) → i < (w - r) * 4 → SFits w64 (get_or s.now (at + (r * w + r) * 4 + i) (pos 0)) }
+{
+    if is_zero_row(s, at, w, r) {
+        return g;
+    }
+    or_more(s, at + (r * w + r) * ENTRY, (w - r) * ENTRY, g)
+}
+
+// The bits that some number on or above the diagonal of the block has.
+fn or_rows(s: &[i64], at: usize, w: usize) -> i64
+    requires { Half s.now at w }
+    ensures bits { of_z w64 result ≡ or_upper s.now at w w }
+    ensures fit { (r i : ℕ) → r < w → i < (w - r) * 4 → SFits w64 (get_or s.now (at + (r * w + r) * 4 + i) (pos 0)) }
+{
+    let mut g = 0i64;
+    for r in 0..w {
+        g = or_row(s, at, w, r, g);
+    }
+    g
+}
+
 // Write the conjugate of the number at `from` to `at`.
 fn write_conj(s: &mut [i64], from: usize, at: usize)
     requires { (from + 4 ≤ length s.old) × ((at + 4 ≤ length s.old) × Within room_numerator (number_in s.old from)) }
@@ -46,9 +68,6 @@ fn mirror_column(s: &mut [i64], out: usize, w: usize, r: usize)
     requires { Column s.old out w r }
     ensures { s.new ≡ with_numerators s.old (out + r * w * 4) r (λ (c : ℕ). conjugate root2 (number_in s.old (out + (c * w + r) * 4))) }
 {
-    if is_zero_row(s, out, w, r) {
-        return;
-    }
     for c in 0..r {
         write_conj(
             s,
@@ -58,71 +77,37 @@ fn mirror_column(s: &mut [i64], out: usize, w: usize, r: usize)
     }
 }
 
-// Write the conjugate of each number above the diagonal of the block at `out`, of w rows, to its place across the diagonal.
-pub fn mirror(s: &mut [i64], out: usize, w: usize)
-    requires { Half s.old out w }
-    ensures { s.new ≡ with_numerators s.old out (w * w) (mirrored_at s.old out w) }
+// Shift the numbers of row r by t, from its diagonal on, and write to those before it the conjugates of column r, whose numbers are shifted.
+fn share_row(s: &mut [i64], out: usize, w: usize, r: usize, t: u32)
+    requires { Shifting s.old out w r × (t ≤ 63) }
+    ensures { s.new ≡ with_numerators s.old (out + r * w * 4) w (row_shared s.old out w t r) }
 {
-    for r in 0..w {
-        mirror_column(s, out, w, r);
-    }
-}
-
-// The bits that some word of the first r + 1 rows of the block at `at` has: g has those of the first r.
-fn or_row(s: &[i64], at: usize, w: usize, r: usize, g: i64) -> i64
-    requires { Row s.now at w r × (of_z w64 g ≡ or_words s.now at (r * w * 4)) }
-    ensures bits { of_z w64 result ≡ or_words s.now at (r * w * 4 + w * 4) }
-    ensures fit { (i : ℕ) → r * w * 4 ≤ i → i < r * w * 4 + w * 4 → SFits w64 (get_or s.now (at + i) (pos 0)) }
-{
-    if is_zero_row(s, at, w, r) {
-        return g;
-    }
-    or_more(s, at, r * w * ENTRY, w * ENTRY, g)
-}
-
-// The bits that some word of the block has.
-fn or_rows(s: &[i64], at: usize, w: usize) -> i64
-    requires { Sparse s.now at w }
-    ensures bits { of_z w64 result ≡ or_words s.now at (w * w * 4) }
-    ensures fit { (i : ℕ) → i < w * w * 4 → SFits w64 (get_or s.now (at + i) (pos 0)) }
-{
-    let mut g = 0i64;
-    for r in 0..w {
-        g = or_row(s, at, w, r, g);
-    }
-    g
-}
-
-// Shift each word of row r by t.
-fn shift_row(s: &mut [i64], at: usize, w: usize, r: usize, t: u32)
-    requires { Row s.old at w r × (t ≤ 63) }
-    ensures { s.new ≡ fill_words s.old (at + r * w * 4) (w * 4) (λ (i : ℕ). shr_z (get_or s.old (at + r * w * 4 + i) (pos 0)) (2 ^ t)) }
-{
-    if is_zero_row(s, at, w, r) {
+    if is_zero_row(s, out, w, r) {
         return;
     }
-    shift_words(s, at + r * w * ENTRY, w * ENTRY, t);
+    mirror_column(s, out, w, r);
+    shift_words(s, out + (r * w + r) * ENTRY, (w - r) * ENTRY, t);
 }
 
-// Shift each word of the block by t.
-fn shift_rows(s: &mut [i64], at: usize, w: usize, t: u32)
-    requires { Sparse s.old at w × (t ≤ 63) }
-    ensures { s.new ≡ fill_words s.old at (w * w * 4) (λ (i : ℕ). shr_z (get_or s.old (at + i) (pos 0)) (2 ^ t)) }
+// Shift each number on or above the diagonal by t, and write its conjugate across the diagonal.
+fn share_rows(s: &mut [i64], out: usize, w: usize, t: u32)
+    requires { Half s.old out w × (t ≤ 63) }
+    ensures { s.new ≡ with_numerators s.old out (w * w) (upper_shared s.old out w t) }
 {
     for r in 0..w {
-        shift_row(s, at, w, r, t);
+        share_row(s, out, w, r, t);
     }
 }
 
-// Bring the block at `at`, of w rows, over 2^e, to its shared form; its exponent.
+// Bring the Hermitian block at `at`, of w rows, over 2^e, given on and above its diagonal, to its shared form; its exponent.
 pub fn share_block(s: &mut [i64], at: usize, w: usize, e: u32) -> u32
-    requires { Sparse s.old at w × (e ≤ 63) }
-    ensures exponent { result ≡ (shared_from s.old at (w * w) e).exp }
-    ensures numerators { s.new ≡ with_numerators s.old at (w * w) (shared_from s.old at (w * w) e).num }
+    requires { Half s.old at w × (e ≤ 63) }
+    ensures exponent { result ≡ (mirrored_from s.old at w e).exp }
+    ensures numerators { s.new ≡ with_numerators s.old at (w * w) (mirrored_from s.old at w e).num }
 {
     let g = or_rows(s, at, w);
     // Kept: `common_zeros` with zeros for the other three words: for one word its body would stand here again, with a proof of its own, and be no plainer.
     let t = common_zeros(g, 0, 0, 0).min(e);
-    shift_rows(s, at, w, t);
+    share_rows(s, at, w, t);
     e - t
 }

@@ -16,8 +16,8 @@ use Rattle.cells.specs.Cells.{cell_size}
 use Rattle.gate.specs.Gate.{Gate, gates_of, splits}
 use Rattle.gate.specs.Inner.Entries.{valid}
 use Rattle.kraus.specs.Branch.{Branch, branches}
-use Rattle.kraus.specs.Blocks.{survivors, stores}
-use Rattle.branches.specs.Inner.Bank.{branch_size, bank_words, Holds}
+use Rattle.kraus.specs.Blocks.{survivors}
+use Rattle.branches.specs.Inner.Bank.{slot_size, bank_words, Holds}
 use Rattle.branches.specs.Inner.Run.{work_size, Runs, Ran}
 use Rattle.circuit.specs.declared.limits.Limits.{Limits}
 use Rattle.circuit.specs.Sizes.{work_words}
@@ -122,7 +122,7 @@ module _ {n m : ℕ} {σ : List ℕ} {ws : List ℕ} {r w : List ℤ} (a : Accep
           h ∙ (λ i. overwritten (branches_words (e i) m (survivors (bank_in b at (e i) m (sym ran.counted i)))) r)
           ∙ ap (λ (xs : List Branch). overwritten (branches_words (2 ^ n) m (survivors xs)) r) (bank_is held)
 
-      module _ {size : ℕ} (g : size ≡ branch_size d) where
+      module _ {size : ℕ} (g : size ≡ slot_size d) where
         used_is : (2 * k + 2) * size ≡ work_size d k
         used_is = ap (λ (x : ℕ). (2 * k + 2) * x) g
 

@@ -10,7 +10,7 @@ ghost use Rattle.judge.specs.Call.{verdict_of, result_after, work_after};
 ghost use Rattle.judge.specs.Layered.{layered_verdict_of, layered_result, layered_work};
 ghost use Rattle.judge.specs.Inner.Accepted.{Accepted};
 
-use branches::bank::{Bank, branch_size};
+use branches::bank::{Bank, slot_size};
 use branches::run::run_gates;
 use circuit::Circuit;
 use circuit::limits::Limits;
@@ -39,7 +39,7 @@ fn run_and_deliver(split_count: u64, circuit: Circuit, res: &mut [i64], work: &m
         },
         circuit.bits,
     );
-    let used = (2 * banks + 2) * branch_size(d);
+    let used = (2 * banks + 2) * slot_size(d);
     clear(work, 0, used);
 }
 

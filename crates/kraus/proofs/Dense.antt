@@ -2,7 +2,6 @@
 use mathlib.Core.Path.{◌≡◌, refl, sym, ap, ap₂, ◌∙◌}
 use mathlib.Core.List.{List, ◌∷◌}
 use Prim.Native.Nat.{ℕ, zero, suc, ◌+◌, ◌*◌, ◌/◌, ◌%◌, ◌≤◌, ◌<◌}
-use native.Mathlib.Nat.{mod-lt, div-lt_iff_lt-mul}
 use native.Mathlib.Omega.{arith}
 use lib.ListN.{length, get_or}
 use lib.Arith.{digits_div, digits_mod, digits_lt}
@@ -10,6 +9,7 @@ use Rattle.algebra.specs.Ops.{Ops}
 use Rattle.algebra.specs.Sum.{times}
 use Rattle.algebra.proofs.Semi.{Semi}
 use Rattle.algebra.proofs.Sum.{times-same, times_assoc}
+use Rattle.algebra.proofs.Squares.{row_lt, column_lt}
 use Rattle.kraus.specs.Dense.{tabulate, table, cell, left}
 
 module _ {A : Type 0} where
@@ -33,11 +33,7 @@ module _ {A : Type 0} where
       ∙ ap₂ f (digits_div r m) (digits_mod r m)
 
   pub table_same : (d : ℕ) (f g : ℕ → ℕ → A) → ((r c : ℕ) → r < d → c < d → f r c ≡ g r c) → table d f ≡ table d g
-  table_same d f g h = tabulate-same (d * d) 0 _ _ (λ k l m. h (k / d) (k % d) ((div-lt_iff_lt-mul (pos k d (omega arith))).1 (omega arith)) (mod-lt k (pos k d (omega arith))))
-    where
-      pos : (k e : ℕ) → k < e * e → 0 < e
-      pos k zero l = absurd (omega arith)
-      pos k (suc e) l = omega arith
+  table_same d f g h = tabulate-same (d * d) 0 _ _ (λ k l m. h (k / d) (k % d) (row_lt k d (omega arith)) (column_lt k d (omega arith)))
 
 module _ (𝓡 : Semi) (d : ℕ) where
   open 𝓡 use {R, ops}

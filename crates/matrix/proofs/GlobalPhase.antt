@@ -4,14 +4,15 @@ use mathlib.Core.Path.{◌≡◌, refl, sym, ap, ◌∙◌, subst}
 use mathlib.Core.Bool.{Bool, true, false, cond, ◌&&◌}
 use mathlib.Core.Logic.{◌≢◌, ◌↔◌, ⊎_elim}
 use mathlib.Core.List.{List}
-use Prim.Native.Nat.{ℕ, ◌*◌, ◌<◌, ◌≤◌}
+use Prim.Native.Nat.{ℕ, ◌+◌, ◌*◌, ◌<◌, ◌≤◌}
 use native.Mathlib.Omega.{arith}
 use lib.Dec.{T}
 use lib.IntN.{ℤ}
 use borrow.Author.Tests.{eq-eqb}
 use Rattle.algebra.specs.Quadratic.{conjugate}
 use Rattle.algebra.proofs.Tests.{and_split, all-at, all-by, test_same}
-use Rattle.algebra.proofs.Semi.{Semi, mul-four, mul_left}
+use Rattle.algebra.proofs.Semi.{Semi, mul-four, mul_left, zero-mul}
+use Rattle.algebra.proofs.Ring.{semi}
 use Rattle.algebra.proofs.Quadratic.{ℤ√2i}
 use Rattle.algebra.proofs.Dyadic.{low-zero}
 use Rattle.algebra.proofs.Domain.{ℤ√2i-domain, zero_fraction, cancel_fraction}
@@ -21,10 +22,15 @@ use Rattle.exact.proofs.Exact.{exacts, exact_halving, conj-by, conj-conj, is_low
 use Rattle.verdict.specs.declared.Refusal.TheVariants.{TooLarge, Malformed}
 use Rattle.exact.proofs.IsZero.{zero_is}
 use Rattle.matrix.specs.declared.Phase.TheVariants.{Different}
-use Rattle.matrix.proofs.Terms.{zero-by}
 use Rattle.matrix.proofs.Questions.{agreed}
 use Rattle.matrix.proofs.First.{first_is, first-none}
 use Rattle.matrix.specs.Phase.{◌·◌, zero_matrix, equal_modulus, equal_ratios, in_phase_at, pivot, in_phase, entry_of, well_formed_matrix, narrow_matrix, phase_answer, GlobalPhase, Meaning}
+
+-- ---- a zero factor
+zero-by : (x y : Exact) → is_zero x.num ≡ true → exact.◌⊗◌ x y ≡ exact.𝟘
+zero-by x y e =
+    ap (λ (z : Number). lowest z (x.exp + y.exp)) (ap (λ (z : Number). numbers.◌⊗◌ z y.num) (zero_is x.num e) ∙ zero-mul (semi ℤ√2i) y.num)
+    ∙ low-zero ℤ√2i exact_halving (x.exp + y.exp)
 
 -- ---- with x·b = y·a and p·b = q·a
 module _ (𝓡 : Semi) (bar : 𝓡.R → 𝓡.R) (bar-mul : (x y : 𝓡.R) → bar (𝓡.ops.◌⊗◌ x y) ≡ 𝓡.ops.◌⊗◌ (bar x) (bar y)) where

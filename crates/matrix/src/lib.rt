@@ -2,8 +2,6 @@
 #![tactic(auto)]
 
 pub mod global_phase;
-pub mod identity;
-pub mod linear;
 pub mod words;
 
 // Whether two matrices are equal up to a global phase.

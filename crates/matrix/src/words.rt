@@ -1,9 +1,8 @@
-// Words cleared, copied, and searched for what is not zero.
-// Kept (buffers): a place and a length. The contract of a writer says of the whole buffer what it becomes; of a cut slice it would speak of that part alone, and each caller would have to show again that the rest stayed as it was.
+// Words cleared, and searched for what is not zero.
+// Kept (buffers, together): a place and a length. The contract of a writer says of the whole buffer what it becomes; of a cut slice it would speak of that part alone, and each caller would have to show again that the rest stayed as it was.
 // The readers take what the writers take.
-ghost use Rattle.std.specs.Prelude.{◌≡◌, ℕ, ◌+◌, ◌*◌, ◌-◌, ◌≤◌, length, get_or, pos};
+ghost use Rattle.std.specs.Prelude.{◌≡◌, ℕ, ◌+◌, ◌*◌, ◌-◌, ◌≤◌, length, pos};
 ghost use Rattle.algebra.specs.Words.{fill_words};
-ghost use Rattle.algebra.specs.Inner.Apart.{Apart};
 ghost use Rattle.cells.specs.Cells.{cell_size};
 ghost use Rattle.cells.specs.Inner.Zero.{zero_at};
 ghost use Rattle.matrix.specs.Phase.{first_not};
@@ -17,17 +16,6 @@ pub fn clear(s: &mut [i64], at: usize, n: usize)
     ensures { s.new ≡ fill_words s.old at n (λ (i : ℕ). pos 0) }
 {
     s[at..at + n].fill(0);
-}
-
-// Kept: by a loop. `s.copy_within(from..from + n, to)` tells what it leaves by take and drop, where the writers here tell it block by block: a lemma that leads from one to the other would be longer than the loop and its proof.
-// Copy n words from `from` on to `to` on; the two parts do not overlap.
-pub fn copy(s: &mut [i64], from: usize, to: usize, n: usize)
-    requires { (from + n ≤ length s.old) × ((to + n ≤ length s.old) × Apart from n to n) }
-    ensures { s.new ≡ fill_words s.old to n (λ (i : ℕ). get_or s.old (from + i) (pos 0)) }
-{
-    for i in 0..n {
-        s[to + i] = s[from + i];
-    }
 }
 
 // Of n entries from `at` on, the first from entry r on that is not zero.

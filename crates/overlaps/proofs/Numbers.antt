@@ -1,89 +1,31 @@
--- Numbers of four numerators in words: the same words are the same number, what was written is read back, and what stands there already changes nothing; a zero factor adds nothing.
-use mathlib.Core.Path.{◌≡◌, refl, sym, ap, ◌∙◌}
+-- A zero factor adds nothing, and its products are zero.
+use mathlib.Core.Path.{◌≡◌, ap, ◌∙◌}
 use mathlib.Core.Bool.{true}
-use mathlib.Core.List.{List, [], ◌∷◌}
-use Prim.Native.Nat.{ℕ, zero, suc, ◌+◌, ◌*◌, ◌-◌, ◌≤◌, ◌<◌}
-use native.Mathlib.Nat.{le_refl, add-zero}
-use native.Mathlib.Omega.{arith}
-use lib.ListN.{length, get_or, set}
-use lib.Seq.{sets, set-get_or}
-use lib.IntN.{ℤ, pos}
+use mathlib.Core.List.{List}
+use Prim.Native.Nat.{ℕ}
+use lib.IntN.{ℤ}
 use Rattle.algebra.specs.Quadratic.{conjugate}
-use Rattle.algebra.specs.Dyadic.{power}
-use Rattle.algebra.specs.Words.{blocks}
 use Rattle.algebra.proofs.Semi.{zero-mul}
 use Rattle.algebra.proofs.Ring.{semi, mul_zero}
 use Rattle.algebra.proofs.Ring as Ring
 use Rattle.algebra.proofs.Quadratic.{ℤ√2i}
-use Rattle.algebra.proofs.Blocks.{Same, blocks_at}
-use Rattle.exact.specs.Exact.{Number, number, numbers, root2, list_of}
+use Rattle.exact.specs.Exact.{Number, numbers, root2, is_zero}
 use Rattle.exact.proofs.IsZero.{zero_is}
-use Rattle.exact.proofs.Align.{scaled_is}
-use Rattle.cells.specs.Cells.{cell_at}
-use Rattle.cells.specs.Inner.Zero.{zero_at}
-use Rattle.share.specs.Share.{with_numerators}
-use Rattle.overlaps.specs.Inner.Overlap.{number_in, raised_at, added}
-
--- ---- the same four words
-pub number_same : {l m : List ℤ} {at : ℕ} → Same l m at 4 → number_in l at ≡ number_in m at
-number_same {l} {m} {at} h =
-    λ i. number (h.word at (omega arith) (omega arith) i) (h.word (at + 1) (omega arith) (omega arith) i) (h.word (at + 2) (omega arith) (omega arith) i) (h.word (at + 3) (omega arith) (omega arith) i)
-
--- four words that are those of a number
-number_is : (l : List ℤ) (at : ℕ) (z : Number) → ((k : ℕ) → k < 4 → get_or l (at + k) (pos 0) ≡ get_or (list_of z) k (pos 0)) → number_in l at ≡ z
-number_is l at z h =
-    let first = ap (λ (w : ℕ). get_or l w (pos 0)) (sym (add-zero at)) ∙ h 0 (omega arith) in
-    λ i. number (first i) (h 1 (omega arith) i) (h 2 (omega arith) i) (h 3 (omega arith) i)
-
--- number i is read back
-pub number-filled : (f : ℕ → Number) (l : List ℤ) (at n i : ℕ) → i < n → at + n * 4 ≤ length l → number_in (with_numerators l at n f) (at + i * 4) ≡ f i
-number-filled f l at n i h room = number_is (with_numerators l at n f) (at + i * 4) (f i) (λ k p. blocks_at 4 l at (λ (k : ℕ). list_of (f k)) (λ i. le_refl 4) n i k h p room)
-
--- ---- words that are written where they stand already
-pub sets_there : (vs l : List ℤ) (at : ℕ) → ((k : ℕ) → k < length vs → get_or l (at + k) (pos 0) ≡ get_or vs k (pos 0)) → sets l at vs ≡ l
-sets_there [] l at h = refl
-sets_there (a ∷ vs) l at h = ap (λ (m : List ℤ). sets m (suc at) vs) first ∙ sets_there vs l (suc at) (λ k p. rest k p)
-  where
-    first : set l at a ≡ l
-    first = ap (set l at) (sym (h 0 (omega arith)) ∙ ap (λ (w : ℕ). get_or l w (pos 0)) (add-zero at)) ∙ set-get_or l at (pos 0)
-
-    rest : (k : ℕ) → k < length vs → get_or l (suc at + k) (pos 0) ≡ get_or vs k (pos 0)
-    rest k p = let e : suc at + k ≡ at + suc k = omega arith in ap (λ (w : ℕ). get_or l w (pos 0)) e ∙ h (suc k) (omega arith)
-
-pub number-there : (l : List ℤ) (at : ℕ) → sets l at (list_of (number_in l at)) ≡ l
-number-there l at = sets_there (list_of (number_in l at)) l at by
-  where
-    by : (k : ℕ) → k < 4 → get_or l (at + k) (pos 0) ≡ get_or (list_of (number_in l at)) k (pos 0)
-    by zero h = ap (λ (w : ℕ). get_or l w (pos 0)) (add-zero at)
-    by (suc zero) h = refl
-    by (suc (suc zero)) h = refl
-    by (suc (suc (suc zero))) h = refl
-    by (suc (suc (suc (suc k)))) h = absurd (omega arith)
-
--- n numbers
-pub numbers-there : (l : List ℤ) (at n : ℕ) (f : ℕ → Number) → ((i : ℕ) → i < n → f i ≡ number_in l (at + i * 4)) → with_numerators l at n f ≡ l
-unfolding blocks
-numbers-there l at zero f e = refl
-numbers-there l at (suc n) f e =
-    (λ i. sets (numbers-there l at n f (λ k p. e k (omega arith)) i) (at + n * 4) (list_of (e n (omega arith) i))) ∙ number-there l (at + n * 4)
-
--- ---- zero factors
-raised-zero : (e : ℕ) (m : List ℤ) (q : ℕ) → zero_at m q ≡ true → raised_at e m q ≡ numbers.𝟘
-raised-zero e m q z =
-    scaled_is (cell_at m q).num (e - (cell_at m q).exp)
-    ∙ ap (λ (x : Number). numbers.◌⊗◌ x (power numbers (e - (cell_at m q).exp))) (zero_is (cell_at m q).num z)
-    ∙ zero-mul (semi ℤ√2i) (power numbers (e - (cell_at m q).exp))
+use Rattle.share.specs.Share.{number_in}
+use Rattle.overlaps.specs.Inner.Overlap.{raised_at, overlap, added}
 
 nothing : (a t : Number) → t ≡ numbers.𝟘 → numbers.◌⊕◌ a t ≡ a
 nothing a t h = ap (numbers.◌⊕◌ a) h ∙ Ring.add-zero ℤ√2i a
 
-module _ (l : List ℤ) (at : ℕ) (m : List ℤ) (e q : ℕ) where
-  pub right-none : (x : Number) → zero_at m q ≡ true → added l at x e m q ≡ number_in l at
-  right-none x z =
-      nothing (number_in l at) (numbers.◌⊗◌ x (conjugate root2 (raised_at e m q)))
-      (ap (λ (y : Number). numbers.◌⊗◌ x (conjugate root2 y)) (raised-zero e m q z) ∙ mul_zero ℤ√2i x)
+module _ (m : List ℤ) (s q : ℕ) where
+  pub left-zero : (x : Number) → is_zero x ≡ true → overlap x s m q ≡ numbers.𝟘
+  left-zero x z = ap (λ (y : Number). overlap y s m q) (zero_is x z) ∙ zero-mul (semi ℤ√2i) (conjugate root2 (raised_at s m q))
 
-  pub left-none : (p : ℕ) → zero_at m p ≡ true → added l at (raised_at e m p) e m q ≡ number_in l at
-  left-none p z =
-      nothing (number_in l at) (numbers.◌⊗◌ (raised_at e m p) (conjugate root2 (raised_at e m q)))
-      (ap (λ (y : Number). numbers.◌⊗◌ y (conjugate root2 (raised_at e m q))) (raised-zero e m p z) ∙ zero-mul (semi ℤ√2i) (conjugate root2 (raised_at e m q)))
+  right-zero : (x : Number) → is_zero (raised_at s m q) ≡ true → overlap x s m q ≡ numbers.𝟘
+  right-zero x z = ap (λ (y : Number). numbers.◌⊗◌ x (conjugate root2 y)) (zero_is (raised_at s m q) z) ∙ mul_zero ℤ√2i x
+
+  pub left-none : (l : List ℤ) (at : ℕ) (x : Number) → is_zero x ≡ true → added l at x s m q ≡ number_in l at
+  left-none l at x z = nothing (number_in l at) (overlap x s m q) (left-zero x z)
+
+  pub right-none : (l : List ℤ) (at : ℕ) (x : Number) → is_zero (raised_at s m q) ≡ true → added l at x s m q ≡ number_in l at
+  right-none l at x z = nothing (number_in l at) (overlap x s m q) (right-zero x z)

@@ -1,28 +1,32 @@
--- Sizes of factors over one power of two, and of their products; a zero adds nothing.
+-- Sizes of factors over one power of two, and of their products.
+use mathlib.Core.Path.{sym, subst}
 use mathlib.Core.List.{List}
-use Prim.Native.Nat.{ℕ, ◌+◌, ◌*◌, ◌^◌, ◌≤◌}
-use native.Mathlib.Nat.{le_trans, le_of_eq}
+use Prim.Native.Nat.{ℕ, ◌+◌, ◌*◌, ◌-◌, ◌^◌, ◌≤◌, ◌<◌}
+use native.Mathlib.Nat.{le_trans, le_of_eq, one-mul}
 use native.Mathlib.Omega.{arith}
 use lib.Dec.{lit≤}
 use lib.IntN.{ℤ}
 use Rattle.algebra.specs.Quadratic.{conjugate}
-use Rattle.algebra.specs.Dyadic.{frac}
 use Rattle.algebra.proofs.Parts.{abs_neg}
+use Rattle.algebra.proofs.Blocks.{block_in_lem}
 use Rattle.exact.specs.Exact.{Number, numbers, root2, narrow_exponent, narrow_numerator, max_numerator}
-use Rattle.exact.specs.Inner.Sizes.{Within, room_numerator}
-use Rattle.exact.proofs.Align.{widen, power-within, raised, product-within, small}
-use Rattle.cells.specs.Cells.{cell_at}
-use Rattle.overlaps.specs.Inner.Overlap.{raised_at, Raised}
+use Rattle.exact.specs.Inner.Sizes.{Within, scaled}
+use Rattle.exact.proofs.Align.{widen, power-within, raised, mul-within}
+use Rattle.share.specs.Share.{number_in}
+use Rattle.rows.specs.Inner.Rows.{exponent_in}
+use Rattle.overlaps.specs.Inner.Overlap.{raise, raised_at, Raised, Liftable}
 
--- a factor over 2^e
-pub raised-within : (m : List ℤ) (q e : ℕ) → Raised m q e → Within (1 * 2 ^ e) (raised_at e m q)
-raised-within m q e r = raised 1 (cell_at m q).exp e (cell_at m q).num r.exponent r.factor.coords.size
-
-pub narrow_within : (e : ℕ) (z : Number) → e ≤ narrow_exponent → Within (1 * 2 ^ e) z → Within narrow_numerator z
-narrow_within e z h w = widen (1 * 2 ^ narrow_exponent) narrow_numerator z (lit≤ tt) (power-within 1 e narrow_exponent z h w)
-
-pub room_within : (e : ℕ) (z : Number) → e ≤ narrow_exponent → Within (1 * 2 ^ e) z → Within room_numerator z
-room_within e z h w = widen (1 * 2 ^ narrow_exponent) room_numerator z (lit≤ tt) (power-within 1 e narrow_exponent z h w)
+-- factors over at most 2^e are narrow over 2^e
+pub raised_of : {m : List ℤ} {k w e : ℕ} → Liftable m k w e → (i : ℕ) → i < w → Raised m (k + i * 4) (raise m k w e)
+raised_of {m} {k} {w} {e} f i hi =
+    let n = exponent_in m k w in
+    let z = number_in m (k + i * 4) in
+    let own = subst (λ (b : ℕ). Within b z) (sym (one-mul (2 ^ n))) (f.factors.sizes i hi) in
+    record {
+      room = omega (arith, f.factors.room, block_in_lem hi 4);
+      shift = omega (arith, f.small);
+      narrow = widen (1 * 2 ^ narrow_exponent) narrow_numerator (raised_at (e - n) m (k + i * 4)) (lit≤ tt) (power-within 1 e narrow_exponent (scaled z (e - n)) f.small (raised 1 n e z f.reached own));
+    }
 
 conj-within : (k : ℕ) (z : Number) → Within k z → Within k (conjugate root2 z)
 conj-within k z w = record {
@@ -33,5 +37,7 @@ conj-within k z w = record {
 }
 
 -- a product of two
-pub term-within : (e : ℕ) (x y : Number) → e ≤ narrow_exponent → Within (1 * 2 ^ e) x → Within (1 * 2 ^ e) y → Within max_numerator (numbers.◌⊗◌ x (conjugate root2 y))
-term-within e x y h w v = small (e + e) (numbers.◌⊗◌ x (conjugate root2 y)) (omega arith) (product-within (frac x e) (frac (conjugate root2 y) e) w (conj-within (1 * 2 ^ e) y v))
+pub term-within : (x y : Number) → Within narrow_numerator x → Within narrow_numerator y → Within max_numerator (numbers.◌⊗◌ x (conjugate root2 y))
+term-within x y w v =
+    let z = conjugate root2 y in
+    widen (6 * (narrow_numerator * narrow_numerator)) max_numerator (numbers.◌⊗◌ x z) (lit≤ tt) (mul-within narrow_numerator narrow_numerator x z w (conj-within narrow_numerator y v))

@@ -2,7 +2,7 @@
 use mathlib.Core.Path.{◌≡◌, sym, ap, ◌∙◌, subst, subst₂}
 use mathlib.Core.Bool.{Bool, true, false, ◌&&◌}
 use mathlib.Core.List.{List, [], ◌∷◌, map}
-use Prim.Native.Nat.{ℕ, zero, suc, ◌+◌, ◌*◌, ◌/◌, ◌≤◌, ◌<◌, max}
+use Prim.Native.Nat.{ℕ, zero, suc, ◌+◌, ◌*◌, ◌/◌, ◌≤◌, ◌<◌}
 use native.Mathlib.Nat.{zero-add}
 use native.Mathlib.Omega.{arith}
 use lib.Dec.{eqb, ltb}
@@ -20,7 +20,6 @@ use Rattle.pauli_nodes.specs.Operations.{Operation, rotate, rotate_if, measure, 
 use Rattle.pauli_nodes.specs.Inner.Masks.{Mask}
 use Rattle.pauli_words.specs.Words.{node_of, nodes_of, axis_of, operation_of, operation_formed, operations_of}
 use Rattle.pauli_words.specs.Questions.{number_of, axis_fits, operand_questions, operation_questions, operations_questions}
-use Rattle.pauli_judge.specs.Footprint.{named}
 use Rattle.pauli_program.specs.Claims.{Eighths}
 use Rattle.pauli_run.specs.Inner.Operators.{Seen}
 use Rattle.pauli_run.specs.Inner.Run.{Fits}
@@ -116,8 +115,3 @@ module _ (n m : ℕ) (ns os : List ℕ) (asked : every yes (operations_questions
 
   pub operation_placed : All (λ (b : ℕ). b < m) (bits (operation_of (gate_at os (i * gate_size))))
   operation_placed = one.placed
-
--- some node is named where there is an operation
-pub some-named : (n : ℕ) (os : List Operation) → 0 < length os → 1 ≤ named n os
-some-named n [] l = absurd (omega arith)
-some-named n (o ∷ os) l = let h : suc (axis o).node ≤ max (suc (axis o).node) (named n os) = omega arith in omega arith

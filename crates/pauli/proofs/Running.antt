@@ -3,12 +3,10 @@ use Rattle.std.specs.Prelude.{is_ok}
 use mathlib.Core.Path.{◌≡◌, sym, ap, ◌∙◌, subst, subst₂}
 use mathlib.Core.Bool.{true, false}
 use mathlib.Core.List.{List}
-use Prim.Native.Nat.{ℕ, zero, suc, ◌+◌, ◌*◌, ◌/◌, ◌^◌, ◌≤◌, ◌<◌}
-use native.Mathlib.Nat.{mul_comm, mul_assoc, mul-add, add-mul, mul-le-mul, le_refl, le_trans}
-use native.Mathlib.Decide.{dec_lt}
+use Prim.Native.Nat.{ℕ, ◌+◌, ◌*◌, ◌/◌, ◌^◌, ◌≤◌, ◌<◌}
+use native.Mathlib.Nat.{mul_assoc, add-mul, mul-le-mul, le_refl, le_trans}
 use native.Mathlib.Omega.{arith}
-use lib.Pow.{pow_pos}
-use lib.ListN.{length, replicate, take, length-map}
+use lib.ListN.{length, replicate, take}
 use Rattle.std.proofs.lemmas.List.{length-take-le}
 use lib.IntN.{ℤ, pos}
 use Rattle.algebra.specs.Lists.{All, total}
@@ -17,10 +15,9 @@ use Rattle.algebra.proofs.Blocks.{written_over}
 use Rattle.cells.specs.Cells.{cell_size}
 use Rattle.verdict.specs.Questions.{first_no}
 use Rattle.gate.specs.Gate.{gate_size, gate_at, gates_of}
-use Rattle.gate.proofs.Listed.{gates-length}
 use Rattle.kraus.specs.Branch.{Branch}
 use Rattle.kraus.specs.Blocks.{survivors}
-use Rattle.branches.specs.Inner.Bank.{row_size, bank_words, Holds}
+use Rattle.branches.specs.Inner.Bank.{branch_size, bank_words, Holds}
 use Rattle.circuit.specs.declared.limits.Limits.{Limits}
 use Rattle.circuit.specs.Inner.Small.{max_splits}
 use Rattle.circuit.proofs.Products.{square_is}
@@ -39,47 +36,25 @@ use Rattle.pauli_judge.specs.Footprint.{named}
 use Rattle.pauli_judge.specs.Sizes.{program_work}
 use Rattle.pauli_program.specs.Program.{program_branches}
 use Rattle.pauli_program.proofs.Counting.{program_count, program_square}
-use Rattle.pauli_run.specs.Inner.Run.{run_size, Runs, Ran}
+use Rattle.branches.specs.Inner.Run.{banks_size}
+use Rattle.pauli_run.specs.Inner.Run.{Runs, Ran}
 use Rattle.pauli.specs.Delivered.{program_words}
 use Rattle.pauli.specs.Call.{worked, accepts, result_after, work_after}
 use Rattle.pauli.specs.Known.{Known}
 use Rattle.pauli.specs.Inner.Accepted.{Accepted}
-use Rattle.pauli.proofs.Operations.{operation_fits, operation_placed, some-named}
+use Rattle.pauli.proofs.Operations.{operation_fits, operation_placed}
 use Rattle.pauli.proofs.Known.{Listed, accepted_known, accepted_listed}
 use Rattle.pauli.proofs.Branches.{enough_all, branch-words, channel_room}
 
--- ---- a run fits the words that are counted for it
--- the rows of two operators fit three matrices
-rows_fit : (d : ℕ) → 2 * (d * row_size) ≤ 3 * (d * d * cell_size) + 11
-rows_fit d = go (dec_lt 1 d)
-  where
-    go : Dec (1 < d) → 2 * (d * row_size) ≤ 3 * (d * d * cell_size) + 11
-    go (yes p) = omega (arith, mul-le-mul p (le_refl d))
-    go (no p) = low d p
-      where
-        low : (d : ℕ) → (1 < d → ⊥) → 2 * (d * row_size) ≤ 3 * (d * d * cell_size) + 11
-        low zero p = omega arith
-        low (suc zero) p = omega arith
-        low (suc (suc d)) p = absurd (p (omega arith))
-
-run_fits : (count N b d : ℕ) → 1 ≤ b → (0 < count → 1 ≤ N) → run_size count d b ≤ program_work N b d
-run_fits count N b d some there =
-    subst (λ (x : ℕ). run_size count d b ≤ (2 * b + N + 2) * (x + 3)) (mul_comm (d * d) cell_size ∙ ap (λ (x : ℕ). cell_size * x) (square_is d)) (go count there)
+-- a run fits the words that are counted for it
+run_fits : (N b d : ℕ) → banks_size d b ≤ program_work N b d
+run_fits N b d = omega (arith, mul-le-mul (le_refl (2 * b)) narrower, mul_assoc 2 b (branch_size d), add-mul (2 * b) (N + 2) x)
   where
     x : ℕ
-    x = d * d * cell_size
+    x = cell_size * d ^ 2 + 3
 
-    bank : b * (x + 2) ≡ b * x + b * 2
-    bank = mul-add b x 2
-
-    wide : (k : ℕ) → k ≤ N + 2 → 2 * (b * x) + k * x + (2 * b + k) * 3 ≤ (2 * b + N + 2) * (x + 3)
-    wide k h =
-        let low : (2 * b + k) * (x + 3) ≤ (2 * b + N + 2) * (x + 3) = mul-le-mul (omega arith) (le_refl (x + 3)) in
-        omega (arith, low, mul-add (2 * b + k) x 3, add-mul (2 * b) k x, mul_assoc 2 b x)
-
-    go : (count : ℕ) → (0 < count → 1 ≤ N) → run_size count d b ≤ (2 * b + N + 2) * (x + 3)
-    go zero h = omega (arith, bank, wide 0 (omega arith))
-    go (suc count) h = omega (arith, bank, wide 3 (omega (arith, h (omega arith))), rows_fit d, some)
+    narrower : branch_size d ≤ x
+    narrower = omega (arith, square_is d)
 
 module _ {n m : ℕ} {σ ns os : List ℕ} {r w : List ℤ} (a : Accepted n m σ ns os r w) where
   abbrev nodes : List Node
@@ -112,14 +87,10 @@ module _ {n m : ℕ} {σ ns os : List ℕ} {r w : List ℤ} (a : Accepted n m σ
   pub nodes-accepted : is_ok (first_no (nodes_questions n 0 (gates_of ns))) ≡ true
   nodes-accepted = listed.nodes_yes
 
-  fits : run_size (length os / gate_size) (2 ^ n) (2 ^ total splits us) ≤ worked n m os
-  fits = run_fits (length os / gate_size) (named n us) (2 ^ total splits us) (2 ^ n) (pow_pos (total splits us))
-      (λ h. some-named n us (omega (arith, h, length-map (gates_of os) operation_of, gates-length os 0 (length os / gate_size))))
-
   -- ---- d rows and k branches, as they are handed over
   module _ {d k : ℕ} (e : d ≡ 2 ^ n) (f : k ≡ 2 ^ total splits (operations_of os)) where
-    run_room : run_size (length os / gate_size) d k ≤ worked n m os
-    run_room = subst₂ (λ (d k : ℕ). run_size (length os / gate_size) d k ≤ worked n m os) (sym e) (sym f) fits
+    run_room : banks_size d k ≤ worked n m os
+    run_room = subst₂ (λ (d k : ℕ). banks_size d k ≤ worked n m os) (sym e) (sym f) (run_fits (named n us) (2 ^ total splits us) (2 ^ n))
 
     pub runs : (ms : List Mask) {c : ℕ} → c ≡ number_of n (length ns / gate_size) → number_of n (length ns / gate_size) ≤ length ms
         → take (number_of n (length ns / gate_size)) ms ≡ node_masks n (nodes_of ns) → Runs w os (take c ms) σ n d k (nodes_of ns)

@@ -1,15 +1,12 @@
--- A run as it is handed over, with the number of rows and the size of a bank: how it begins, what each operation may ask and leaves, and how it ends.
+-- A run as it is handed over, with the number of rows and the size of a branch: how it begins, what each operation may ask and leaves, and how it ends.
 use mathlib.Core.Path.{◌≡◌, sym, ap, ◌∙◌, subst}
 use mathlib.Core.Logic.{⊎_elim}
 use mathlib.Core.List.{List}
 use Prim.Native.Nat.{ℕ, ◌+◌, ◌*◌, ◌-◌, ◌/◌, ◌^◌, ◌≤◌, ◌<◌}
-use native.Mathlib.Nat.{mul-le-mul, le_refl}
 use native.Mathlib.Omega.{arith}
-use lib.Pow.{pow_pos}
 use lib.ListN.{length, get_or, take, length-map}
 use lib.Seq.{sets, take_all, length-sets}
 use lib.IntN.{ℤ, pos}
-use Rattle.algebra.specs.Lists.{total}
 use Rattle.algebra.proofs.Totals.{sub_whole, sub_take, sub_total}
 use Rattle.algebra.proofs.Blocks.{sets_above}
 use Rattle.gate.specs.Gate.{gate_at, gates_of, gate_size}
@@ -23,8 +20,8 @@ use Rattle.pauli_nodes.specs.Inner.Masks.{Mask, ref_mask}
 use Rattle.pauli_words.specs.Words.{operation_of, operations_of}
 use Rattle.pauli_program.specs.Program.{program_branches}
 use Rattle.pauli_run.specs.Inner.Operators.{stepped}
-use Rattle.pauli_run.specs.Inner.Run.{run_size, Operating, Runs, Ran}
-use Rattle.pauli_run.proofs.Running.{Running, running_begin, running_ready, running_more}
+use Rattle.pauli_run.specs.Inner.Run.{Operating, Runs, Ran}
+use Rattle.pauli_run.proofs.Running.{Running, first_fits, running_begin, running_ready, running_more}
 
 -- b is the buffer with the first branch written to l
 module _ {b : List ℤ} {ws : List ℕ} {ms : List Mask} {σ : Store} {n d banks : ℕ} {nodes : List Node} (r₀ : Runs b ws ms σ n d banks nodes) where
@@ -39,25 +36,25 @@ module _ {b : List ℤ} {ws : List ℕ} {ms : List Mask} {σ : Store} {n d banks
     made_le = omega (arith, w.making, r₀.few, sub_total splits (sub_take i (sub_whole (operations_of ws))))
 
     module _ {x : Operation} (read : x ≡ operation_of (gate_at ws (i * gate_size))) where
-      pub ready : Operating l ms x made (2 * (banks * size)) from (banks * size - from) d count
+      pub ready : Operating l ms x made from (banks * size - from) d count
       ready =
-          subst (λ (x : Operation). Operating l ms x made (2 * (banks * size)) from (banks * size - from) d count) (sym read)
-          (subst (λ (s : ℕ). Operating l ms (operation_of (gate_at ws (i * gate_size))) made (2 * (banks * s)) from (banks * s - from) d count) (sym e)
+          subst (λ (x : Operation). Operating l ms x made from (banks * size - from) d count) (sym read)
+          (subst (λ (s : ℕ). Operating l ms (operation_of (gate_at ws (i * gate_size))) made from (banks * s - from) d count) (sym e)
           (subst
           (λ (d : ℕ). Runs b ws ms σ n d banks nodes → Running b ws σ n d banks nodes l from count made i
-          → Operating l ms (operation_of (gate_at ws (i * gate_size))) made (2 * (banks * branch_size d)) from (banks * branch_size d - from) d count)
+          → Operating l ms (operation_of (gate_at ws (i * gate_size))) made from (banks * branch_size d - from) d count)
           (sym r₀.dim)
           (λ r w. running_ready r w h) r₀ w))
 
       pub more : {q : List ℤ} {c s : ℕ} → c ≡ count * 2 ^ splits x → s ≡ made + splits x
-          → q ≡ stepped l (2 * (banks * size)) d (ref_mask ms (axis x)) made from (banks * size - from) count x → Running b ws σ n d banks nodes q (banks * size - from) c s (i + 1)
+          → q ≡ stepped l d (ref_mask ms (axis x)) made from (banks * size - from) count x → Running b ws σ n d banks nodes q (banks * size - from) c s (i + 1)
       more {q} {c} {s} p f g =
           subst (λ (z : ℕ). Running b ws σ n d banks nodes q (banks * z - from) c s (i + 1)) (sym e)
           (subst (λ (d : ℕ). Runs b ws ms σ n d banks nodes → Running b ws σ n d banks nodes l from count made i
-          → q ≡ stepped l (2 * (banks * branch_size d)) d (ref_mask ms (axis (operation_of (gate_at ws (i * gate_size))))) made from (banks * branch_size d - from) count (operation_of (gate_at ws (i * gate_size)))
+          → q ≡ stepped l d (ref_mask ms (axis (operation_of (gate_at ws (i * gate_size))))) made from (banks * branch_size d - from) count (operation_of (gate_at ws (i * gate_size)))
           → Running b ws σ n d banks nodes q (banks * branch_size d - from) c s (i + 1)) (sym r₀.dim)
           (λ r w g. running_more r w h (p ∙ ap (λ (x : Operation). count * 2 ^ splits x) read) (f ∙ ap (λ (x : Operation). made + splits x) read) g) r₀ w
-          (g ∙ (λ t. stepped l (2 * (banks * e t)) d (ref_mask ms (axis (read t))) made from (banks * e t - from) count (read t))))
+          (g ∙ (λ t. stepped l d (ref_mask ms (axis (read t))) made from (banks * e t - from) count (read t))))
 
 module _ {l₀ b : List ℤ} {ws : List ℕ} {ms : List Mask} {σ : Store} {n d banks : ℕ} {nodes : List Node} (r₀ : Runs l₀ ws ms σ n d banks nodes) (start_is : b ≡ sets l₀ 0 (branch_words d (identity_branch d σ))) where
   same : length b ≡ length l₀
@@ -85,11 +82,5 @@ module _ {l₀ b : List ℤ} {ws : List ℕ} {ms : List Mask} {σ : Store} {n d 
         held = subst (λ (os : List Operation). Holds l from (bank_words d (program_branches n nodes σ os))) all w.held;
         inside = ⊎_elim (λ p. omega arith) (λ p. omega arith) w.place;
         long = w.same_length ∙ same;
-        kept = λ k q. w.past k q ∙ ap (λ (m : List ℤ). get_or m k (pos 0)) start_is ∙ sets_above (branch_words d (identity_branch d σ)) l₀ 0 k (pos 0) (omega (arith, length-branch d (identity_branch d σ), first_le));
+        kept = λ k q. w.past k q ∙ ap (λ (m : List ℤ). get_or m k (pos 0)) start_is ∙ sets_above (branch_words d (identity_branch d σ)) l₀ 0 k (pos 0) (omega (arith, length-branch d (identity_branch d σ), first_fits r₀));
       }
-    where
-      one-bank : 1 ≤ banks
-      one-bank = omega (arith, r₀.banked, pow_pos (total splits (operations_of ws)))
-
-      first_le : branch_size d ≤ run_size (length ws / gate_size) d banks
-      first_le = omega (arith, mul-le-mul one-bank (le_refl (branch_size d)))

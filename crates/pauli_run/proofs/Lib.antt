@@ -1,6 +1,5 @@
 pub mod Paths
 pub mod Forms
 pub mod Axes
-pub mod Rows
 pub mod Running
 pub mod Handed

@@ -7,7 +7,6 @@ use native.Mathlib.Nat.{mul-le-mul, le_refl, le_of_eq, zero-add, div-lt_iff_lt-m
 use native.Mathlib.Numerals.{add-one}
 use native.Mathlib.Omega.{arith}
 use lib.Arith.{digits_lt}
-use lib.Bits.{bit_xor}
 use lib.Pow.{pow_mono, pow_pos}
 use lib.ListN.{length, get_or, take, drop, length-map, get_or-map, get_or-append}
 use lib.Seq.{sets, take-suc, length-sets}
@@ -15,15 +14,14 @@ use lib.IntN.{ℤ, pos}
 use Rattle.algebra.specs.Lists.{All, total}
 use Rattle.algebra.specs.Sum.{times}
 use Rattle.algebra.specs.Words.{blocks, from_bits}
-use Rattle.algebra.specs.Inner.Apart.{Apart}
 use Rattle.algebra.proofs.Lists.{all_get_d}
 use Rattle.algebra.proofs.Totals.{sub_whole, sub_take, sub_total}
+use Rattle.algebra.proofs.Sum.{times-same}
 use Rattle.algebra.proofs.Blocks.{Writing, wrote, kept, long, sets_at}
-use Rattle.exact.specs.Exact.{exact, is_lowest}
-use Rattle.exact.proofs.Sizes.{well_lowest}
-use Rattle.cells.specs.Cells.{cell_at, cell_size}
-use Rattle.cells.proofs.Cell.{cells_same}
-use Rattle.matrix.proofs.Terms.{row_lt, column_lt}
+use Rattle.algebra.proofs.Squares.{row_lt, column_lt}
+use Rattle.exact.specs.Exact.{exact}
+use Rattle.exact.proofs.Exact.{exacts}
+use Rattle.rows.proofs.Held.{words_same}
 use Rattle.gate.specs.Gate.{Gate, gate_at, gates_of, gate_size}
 use Rattle.gate.specs.Embedding.{Matrix}
 use Rattle.gate.proofs.Bits.{Word}
@@ -34,9 +32,10 @@ use Rattle.kraus.proofs.Counting.{marked-bits}
 use Rattle.kraus.proofs.Limits.{Kraus, Enough, kraus_exponent}
 use Rattle.store.specs.Inner.Held.{Bits}
 use Rattle.branches.specs.Inner.Store.{store_words, outcome_pair}
-use Rattle.branches.specs.Inner.Bank.{branch_size, branch_words, bank_words, identity_branch, Holds, row_size}
+use Rattle.branches.specs.Inner.Bank.{branch_size, branch_words, bank_words, identity_branch, Holds}
+use Rattle.branches.specs.Inner.Step as step
 use Rattle.branches.specs.Inner.Step.{row_sum, step_words}
-use Rattle.branches.proofs.Banks.{length-branch, length-bank, held_same, held_blocks, bank-read, bank-low, bank_high, store_at, read_factor, table-cells}
+use Rattle.branches.proofs.Banks.{length-branch, length-bank, held_blocks, bank_held, bank_factors, bank-low, bank_high, store_at, table_words}
 use Rattle.branches.proofs.Stores.{store-written}
 use Rattle.branches.proofs.Steps.{length-product}
 use Rattle.pauli_nodes.specs.Nodes.{Node, axis_matrix}
@@ -50,12 +49,11 @@ use Rattle.pauli_program.specs.Operators.{mixed}
 use Rattle.pauli_program.specs.Program.{Path, operation_step, paths, program_branches}
 use Rattle.pauli_program.proofs.Counting.{step-length, program_count, program_marked}
 use Rattle.pauli_program.proofs.Whole.{program_enough}
-use Rattle.pauli_steps.proofs.Tables.{Small}
-use Rattle.pauli_run.specs.Inner.Operators.{Seen, chosen, coefficients_of, operator_of, shift_of, bit_of, rows_words, with_rows, stepped}
-use Rattle.pauli_run.specs.Inner.Run.{rows_size, run_size, Fits, Operating, Runs}
-use Rattle.pauli_run.proofs.Forms.{splits_le, coefficients_small, own-lowest}
-use Rattle.pauli_run.proofs.Rows.{writing, own_is, other_is, own_factor, other_factor}
-use Rattle.pauli_run.proofs.Axes.{partner_lt, row_is}
+use Rattle.pauli_run.specs.Inner.Operators.{Seen, chosen, coefficients_of, operator_of, shift_of, bit_of, rows_entry, stepped}
+use Rattle.branches.specs.Inner.Run.{banks_size}
+use Rattle.pauli_run.specs.Inner.Run.{Fits, Operating, Runs}
+use Rattle.pauli_run.proofs.Forms.{own-lowest}
+use Rattle.pauli_run.proofs.Axes.{partner_lt, sum_is}
 use Rattle.pauli_run.proofs.Paths.{Told, run_told, step-branch}
 
 -- ---- the store that an operation leaves
@@ -65,9 +63,6 @@ stored σ ok [] one v h few = refl
 stored σ ok (b ∷ []) one v h few = store-written σ ok b v few h.0
 stored σ ok (b ∷ c ∷ bs) one v h few = absurd (omega arith)
 
-place_of : (x d c q : ℕ) → x + c * d * cell_size + q * cell_size ≡ x + (c * d + q) * cell_size
-place_of x d c q = omega arith
-
 -- ---- the buffer after i operations: their branches at `from`
 pub record Running (l₀ : List ℤ) (ws : List ℕ) (σ : Store) (n d banks : ℕ) (nodes : List Node) (l : List ℤ) (from count made i : ℕ) : Type 0 where
   pub below : i ≤ length ws / gate_size
@@ -76,15 +71,11 @@ pub record Running (l₀ : List ℤ) (ws : List ℕ) (σ : Store) (n d banks : �
   pub held : Holds l from (bank_words d (program_branches n nodes σ (take i (operations_of ws))))
   pub place : (from ≡ 0) ⊎ (from ≡ banks * branch_size d)
   pub same_length : length l ≡ length l₀
-  pub past : (k : ℕ) → run_size (length ws / gate_size) d banks ≤ k → get_or l k (pos 0) ≡ get_or l₀ k (pos 0)
-
-some-rows : (count i d : ℕ) → i < count → rows_size count d ≡ 2 * (d * row_size)
-some-rows zero i d h = absurd (omega arith)
-some-rows (suc count) i d h = refl
+  pub past : (k : ℕ) → banks_size d banks ≤ k → get_or l k (pos 0) ≡ get_or l₀ k (pos 0)
 
 -- there is room for a branch
-pub first_fits : {l : List ℤ} {ws : List ℕ} {ms : List Mask} {σ : Store} {n d banks : ℕ} {nodes : List Node} → Runs l ws ms σ n d banks nodes → branch_size d ≤ length l
-first_fits {ws = ws} {d = d} {banks = banks} r = omega (arith, r.room, mul-le-mul one-bank (le_refl (branch_size d)))
+pub first_fits : {l : List ℤ} {ws : List ℕ} {ms : List Mask} {σ : Store} {n d banks : ℕ} {nodes : List Node} → Runs l ws ms σ n d banks nodes → branch_size d ≤ banks_size d banks
+first_fits {ws = ws} {d = d} {banks = banks} r = omega (arith, mul-le-mul one-bank (le_refl (branch_size d)))
   where
     one-bank : 1 ≤ banks
     one-bank = omega (arith, r.banked, pow_pos (total splits (operations_of ws)))
@@ -126,7 +117,7 @@ module _ {l₀ : List ℤ} {ws : List ℕ} {ms : List Mask} {σ : Store} {n bank
     same-room = ap length e ∙ length-sets l 0 first
 
     first-room : size ≤ length l
-    first-room = omega (arith, first_fits r, same-room)
+    first-room = omega (arith, first_fits r, r.room, same-room)
 
     pub running_begin : Running l₀ ws σ n (2 ^ n) banks nodes l₀ 0 1 0 0
     running_begin = record {
@@ -157,9 +148,6 @@ module _ {l₀ : List ℤ} {ws : List ℕ} {ms : List Mask} {σ : Store} {n bank
 
     abbrev to : ℕ
     to = bank - from
-
-    abbrev slots : ℕ
-    slots = 2 * bank
 
     abbrev bs : List Branch
     bs = after i
@@ -223,23 +211,8 @@ module _ {l₀ : List ℤ} {ws : List ℕ} {ms : List Mask} {σ : Store} {n bank
     next-size : count * ops * size ≤ bank
     next-size = omega (arith, bank_le (i + 1), ap (λ (k : ℕ). k * size) next-count)
 
-    rows_are : rows_size (length ws / gate_size) d ≡ 2 * (d * row_size)
-    rows_are = some-rows (length ws / gate_size) i d h
-
-    room : 2 * bank + 2 * (d * row_size) ≤ length l
-    room = omega (arith, r.room, w.same_length, rows_are)
-
-    small : (v : ℕ) → Small (coefficients_of o v)
-    small = coefficients_small o fits.eighths
-
-    abbrev wide : List ℤ
-    wide = with_rows l slots d m o
-
-    rows : Writing (d * row_size) l slots 2 (rows_words d m o) wide 2
-    rows = writing l slots d m o small room
-
-    held_still : Holds wide from (bank_words d bs)
-    held_still = held_same w.held (kept rows from (length (bank_words d bs)) (inl (omega (arith, length-bank d bs, bank_le i, from_le))))
+    room : 2 * bank ≤ length l
+    room = omega (arith, r.room, w.same_length)
 
     to_room : to + count * ops * size ≤ 2 * bank
     to_room = omega (arith, next-size, from_le)
@@ -254,42 +227,25 @@ module _ {l₀ : List ℤ} {ws : List ℕ} {ms : List Mask} {σ : Store} {n bank
     abbrev zb : Branch
     zb = identity_branch (2 ^ n) σ
 
-    apart : Apart from (count * size) to (count * ops * size)
-    apart = ⊎_elim (λ e. inl (omega (arith, count-size))) (λ e. inr (omega (arith, next-size))) w.place
-
     enough : Enough kraus_exponent n bs
     enough = program_enough r.sound r.light σ i
 
-    kraus : (j q : ℕ) → j < length bs → q < d * d → Kraus kraus_exponent (get_or (get_or bs j zb).matrix q exact.𝟘)
-    kraus j q hj hq = all_get_d (λ (b : Branch). (q : ℕ) → q < d * d → Kraus kraus_exponent (get_or b.matrix q exact.𝟘)) bs enough.entries j hj zb q hq
+    kraus : (j : ℕ) → j < length bs → (q : ℕ) → q < d * d → Kraus kraus_exponent (get_or (get_or bs j zb).matrix q exact.𝟘)
+    kraus j hj = all_get_d (λ (b : Branch). (q : ℕ) → q < d * d → Kraus kraus_exponent (get_or b.matrix q exact.𝟘)) bs enough.entries j hj zb
 
-    pub running_ready : Operating l ms (operation_of (gate_at ws (i * gate_size))) made (2 * (banks * branch_size (2 ^ n))) from (banks * branch_size (2 ^ n) - from) (2 ^ n) count
+    pub running_ready : Operating l ms (operation_of (gate_at ws (i * gate_size))) made from (banks * branch_size (2 ^ n) - from) (2 ^ n) count
     running_ready = record {
       fits = fits;
       dim = pow_mono {i = n} {j = 5} r.sound.few;
-      room = room;
+      below = partner_lt n r.sound.few m range A masked;
       shifted = shift_lt;
-      ready = record {
-        dim = pow_mono {i = n} {j = 5} r.sound.few;
-        below = partner_lt n r.sound.few m range A masked;
-        some_op = pow_pos (splits o);
-        few_ops = pow_mono {i = splits o} {j = 1} (splits_le o);
-        number = λ j hj. mod-lt (j / 2 ^ shift_of made o) (omega arith);
-        few_held = le_refl 2;
-        wide = le_refl (d * row_size);
-        slots_room = omega (arith, long rows, room);
-        own = λ v q hv hq. own_factor l slots d m o small room v q hv hq;
-        other = λ v q hv hq. other_factor l slots d m o small room v q hv hq;
-        slots_apart = inr to_room;
-        from_room = omega (arith, long rows, count-size, from_le, room);
-        to_room = omega (arith, long rows, to_room, room);
-        from_apart = apart;
-        factor = λ b q hb hq. let p : b < length bs = omega (arith, w.counted) in read_factor (bank-read d bs held_still zb b p) kraus_exponent (omega arith) q hq (kraus b q p hq);
-        lowest = λ b q hb hq. let p : b < length bs = omega (arith, w.counted) in ap is_lowest ((bank-read d bs held_still zb b p).number q hq) ∙ well_lowest (get_or (get_or bs b zb).matrix q exact.𝟘) (kraus b q p hq).well_formed_lem;
-        stores = λ b hb. let p : b < length bs = omega (arith, w.counted) in
-            let (e, t) = all_get_d (λ (b : Branch). Word (length σ) b.store) bs words b p zb in
-            store_at d bs held_still zb b p t (omega (arith, e, r.short));
-      };
+      from_room = omega (arith, count-size, from_le, room);
+      to_room = omega (arith, to_room, room);
+      from_apart = ⊎_elim (λ e. inl (omega (arith, count-size))) (λ e. inr (omega (arith, next-size))) w.place;
+      factors = λ b hb. let p : b < length bs = omega (arith, w.counted) in bank_factors d bs w.held zb b p (kraus b p) (omega arith);
+      stores = λ b hb. let p : b < length bs = omega (arith, w.counted) in
+          let (e, t) = all_get_d (λ (b : Branch). Word (length σ) b.store) bs words b p zb in
+          store_at d bs w.held zb b p t (omega (arith, e, r.short));
     }
       where
         less : (o : Operation) → Seen made o → shift_of made o < 64
@@ -308,26 +264,21 @@ module _ {l₀ : List ℤ} {ws : List ℕ} {ms : List Mask} {σ : Store} {n bank
         begun zero l = refl
         begun (suc j) l = absurd (omega arith)
 
-    row-sums : (b : ℕ) → b < length bs → (v p q : ℕ) → v < 2 → p < d → q < d
-        → row_sum wide m.x (slots + v * (d * row_size)) (from + b * size) d p q ≡ times exact d (mixed (coefficients_of o v) A) (cell exact d (get_or bs b zb).matrix) p q
-    row-sums b hb v p q hv hp hq =
-        (λ t. exact.◌⊕◌ (exact.◌⊗◌ (own_is l slots d m o small room v p hv hp t) (read p hp t)) (exact.◌⊗◌ (other_is l slots d m o small room v p hv hp t) (read (bit_xor p m.x) (partner_lt n r.sound.few m range A masked p hp) t)))
-        ∙ row_is n r.sound.few m range A masked (coefficients_of o v) (own-lowest o v) (cell exact d (get_or bs b zb).matrix) p q hp
-      where
-        read : (c : ℕ) → c < d → cell_at wide (from + b * size + c * d * cell_size + q * cell_size) ≡ cell exact d (get_or bs b zb).matrix c q
-        read c hc =
-            ap (cell_at wide) (place_of (from + b * size) d c q) ∙ (bank-read d bs held_still zb b hb).number (c * d + q) (digits_lt hc hq)
+    row-sums : (b : ℕ) → b < length bs → (v p q : ℕ) → p < d → q < d → row_sum l m.x (rows_entry m o v) (from + b * size) d p q ≡ times exact d (mixed (coefficients_of o v) A) (cell exact d (get_or bs b zb).matrix) p q
+    row-sums b hb v p q hp hq =
+        sum_is n r.sound.few m range A masked (coefficients_of o v) (own-lowest o v) l (from + b * size) p q hp
+        ∙ times-same exacts d (mixed (coefficients_of o v) A) (mixed (coefficients_of o v) A) (step.entry_at l (from + b * size) d) (cell exact d (get_or bs b zb).matrix) p q
+        (λ k hk. refl) (λ k hk. bank_held d bs w.held zb b hb (kraus b hb) (k * d + q) (digits_lt hk hq))
 
-    step_words_lem : (j : ℕ) → j < length bs * ops → step_words wide m.x slots (d * row_size) (chosen (shift_of made o)) ops from d (bit_of o) j ≡ branch_words d (get_or (after (i + 1)) j zb)
+    step_words_lem : (j : ℕ) → j < length bs * ops → step_words l m.x (rows_entry m o) (chosen (shift_of made o)) ops from d (bit_of o) j ≡ branch_words d (get_or (after (i + 1)) j zb)
     step_words_lem j hj =
         let v = chosen (shift_of made o) j in
-        let hv : v < 2 = mod-lt (j / 2 ^ shift_of made o) (omega arith) in
         let b = j / ops in
         let hb : j / ops < length bs = (div-lt_iff_lt-mul (pow_pos (splits o))).1 hj in
         let x = get_or bs (j / ops) zb in
         let (e, t) = all_get_d (λ (b : Branch). Word (length σ) b.store) bs words (j / ops) hb zb in
-        (λ u. (cells_same (d * d) _ _ (λ q hq. row-sums b hb v (q / d) (q % d) hv (row_lt q d hq) (column_lt q d hq)) ∙ table-cells d (times exact d (mixed (coefficients_of o v) A) (cell exact d x.matrix))) u
-        ++ (ap₂ (outcome_pair (bit_of o) v) (bank-low d bs held_still zb b hb) (bank_high d bs held_still zb b hb)
+        (λ u. (words_same (d * d) _ _ (λ q hq. row-sums b hb v (q / d) (q % d) (row_lt q d hq) (column_lt q d hq)) ∙ table_words d (times exact d (mixed (coefficients_of o v) A) (cell exact d x.matrix))) u
+        ++ (ap₂ (outcome_pair (bit_of o) v) (bank-low d bs w.held zb b hb) (bank_high d bs w.held zb b hb)
         ∙ stored x.store t (bits o) (one_bit g) v (subst (λ (q : ℕ). All (λ (b : ℕ). b < q) (bits o)) (sym e) (r.placed i h)) (omega (arith, e, r.short))) u)
         ∙ ap (branch_words d) (sym (made_by j hj))
       where
@@ -339,24 +290,24 @@ module _ {l₀ : List ℤ} {ws : List ℕ} {ms : List Mask} {σ : Store} {n bank
             ∙ ap (λ (b : Branch). apply n b (operator_of n nodes o (chosen (shift_of made o) j))) (sym (get_or-map (λ (p : Path). p.branch) (paths_at i) (j / ops) z))
 
     pub running_more : {q : List ℤ} {c s : ℕ} → c ≡ count * 2 ^ splits (operation_of (gate_at ws (i * gate_size))) → s ≡ made + splits (operation_of (gate_at ws (i * gate_size)))
-        → q ≡ stepped l (2 * (banks * branch_size (2 ^ n))) (2 ^ n) (ref_mask ms (axis (operation_of (gate_at ws (i * gate_size))))) made from (banks * branch_size (2 ^ n) - from) count (operation_of (gate_at ws (i * gate_size)))
+        → q ≡ stepped l (2 ^ n) (ref_mask ms (axis (operation_of (gate_at ws (i * gate_size))))) made from (banks * branch_size (2 ^ n) - from) count (operation_of (gate_at ws (i * gate_size)))
         → Running l₀ ws σ n (2 ^ n) banks nodes q (banks * branch_size (2 ^ n) - from) c s (i + 1)
     running_more {q} p f e = record {
       below = omega arith;
       making = f ∙ next_made;
       counted = p ∙ next-count;
-      held = held_blocks wide to d words_of zb (after (i + 1)) (e ∙ ap (λ (x : ℕ). blocks size wide to x words_of) next-count)
-          (λ j. le_of_eq (length-product wide m.x _ _ d (bit_of o) (chosen (shift_of made o) j))) (omega (arith, long rows, to_room, room, ap (λ (x : ℕ). x * size) next-count)) (λ j hj. step_words_lem j (omega (arith, next-length)));
+      held = held_blocks l to d words_of zb (after (i + 1)) (e ∙ ap (λ (x : ℕ). blocks size l to x words_of) next-count) word-length
+          (omega (arith, to_room, room, ap (λ (x : ℕ). x * size) next-count)) (λ j hj. step_words_lem j (omega (arith, next-length)));
       place = ⊎_elim (λ e. inr (omega arith)) (λ e. inl (omega arith)) w.place;
-      same_length = long after-step ∙ long rows ∙ w.same_length;
-      past = λ x hx.
-          (kept after-step x 1 (inr (omega (arith, to_room, hx)))).word x (omega arith) (omega arith)
-          ∙ (kept rows x 1 (inr (omega (arith, hx, rows_are)))).word x (omega arith) (omega arith)
-          ∙ w.past x hx;
+      same_length = long after-step ∙ w.same_length;
+      past = λ x hx. (kept after-step x 1 (inr (omega (arith, to_room, hx)))).word x (omega arith) (omega arith) ∙ w.past x hx;
     }
       where
         words_of : ℕ → List ℤ
-        words_of = step_words wide m.x slots (d * row_size) (chosen (shift_of made o)) ops from d (bit_of o)
+        words_of = step_words l m.x (rows_entry m o) (chosen (shift_of made o)) ops from d (bit_of o)
 
-        after-step : Writing size wide to (count * ops) words_of q (count * ops)
-        after-step = wrote (λ j. le_of_eq (length-product wide m.x _ _ d (bit_of o) (chosen (shift_of made o) j))) e
+        word-length : (j : ℕ) → length (words_of j) ≤ size
+        word-length j = le_of_eq (length-product l m.x (rows_entry m o (chosen (shift_of made o) j)) _ d (bit_of o) (chosen (shift_of made o) j))
+
+        after-step : Writing size l to (count * ops) words_of q (count * ops)
+        after-step = wrote word-length e

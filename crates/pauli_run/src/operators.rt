@@ -1,18 +1,15 @@
 // The two operators of an operation, by their rows.
 // Kept (kinds): v is the number of an operator, 0 or 1, as in branches::outcome; a bool or an enum would be made of it in each clause.
-// Kept (buffers): the rows go to a slot of the one lent work area, as in gate::rows.
-// Kept (facts): d ≤ 32, as in branches::bank.
 // Kept (switches): a match on what an operation is, each arm with numbers of its own; a closure would be chosen by the same match.
-ghost use Rattle.std.specs.Prelude.{◌≡◌, cond, ◌+◌, ◌*◌, ◌≤◌, ◌<◌, eqb, length};
-ghost use Rattle.branches.specs.Inner.Bank.{row_size};
+ghost use Rattle.std.specs.Prelude.{◌≡◌, ℕ, cond, ◌<◌, eqb};
+ghost use Rattle.gate.specs.Inner.Rows.{Represents};
 ghost use Rattle.pauli_words.specs.Inner.Code.{operation_in};
 ghost use Rattle.pauli_program.specs.Operators.{turn_by};
 ghost use Rattle.pauli_program.specs.Claims.{Eighths};
 ghost use Rattle.pauli_steps.specs.Inner.Rows.{pair_of};
-ghost use Rattle.pauli_run.specs.Inner.Operators.{coefficients_of, with_rows};
+ghost use Rattle.pauli_run.specs.Inner.Operators.{coefficients_of, rows_entry};
 
-use branches::bank::ROW;
-use gate::rows::Pair;
+use gate::rows::{Pair, Rows};
 use pauli_steps::coefficients::{projecting, turning};
 use pauli_steps::rows::{Axis, axis_rows};
 use pauli_words::masks::Mask;
@@ -41,12 +38,10 @@ fn coefficients(operation: Operation, v: u32) -> Pair
     }
 }
 
-// Write the rows of both operators to `slots` on; m is the mask form of the axis.
-pub fn write_operators(work: &mut [i64], slots: usize, d: usize, operation: Operation, m: Mask)
-    requires { Eighths (operation_in operation) × ((d ≤ 32) × (slots + 2 * (d * row_size) ≤ length work.old)) }
-    ensures { work.new ≡ with_rows work.old slots d m (operation_in operation) }
+// Operator v by its rows; m is the mask form of the axis.
+pub fn operator_rows(operation: Operation, m: Mask, v: u32) -> Rows
+    requires { Eighths (operation_in operation) }
+    ensures { (d : ℕ) → Represents result d (rows_entry m (operation_in operation) v) }
 {
-    let axis = Axis::from(m);
-    axis_rows(work, slots, d, axis, coefficients(operation, 0));
-    axis_rows(work, slots + d * ROW, d, axis, coefficients(operation, 1));
+    axis_rows(Axis::from(m), coefficients(operation, v))
 }

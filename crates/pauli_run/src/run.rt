@@ -1,5 +1,5 @@
 // A program's operations, run one after the other on the branches.
-// Kept (buffers): d is the dimension of the branches, not a length of the masks beside it; `slots`, `at` and `to` are places in the one lent work area.
+// Kept (buffers): d is the dimension of the branches, not a length of the masks beside it; `at` and `to` are places in the one lent work area.
 // Kept (together): work is lent to be written; a struct of it and of places in it would be made for each step, and taken apart there.
 ghost use Rattle.std.specs.Prelude.{◌≡◌, List, ◌-◌, ◌*◌, ◌^◌};
 ghost use Rattle.pauli_nodes.specs.Nodes.{Node};
@@ -9,8 +9,8 @@ ghost use Rattle.pauli_words.specs.Inner.Code.{operation_in};
 ghost use Rattle.pauli_run.specs.Inner.Operators.{Seen, shift_of, stepped};
 ghost use Rattle.pauli_run.specs.Inner.Run.{Operating, Runs, RanAll};
 
-use super::operators::write_operators;
-use branches::bank::{Bank, Operators, ROW, branch_size, start_branch, step};
+use super::operators::operator_rows;
+use branches::bank::{Bank, Operators, branch_size, start_branch, step};
 use gate::GATE;
 use gate::judge::read_gate;
 use pauli_words::Program;
@@ -34,18 +34,18 @@ fn step_operation(
     operation: Operation,
     masks: &[Mask],
     made: u32,
-    slots: usize,
     from: Bank,
     to: usize,
 ) -> usize
-    requires { Operating work.old masks.now (operation_in operation) made slots from.at to from.d from.count }
-    ensures { let o = operation_in operation in (result ≡ from.count * 2 ^ splits o) × (work.new ≡ stepped work.old slots from.d (ref_mask masks.now (axis o)) made from.at to from.count o) }
+    requires { Operating work.old masks.now (operation_in operation) made from.at to from.d from.count }
+    ensures { let o = operation_in operation in (result ≡ from.count * 2 ^ splits o) × (work.new ≡ stepped work.old from.d (ref_mask masks.now (axis o)) made from.at to from.count o) }
 {
     let m = referred(masks, operation.axis());
-    write_operators(work, slots, from.d, operation, m);
+    let first = operator_rows(operation, m, 0);
+    let second = operator_rows(operation, m, 1);
     let operators = Operators {
-        slots,
-        stride: from.d * ROW,
+        first: &first,
+        second: &second,
         shift: shift_of(operation, made),
         mask: 1,
     };
@@ -67,7 +67,6 @@ pub fn run_operations(
     ensures { let p = program.entry in RanAll work.old work.new p.operations.now masks.now p.store.now p.qubits d banks result }
 {
     let bank = banks * branch_size(d);
-    let slots = 2 * bank;
     start_branch(work, 0, d, program.store);
     let mut at = 0;
     let mut count = 1;
@@ -76,7 +75,7 @@ pub fn run_operations(
         let operation = Operation::of(read_gate(program.operations, i * GATE));
         let from = Bank { at, d, count };
         at = bank - at;
-        count = step_operation(work, operation, masks, made, slots, from, at);
+        count = step_operation(work, operation, masks, made, from, at);
         made += operation.splits();
     }
     at

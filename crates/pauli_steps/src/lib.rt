@@ -1,4 +1,4 @@
-// The operators of Pauli programs by their rows, in the work words.
+// The operators of Pauli programs, by their rows.
 #![tactic(auto)]
 
 pub mod coefficients;

@@ -1,5 +1,6 @@
 // Words taken from one form to another: the records in their order, with next indices to match, and of each block what the form keeps. Each block is read once.
 // What copies is inlined into each of the calls: there both forms are known, and no entry asks for them.
+// Kept (facts): that r is a row of the block is what a loop gives, as in form_judge::rows.
 // Kept (buffers, together): `res` is lent whole with a place `out`: given the part from `out` on, each caller would have to show what its own writes make of the whole,
 // at no shorter code.
 #![tactic(auto)]

@@ -3,26 +3,29 @@ use Rattle.std.specs.Prelude.{is_ok}
 use mathlib.Core.Path.{◌≡◌, refl, sym, ap, ◌∙◌, subst}
 use mathlib.Core.Logic.{◌≢◌}
 use mathlib.Core.Bool.{Bool, true, false, cond, ◌&&◌, and-true, true≢false}
-use mathlib.Core.List.{List, [], ◌∷◌, ◌++◌, append_assoc}
-use Prim.Native.Nat.{ℕ, suc, ◌+◌, ◌*◌, ◌/◌, ◌%◌, ◌^◌, ◌≤◌}
+use mathlib.Core.List.{List, [], ◌∷◌}
+use Prim.Native.Nat.{ℕ, suc, ◌+◌, ◌*◌, ◌/◌, ◌%◌, ◌^◌, ◌≤◌, ◌<◌}
 use native.Mathlib.Omega.{arith}
 use lib.Dec.{leb, eqb}
-use lib.ListN.{length, get_or, take, drop}
+use lib.ListN.{length, get_or}
+use lib.Seq.{take-length}
 use lib.Pow.{pow_mono}
 use lib.IntN.{ℤ, pos}
 use borrow.Author.Tests.{leb-true}
-use Rattle.algebra.specs.Lists.{every, total}
+use Rattle.algebra.specs.Lists.{All, every, total}
 use Rattle.algebra.specs.Words.{fill_words}
 use Rattle.algebra.proofs.Tests.{and_split}
-use Rattle.algebra.proofs.Blocks.{written_over}
-use Rattle.exact.specs.Exact.{exact}
-use Rattle.cells.specs.Cells.{fill, cells, cell_size}
+use Rattle.algebra.proofs.Blocks.{written_over, blocks-same}
+use Rattle.exact.specs.Exact.{Exact, exact}
+use Rattle.cells.specs.Cells.{fill, cell_words, cell_size}
+use Rattle.rows.specs.Inner.Rows.{held_in, Factors}
 use Rattle.gate.specs.declared.judge.Asking.TheVariants.{Unitary}
 use Rattle.gate.specs.Gate.{Gate, gate_size, measure, gates_of, formed, placed, supported, splits, weight, max_weight}
 use Rattle.gate.specs.Inner.Entries.{valid}
 use Rattle.gate.specs.Questions.{on_qubits, gate_questions}
 use Rattle.gate.proofs.Questions.{placed-other}
-use Rattle.kraus.specs.Branch.{branches}
+use Rattle.kraus.specs.Branch.{Branch, branches}
+use Rattle.kraus.proofs.Limits.{Kraus, kraus_exponent, circuit_enough}
 use Rattle.circuit.specs.declared.limits.Limits.{Limits}
 use Rattle.circuit.specs.Limits.{matrix_ceilings}
 use Rattle.circuit.specs.Sizes.{unitary_result, unitary_work}
@@ -31,13 +34,12 @@ use Rattle.circuit.specs.Questions.{gates_questions, unitary_within, unitary_roo
 use Rattle.circuit.proofs.Numbers.{matrix_low, last_questions}
 use Rattle.circuit.proofs.Answers.{unitary-accepts}
 use Rattle.circuit.proofs.Products.{square_is}
-use Rattle.branches.specs.Inner.Store.{store_words}
-use Rattle.branches.specs.Inner.Bank.{bank_words}
+use Rattle.branches.specs.Inner.Bank.{branch_size, bank_words, Holds}
 use Rattle.branches.specs.Inner.Run.{Runs, Ran}
+use Rattle.branches.proofs.Banks.{bank_held, bank_factors}
 use Rattle.unitary.specs.Unitary.{circuit_unitary, verdict_of, result_after, work_after, with_unitary, with_zeros}
 use Rattle.unitary.specs.Inner.Accepted.{Accepted}
-use Rattle.unitary.proofs.Branch.{one-branch, all_valid, none-split}
-use Rattle.unitary.proofs.Words.{copied}
+use Rattle.unitary.proofs.Branch.{branch, one-branch, all_valid, none-split}
 
 -- ---- acceptance
 -- a gate of which every answer is yes
@@ -99,25 +101,39 @@ module _ (n d : ℕ) (ws : List ℕ) (r w : List ℤ) (acc : Accepted n (gates_o
     room = omega (arith, used, acc.work_room);
   })
 
-  pub copy_room : d * d * cell_size ≤ length r
-  copy_room = let e : d * d ≡ (2 ^ n) ^ 2 = square_is d ∙ ap (λ (k : ℕ). k ^ 2) dim in omega (arith, acc.result_room)
+  pub result_room : d * d * cell_size ≤ length r
+  result_room = let e : d * d ≡ (2 ^ n) ^ 2 = square_is d ∙ ap (λ (k : ℕ). k ^ 2) dim in omega (arith, acc.result_room)
+
+  abbrev U : List Exact
+  U = circuit_unitary n (gates_of ws)
+
+  -- the unitary's entries are from −1 to 1
+  small : (i : ℕ) → i < d * d → Kraus kraus_exponent (get_or U i exact.𝟘)
+  small =
+      subst (λ (d : ℕ). (i : ℕ) → i < d * d → Kraus kraus_exponent (get_or U i exact.𝟘)) (sym dim)
+      (subst (λ (bs : List Branch). All (λ (b : Branch). (i : ℕ) → i < 2 ^ n * 2 ^ n → Kraus kraus_exponent (get_or b.matrix i exact.𝟘)) bs)
+      (ap (branches n []) (take-length (gates_of ws)) ∙ one-branch n (gates_of ws) acc.unitary)
+      (circuit_enough n 0 [] (gates_of ws) (all_valid n (gates_of ws) acc.unitary) acc.light (length (gates_of ws))).entries).0
 
   module _ (σ : List ℕ) (none : σ ≡ []) (m : List ℤ) (at : ℕ) (ran : Ran w m ws σ n d 1 at) where
-    pub work_room : (at + d * d * cell_size ≤ length m) × (0 + 4 * (d * d * cell_size + 2) ≤ length m)
-    work_room = omega (arith, ran.inside, ran.long, used, acc.work_room)
+    pub work_room : 0 + 4 * (d * d * cell_size + 2) ≤ length m
+    work_room = omega (arith, ran.long, used, acc.work_room)
 
-    held : bank_words d (branches n σ (gates_of ws)) ≡ cells (d * d) (λ (i : ℕ). get_or (circuit_unitary n (gates_of ws)) i exact.𝟘) ++ (store_words [] ++ [])
-    held =
-        ap (λ (σ : List ℕ). bank_words d (branches n σ (gates_of ws))) none
-        ∙ ap (bank_words d) (one-branch n (gates_of ws) acc.unitary)
-        ∙ append_assoc (cells (d * d) (λ (i : ℕ). get_or (circuit_unitary n (gates_of ws)) i exact.𝟘)) (store_words []) []
+    held : Holds m at (bank_words d (branch (circuit_unitary n (gates_of ws)) ∷ []))
+    held = subst (λ (bs : List Branch). Holds m at (bank_words d bs)) (ap (λ (σ : List ℕ). branches n σ (gates_of ws)) none ∙ one-branch n (gates_of ws) acc.unitary) ran.held
 
-    -- k words from `at` on, copied
-    pub written : {q : List ℤ} (k : ℕ) → k ≡ d * d * cell_size → q ≡ take k (drop at m) → q ++ drop (d * d * cell_size) r ≡ with_unitary n ws r
-    written k g e =
-        ap (λ (q : List ℤ). q ++ drop (d * d * cell_size) r) e
-        ∙ copied r m (bank_words d (branches n σ (gates_of ws))) (store_words [] ++ []) at (d * d) k (λ (i : ℕ). get_or (circuit_unitary n (gates_of ws)) i exact.𝟘) held ran.held g work_room.0 copy_room
-        ∙ ap (λ (k : ℕ). fill r 0 (k * k) (λ (i : ℕ). get_or (circuit_unitary n (gates_of ws)) i exact.𝟘)) dim
+    first : at + 0 * branch_size d ≡ at
+    first = omega arith
+
+    pub factors : Factors m at (d * d)
+    factors = subst (λ (k : ℕ). Factors m k (d * d)) first (bank_factors d (branch U ∷ []) held (branch U) 0 (omega arith) small (omega arith))
+
+    -- what the one branch holds, written as cells
+    pub written : {q : List ℤ} → q ≡ fill r 0 (d * d) (held_in m at (d * d)) → q ≡ with_unitary n ws r
+    written e =
+        e
+        ∙ blocks-same cell_size r 0 (d * d) _ _ (λ i h. ap cell_words (ap (λ (k : ℕ). held_in m k (d * d) i) (sym first) ∙ bank_held d (branch U ∷ []) held (branch U) 0 (omega arith) small i h))
+        ∙ ap (λ (k : ℕ). fill r 0 (k * k) (λ (i : ℕ). get_or U i exact.𝟘)) dim
 
     pub zeroed : {q : List ℤ} (k : ℕ) → k ≡ 4 * (d * d * cell_size + 2) → q ≡ fill_words m 0 k (λ (i : ℕ). pos 0) → q ≡ with_zeros n w
     zeroed k h e =

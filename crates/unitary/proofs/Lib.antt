@@ -1,4 +1,3 @@
-pub mod Words
 pub mod Branch
 pub mod Accepting
 pub mod IsUnitary

@@ -1,14 +1,12 @@
 -- Branches as they are read from the words of a bank: those that survive, their stores and their blocks.
-use Rattle.std.specs.Prelude.{◌≡◌, Bool, cond, not, ◌&&◌, List, [], ◌∷◌, ◌++◌, ℕ, zero, suc, ◌+◌, ◌*◌, ◌/◌, ◌%◌, ◌^◌, ◌<◌, ◌≤◌, eqb, leb, length, get_or, ℤ, pos}
+use Rattle.std.specs.Prelude.{◌≡◌, Bool, cond, not, ◌&&◌, List, [], ◌∷◌, ◌++◌, ℕ, zero, suc, ◌+◌, ◌*◌, ◌/◌, ◌%◌, ◌^◌, ◌<◌, ◌≤◌, max, eqb, leb, length, get_or, ℤ, pos}
 use Rattle.std.proofs.lemmas.List.Edits.{sets}
 use Rattle.algebra.specs.Quadratic.{conjugate}
 use Rattle.algebra.specs.Lists.{all_below}
 use Rattle.algebra.specs.Words.{blocks}
-use Rattle.exact.specs.Exact.{Number, numbers, root2, Exact, exact, conj, narrow_exponent}
+use Rattle.exact.specs.Exact.{Number, numbers, root2, Exact, exact, conj, is_zero}
 use Rattle.exact.specs.Inner.Sizes.{Room, room_exponent}
-use Rattle.cells.specs.Cells.{cell_size, cell_at}
-use Rattle.matrix.specs.Inner.Written.{zeros}
-use Rattle.matrix.specs.Inner.Factors.{Factor}
+use Rattle.rows.specs.Inner.Rows.{exponent_in, held_in, zeros, Factors}
 use Rattle.kraus.specs.Dense.{tabulate}
 use Rattle.kraus.specs.Branch as kraus
 use Rattle.store.specs.Store.{bits, store_from}
@@ -16,7 +14,8 @@ use Rattle.store.specs.Inner.Held.{StoreAt}
 use Rattle.branches.specs.Inner.Bank.{matrix_size, branch_size}
 use Rattle.channel.specs.Shared.{Shared, shared}
 use Rattle.channel.specs.Layout as layout
-use Rattle.overlaps.specs.Inner.Overlap.{raised_at}
+use Rattle.share.specs.Share.{number_in}
+use Rattle.overlaps.specs.Inner.Overlap.{raise, raised_at}
 
 -- where branch j lies in the bank at `at`, and where its store does
 abbrev pub place : ℕ → ℕ → ℕ → ℕ
@@ -29,7 +28,7 @@ store_place at d j = place at d j + matrix_size d
 module _ (l : List ℤ) (at d : ℕ) where
   -- entry i of branch j
   abbrev pub entry : ℕ → ℕ → Exact
-  entry j i = cell_at l (place at d j + i * cell_size)
+  entry j i = held_in l (place at d j) (d * d) i
 
   -- the store of branch j: bit i weighs 2^i
   abbrev pub store_of : ℕ → ℕ
@@ -56,18 +55,19 @@ module _ (l : List ℤ) (at d : ℕ) where
   overlaps zero s r c = exact.𝟘
   overlaps (suc n) s r c = cond (has s n) (exact.◌⊕◌ (overlaps n s r c) (exact.◌⊗◌ (entry n r) (conj (entry n c)))) (overlaps n s r c)
 
-  -- entry i of branch j over the largest power of two that a factor has
-  abbrev pub raised : ℕ → ℕ → Number
-  raised j i = raised_at narrow_exponent l (place at d j + i * cell_size)
+  -- the largest exponent of the first n branches
+  abbrev pub largest : ℕ → ℕ
+  largest zero = 0
+  largest (suc n) = max (largest n) (exponent_in l (place at d n) (d * d))
+
+  -- the numerators of entry i of branch j over 2^e
+  abbrev pub raised : ℕ → ℕ → ℕ → Number
+  raised e j i = raised_at (raise l (place at d j) (d * d) e) l (place at d j + i * 4)
 
   -- the numerators of entry (r, c) of the block of the store s, over the square of that power
-  unfoldable pub numerators : ℕ → ℕ → ℕ → ℕ → Number
-  numerators zero s r c = numbers.𝟘
-  numerators (suc n) s r c = cond (has s n) (numbers.◌⊕◌ (numerators n s r c) (numbers.◌⊗◌ (raised n r) (conjugate root2 (raised n c)))) (numerators n s r c)
-
-  -- those of entry k, row by row, on and above the diagonal, and zeros below it
-  abbrev pub upper : ℕ → ℕ → ℕ → Number
-  upper n s k = cond (leb (k / (d * d)) (k % (d * d))) (numerators n s (k / (d * d)) (k % (d * d))) numbers.𝟘
+  unfoldable pub numerators : ℕ → ℕ → ℕ → ℕ → ℕ → Number
+  numerators e zero s r c = numbers.𝟘
+  numerators e (suc n) s r c = cond (has s n) (numbers.◌⊕◌ (numerators e n s r c) (numbers.◌⊗◌ (raised e n r) (conjugate root2 (raised e n c)))) (numerators e n s r c)
 
   -- each store of the first n branches once, in the order of the first that survive with it
   unfoldable pub stores_of : ℕ → List ℕ
@@ -99,6 +99,14 @@ module _ (l : List ℤ) (at d : ℕ) where
   bank_in m zero = []
   bank_in m (suc n) = bank_in m n ++ (record { matrix = tabulate (d * d) 0 (entry n); store = bits m (store_of n) } ∷ [])
 
+-- entry k, row by row, of the block at `out` of the words m with the sums, of factors over 2^e, of the first n branches that have the store of branch b: on and above the diagonal those;
+-- below it zero, if entry r of branch b is zero, else what stands there
+abbrev pub summed : List ℤ → ℕ → List ℤ → ℕ → ℕ → ℕ → ℕ → ℕ → ℕ → Number
+summed m out l at d e b n k =
+    let r = k / (d * d) in
+    let c = k % (d * d) in
+    cond (leb r c) (numerators l at d e n (store_of l at d b) r c) (cond (is_zero (raised l at d e b r)) numbers.𝟘 (number_in m (out + k * 4)))
+
 -- the words m with the records of a bank of n branches
 abbrev pub recorded : List ℤ → List ℤ → ℕ → ℕ → ℕ → List ℤ
 recorded m l at d n = blocks (layout.record_size (layout.channels d)) m layout.header_size (length (stores_of l at d n)) (records l at d n)
@@ -123,7 +131,7 @@ pub record Bank (l : List ℤ) (at d n : ℕ) : Type 0 where
   pub few : n ≤ 64
   pub room : at + n * branch_size d ≤ length l
   pub stores : (j : ℕ) → j < n → StoreAt l (store_place at d j)
-  pub entries : (j i : ℕ) → j < n → i < d * d → Factor l (place at d j + i * cell_size)
+  pub entries : (j : ℕ) → j < n → Factors l (place at d j) (d * d)
   pub sums : (b j r c : ℕ) → b < n → j ≤ n → r < d * d → c < d * d → Room room_exponent (overlaps l at d j (store_of l at d b) r c)
 
 -- the records of the branches before branch b are written: n of them, and room for all of the bank's

@@ -1,34 +1,25 @@
 -- `read_form` meets its contract.
 use Rattle.std.specs.Prelude.{Ok, is_ok}
 use mathlib.Core.Path.{◌≡◌, sym, ap, subst}
-use mathlib.Core.Bool.{cond}
 use mathlib.Core.List.{List}
-use Prim.Native.Nat.{◌*◌, ◌≤◌}
+use Prim.Native.Nat.{◌≤◌}
 use lib.IntN.{ℤ}
-use Rattle.verdict.specs.Questions.{Verdict, granted}
+use Rattle.verdict.specs.Questions.{granted}
 use Rattle.verdict.proofs.Questions.{handed}
 use Rattle.channel.specs.declared.Shape.{Shape}
 use Rattle.channel.specs.declared.forms.Parts.{Parts}
-use Rattle.channel.specs.Layout.{form_of, form_in}
+use Rattle.channel.specs.Layout.{form_in}
 use Rattle.channel.specs.Inner.Shapes.{shape_at}
 use Rattle.channel.proofs.Judging.{formed_in}
-use Rattle.recast.specs.Words.{recast_into}
-use Rattle.recast.specs.Inner.Records.{Ready}
-use Rattle.form_calls.specs.Calls.{own, read_questions, read_verdict}
-use Rattle.form_calls.proofs.Answers.{full, given, read_ready}
+use Rattle.form_calls.specs.Calls.{read_questions, read_verdict}
+use Rattle.form_calls.proofs.Answers.{given, read_ready}
 use Rattle.form_calls.proofs.read_form.Goals as goal
 
 -- the words that go with the verdict
 module _ (f : Parts) (l res : List ℤ) where
-  abbrev words_by : Verdict → List ℤ
-  words_by v = cond (is_ok v) (recast_into (form_in f l) (own l) l res) res
-
   module _ {h : Shape} (e : Ok h ≡ granted (shape_at l) (read_questions f l res)) where
     passes : Ok tt ≡ read_verdict f l res
     passes = handed (shape_at l) tt (read_questions f l res) e
-
-    able : Ready (form_of (h.dim * h.dim) f) (form_of (h.dim * h.dim) full) l h.count res
-    able = subst (λ (s : Shape). Ready (form_of (s.dim * s.dim) f) (form_of (s.dim * s.dim) full) l s.count res) (sym (given (shape_at l) (read_questions f l res) e)) (read_ready f l res (sym (ap is_ok passes)))
 
     narrow : h.dim ≤ 16
     narrow = subst (λ (s : Shape). s.dim ≤ 16) (sym (given (shape_at l) (read_questions f l res) e)) (formed_in (form_in f l) l (read_ready f l res (sym (ap is_ok passes))).right).0.small

@@ -1,20 +1,17 @@
 -- `share_block` meets its contract: all numerators are shifted as far as all of them allow.
-use mathlib.Core.Path.{◌≡◌, sym, ap, ◌∙◌, subst}
-use Prim.Native.Nat.{ℕ, ◌+◌, ◌*◌, ◌-◌, ◌%◌, ◌^◌, min, ◌<◌}
+use mathlib.Core.Path.{◌≡◌, ap, ◌∙◌}
+use Prim.Native.Nat.{ℕ, ◌*◌, ◌-◌, ◌%◌, ◌^◌}
 use lib.Bits.{bit_or}
 use lib.Count.{count_trailing_zeros}
-use lib.ListN.{get_or}
-use lib.IntN.{pos}
-use lib.Signed.{shr_z}
 use mir.Syntax.{w64}
 use mir.Val.{to_z, of_z}
-use mir.Facts.{of_z-to_z}
-use Rattle.algebra.specs.Dyadic.{frac}
-use Rattle.algebra.specs.Words.{fill_words}
-use Rattle.exact.proofs.Zeros.{shifted}
-use Rattle.channel.specs.Forms.{Alike}
-use Rattle.share.specs.Share.{number_at, or_words, shared_from}
-use Rattle.share.proofs.Laws.{or_small, shifts_are, share_is, numerators_are, alone}
+use mir.Facts.{of_z-to_z, Fits-of_z}
+use Rattle.algebra.proofs.Blocks.{blocks-same}
+use Rattle.exact.specs.Exact.{list_of}
+use Rattle.share.specs.Share.{with_numerators}
+use Rattle.share.proofs.Laws.{alone}
+use Rattle.hermitian.specs.Inner.Upper.{or_upper, upper_shared}
+use Rattle.hermitian.proofs.Bits.{mirror-alike, shared_is}
 use Rattle.hermitian.proofs.share_block.Goals as goal
 
 pub returns : goal.returns
@@ -22,19 +19,15 @@ returns c =
     let s = c.args in
     let n = s.w * s.w in
     let g = c.or_rows-g in
-    let least = min c.common_zeros.result s.e in
-    let words = or_words s.s.now s.at (n * 4) in
     -- the argument is read back from its bits
-    let back : of_z w64 (to_z w64 (of_z w64 g.result)) ≡ of_z w64 g.result =
-    of_z-to_z {w = w64} (record { fits = subst (λ (m : ℕ). m < 2 ^ 64) (sym g.ensures.bits) (or_small s.s.now s.at (n * 4) g.ensures.fit) }) in
-    let count : c.common_zeros.result ≡ count_trailing_zeros 64 (words % 2 ^ 63) =
+    let back : of_z w64 (to_z w64 (of_z w64 g.result)) ≡ of_z w64 g.result = of_z-to_z {w = w64} (Fits-of_z {w = w64} {z = g.result} (record { sfits = g.type_inv })) in
+    let count : c.common_zeros.result ≡ count_trailing_zeros 64 (or_upper s.s.now s.at s.w s.w % 2 ^ 63) =
     c.common_zeros.ensures ∙ ap (λ (m : ℕ). count_trailing_zeros 64 (m % 2 ^ 63)) (ap (λ (k : ℕ). bit_or (bit_or k 0) (bit_or 0 0)) back ∙ alone (of_z w64 g.result) ∙ g.ensures.bits) in
-    let alike : Alike n (frac (λ (k : ℕ). shifted (number_at s.s.now s.at k) least) (s.e - least)) (shared_from s.s.now s.at n s.e) =
-    share_is s.s.now s.at n s.e c.common_zeros.result g.ensures.fit c.requires.1 count in
+    let alike = mirror-alike s.s.now s.at s.w g.ensures.fit s.e c.common_zeros.result c.requires.1 count in
+    let same = shared_is s.s.now s.at s.w g.ensures.fit s.e c.common_zeros.result c.requires.1 count in
     record {
       exponent = ap (λ (j : ℕ). s.e - j) c.min-t.ensures ∙ alike.exp;
-      numerators = c.shift_rows.ensures
-          ∙ ap (λ (j : ℕ). fill_words s.s.now s.at (n * 4) (λ (i : ℕ). shr_z (get_or s.s.now (s.at + i) (pos 0)) (2 ^ j))) c.min-t.ensures
-          ∙ shifts_are s.s.now s.at n least
-          ∙ numerators_are s.s.now s.at n s.e least alike;
+      numerators = c.share_rows.ensures
+          ∙ ap (λ (j : ℕ). with_numerators s.s.now s.at n (upper_shared s.s.now s.at s.w j)) c.min-t.ensures
+          ∙ blocks-same 4 s.s.now s.at n _ _ (λ k h. ap list_of (same k h ∙ alike.num k h));
     }

@@ -1,18 +1,8 @@
--- Matrices written into words, and entries that are all zero.
-use Rattle.std.specs.Prelude.{Bool, cond, ltb, Option, Some, None, List, ℕ, ◌+◌, ◌*◌, ◌/◌, ◌%◌, ℤ}
+-- The first of some entries, and entries that are all zero.
+use Rattle.std.specs.Prelude.{Bool, cond, ltb, Option, Some, None, List, ℕ, ◌+◌, ◌*◌, ℤ}
 use Rattle.algebra.specs.Lists.{all_below}
-use Rattle.algebra.specs.Sum.{δ}
-use Rattle.exact.specs.Exact.{Exact, exact}
-use Rattle.cells.specs.Cells.{cell_size, fill}
+use Rattle.cells.specs.Cells.{cell_size}
 use Rattle.cells.specs.Inner.Zero.{zero_at}
-
--- the words, with a matrix of d rows and columns written from `at` on
-abbrev pub written : List ℤ → ℕ → ℕ → (ℕ → ℕ → Exact) → List ℤ
-written l at d M = fill l at (d * d) (λ (i : ℕ). M (i / d) (i % d))
-
--- the identity, written to `at`
-abbrev pub identified : List ℤ → ℕ → ℕ → List ℤ
-identified l at d = written l at d (δ exact)
 
 -- the number, where it is one of n entries
 abbrev pub one_of : ℕ → ℕ → Option ℕ

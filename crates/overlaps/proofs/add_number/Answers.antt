@@ -4,32 +4,30 @@ use mathlib.Core.List.{List}
 use lib.Seq.{sets}
 use lib.IntN.{ℤ}
 use Rattle.algebra.specs.Quadratic.{conjugate}
-use Rattle.exact.specs.Exact.{Number, numbers, number_of, list_of, root2, max_numerator, narrow_numerator}
+use Rattle.exact.specs.Exact.{Number, numbers, number_of, list_of, root2, is_zero, max_numerator, narrow_numerator}
 use Rattle.exact.specs.Inner.Sizes.{Within, room_numerator}
 use Rattle.exact.proofs.Align.{roomy}
-use Rattle.overlaps.specs.Inner.Overlap.{number_in, raised_at}
-use Rattle.overlaps.proofs.Sizes.{raised-within, narrow_within, term-within}
-use Rattle.overlaps.proofs.Numbers.{number-there, right-none}
+use Rattle.overlaps.specs.Inner.Overlap.{raised_at}
+use Rattle.share.specs.Share.{number_in}
+use Rattle.share.proofs.Numbers.{number-there}
+use Rattle.overlaps.proofs.Sizes.{term-within}
+use Rattle.overlaps.proofs.Numbers.{right-none}
 use Rattle.overlaps.proofs.add_number.Goals as goal
 
-pub returns-then-zero_at : goal.returns-then-zero_at
-returns-then-zero_at c =
+pub returns-then-all_zero : goal.returns-then-all_zero
+returns-then-all_zero c =
     let n = c.args in
-    sym (ap (λ (v : Number). sets n.res.now n.at (list_of v)) (right-none n.res.now n.at n.work.now n.e n.q (number_of n.x) (sym c.zero_at.ensures ∙ c.if-zero_at.true)) ∙ number-there n.res.now n.at)
+    let z = sym (c.all_zero.ensures ∙ ap (λ (l : List ℤ). is_zero (number_of l)) c.read_raised-y.ensures) ∙ c.if-all_zero.true in
+    sym (ap (λ (v : Number). sets n.res.now n.at (list_of v)) (right-none n.work.now n.s n.q n.res.now n.at (number_of n.x) z) ∙ number-there n.res.now n.at)
 
 pub conj_product-p-requires : goal.conj_product-p-requires
-conj_product-p-requires c =
-    let a = c.args in
-    let f = c.requires.factor in
-    let y = raised_at a.e a.work.now a.q in
-    (narrow_within a.e (number_of a.x) f.small c.requires.scale, subst (λ (l : List ℤ). Within narrow_numerator (number_of l)) (sym c.read_scaled.ensures) (narrow_within a.e y f.small (raised-within a.work.now a.q a.e f)))
+conj_product-p-requires c = (c.requires.scale, subst (λ (l : List ℤ). Within narrow_numerator (number_of l)) (sym c.read_raised-y.ensures) c.requires.factor.narrow)
 
 pub sum4-v-requires : goal.sum4-v-requires
 sum4-v-requires c =
     let a = c.args in
-    let f = c.requires.factor in
-    let y = raised_at a.e a.work.now a.q in (
+    let y = raised_at a.s a.work.now a.q in (
       subst (λ (l : List ℤ). Within room_numerator (number_of l)) (sym c.numerators_at.ensures) (roomy (number_in a.res.now a.at) c.requires.sum),
       subst (λ (l : List ℤ). Within max_numerator (number_of l)) (sym c.conj_product-p.ensures)
-          (subst (λ (l : List ℤ). Within max_numerator (numbers.◌⊗◌ (number_of a.x) (conjugate root2 (number_of l)))) (sym c.read_scaled.ensures) (term-within a.e (number_of a.x) y f.small c.requires.scale (raised-within a.work.now a.q a.e f))),
+          (subst (λ (l : List ℤ). Within max_numerator (numbers.◌⊗◌ (number_of a.x) (conjugate root2 (number_of l)))) (sym c.read_raised-y.ensures) (term-within (number_of a.x) y c.requires.scale c.requires.factor.narrow)),
     )

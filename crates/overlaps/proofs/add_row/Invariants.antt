@@ -6,4 +6,4 @@ use Rattle.overlaps.specs.Inner.Overlap.{row_added}
 use Rattle.overlaps.proofs.add_row.Given as goal
 
 abbrev pub invariant-loop-c : goal.invariant-loop-c
-invariant-loop-c l = Writing 4 l.initial.res l.to l.n (λ (i : ℕ). list_of (row_added l.initial.res l.to l.work l.p l.k l.e i)) l.res l.c
+invariant-loop-c l = Writing 4 l.initial.res l.to l.n (λ (i : ℕ). list_of (row_added l.initial.res l.to l.work l.p l.k l.s i)) l.res l.c

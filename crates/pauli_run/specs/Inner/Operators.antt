@@ -1,10 +1,10 @@
 -- The two operators of an operation, 0 and 1: of the two outcomes of a measure, or of a rotation after each; and the words of a step.
 use Rattle.std.specs.Prelude.{cond, List, ℕ, ◌*◌, ◌-◌, ◌/◌, ◌%◌, ◌^◌, ◌<◌, eqb, get_or, ℤ}
 use Rattle.algebra.specs.Words.{blocks}
-use Rattle.cells.specs.Cells.{cells}
+use Rattle.exact.specs.Exact.{Exact}
 use Rattle.kraus.specs.Branch.{KrausOperator, write}
 use Rattle.branches.specs.Inner.Store.{no_bit}
-use Rattle.branches.specs.Inner.Bank.{branch_size, row_size}
+use Rattle.branches.specs.Inner.Bank.{branch_size}
 use Rattle.branches.specs.Inner.Step.{step_words}
 use Rattle.pauli_nodes.specs.Nodes.{Node, axis_matrix}
 use Rattle.pauli_nodes.specs.Operations.{Operation, rotate, rotate_if, measure, axis, bits, splits}
@@ -40,16 +40,12 @@ chosen shift j = j / 2 ^ shift % 2
 abbrev pub bit_of : Operation → ℕ
 bit_of o = get_or (bits o) 0 no_bit
 
--- ---- words
-abbrev pub rows_words : ℕ → Mask → Operation → ℕ → List ℤ
-rows_words d m o v = cells (d * 2) (axis_row m (coefficients_of o v).own (coefficients_of o v).other)
+-- ---- rows and words
+-- the entries of operator v, by rows
+abbrev pub rows_entry : Mask → Operation → ℕ → ℕ → Exact
+rows_entry m o v = axis_row m (coefficients_of o v).own (coefficients_of o v).other
 
--- the words, with the rows of both operators written
-abbrev pub with_rows : List ℤ → ℕ → ℕ → Mask → Operation → List ℤ
-with_rows l slots d m o = blocks (d * row_size) l slots 2 (rows_words d m o)
-
--- the words, with the rows of both operators and the products of `count` branches written
-abbrev pub stepped : List ℤ → ℕ → ℕ → Mask → ℕ → ℕ → ℕ → ℕ → Operation → List ℤ
-stepped l slots d m made from to count o =
-    let k = with_rows l slots d m o in
-    blocks (branch_size d) k to (count * 2 ^ splits o) (step_words k m.x slots (d * row_size) (chosen (shift_of made o)) (2 ^ splits o) from d (bit_of o))
+-- the words, with the products of `count` branches written
+abbrev pub stepped : List ℤ → ℕ → Mask → ℕ → ℕ → ℕ → ℕ → Operation → List ℤ
+stepped l d m made from to count o =
+    blocks (branch_size d) l to (count * 2 ^ splits o) (step_words l m.x (rows_entry m o) (chosen (shift_of made o)) (2 ^ splits o) from d (bit_of o))

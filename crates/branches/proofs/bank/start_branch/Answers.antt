@@ -1,6 +1,6 @@
 -- `start_branch` meets its contract.
 use mathlib.Core.Path.{ap, ◌∙◌}
-use Prim.Native.Nat.{◌+◌}
+use Prim.Native.Nat.{ℕ, ◌+◌}
 use native.Mathlib.Numerals.{add-one}
 use native.Mathlib.Omega.{arith}
 use lib.ListN.{set}
@@ -25,8 +25,12 @@ overflow_cast-work-2 c =
 
 pub returns : goal.returns
 returns c =
-    let σ = c.args.store.now in
-    let at = c.args.at + matrix_size c.args.d in
+    let a = c.args in
+    let σ = a.store.now in
+    let s = c.matrix_size.ensures in
     let low = c.pack.ensures ∙ ap from_bits c.split_at.ensures.front ∙ cut_low σ c.min.ensures in
     let high = c.pack-2.ensures ∙ ap from_bits c.split_at.ensures.back ∙ cut_high σ c.min.ensures in
-    started c.args.work.now c.args.at c.args.d σ c.identity_into.ensures (λ k. set (set c.identity_into.new.buf at ((to_z_pos w64 (omega (arith, low, low_below σ c.requires.1.1.1)) ∙ ap pos low) k)) (add-one at k) ((to_z_pos w64 (omega (arith, high, high_below σ c.requires.1.1.1 c.requires.1.1.0)) ∙ ap pos high) k))
+    let first = to_z_pos w64 (omega (arith, low, low_below σ c.requires.1.1.1)) ∙ ap pos low in
+    let second = to_z_pos w64 (omega (arith, high, high_below σ c.requires.1.1.1 c.requires.1.1.0)) ∙ ap pos high in
+    let next = ap (λ (k : ℕ). a.at + k + 1) s ∙ add-one (a.at + matrix_size a.d) in
+    started a.work.now a.at a.d σ c.identity_into.ensures (λ k. set (set c.identity_into.new.work (a.at + s k) (first k)) (next k) (second k))

@@ -26,7 +26,8 @@ module _ (l : List ℤ) (at d i o : ℕ) (r : Readable l at d) (h : i < d * d) (
 pub read_entry-x-requires : goal.read_entry-x-requires
 read_entry-x-requires c =
     let s = c.args in
-    let inside : c.term_place-k.result < side s.self.d * side s.self.d = subst (λ (k : ℕ). k < side s.self.d * side s.self.d) (sym c.term_place-k.ensures) (below s.self.words.now s.self.at s.self.d s.i c.loop-o.o s.self.readable c.requires c.loop-o-test.true) in
+    let low = below s.self.words.now s.self.at s.self.d s.i c.loop-o.o s.self.readable c.requires c.loop-o-test.true in
+    let inside : c.term_place-k.result < side s.self.d * side s.self.d = subst (λ (k : ℕ). k < side s.self.d * side s.self.d) (sym c.term_place-k.ensures) low in
     entries_in s.self.words.now s.self.at s.self.d s.self.readable (c.term_place-k.result + 1) (omega (arith, inside))
 
 pub returns-in_err-acc : goal.returns-in_err-acc

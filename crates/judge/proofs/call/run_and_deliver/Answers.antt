@@ -30,21 +30,21 @@ pub overflow_add-used : goal.overflow_add-used
 overflow_add-used c =
     omega (arith, count_small c.requires.1 c.power-d.ensures (many c.power-banks.ensures c.requires.0))
 
-pub branch_size-requires : goal.branch_size-requires
-branch_size-requires c =
+pub slot_size-requires : goal.slot_size-requires
+slot_size-requires c =
     omega (arith, dim_small c.requires.1 c.power-d.ensures (many c.power-banks.ensures c.requires.0))
 
 pub overflow_mul-used-2 : goal.overflow_mul-used-2
 overflow_mul-used-2 c =
-    omega (arith, used-small c.requires.1 c.power-d.ensures (many c.power-banks.ensures c.requires.0) c.run_gates-at.ensures c.branch_size.ensures)
+    omega (arith, used-small c.requires.1 c.power-d.ensures (many c.power-banks.ensures c.requires.0) c.run_gates-at.ensures c.slot_size.ensures)
 
 pub clear-requires : goal.clear-requires
 clear-requires c =
-    omega (arith, used-room c.requires.1 c.power-d.ensures (many c.power-banks.ensures c.requires.0) c.run_gates-at.ensures c.branch_size.ensures)
+    omega (arith, used-room c.requires.1 c.power-d.ensures (many c.power-banks.ensures c.requires.0) c.run_gates-at.ensures c.slot_size.ensures)
 
 pub returns : goal.returns
 returns c =
     record {
       res_after = delivered c.requires.1 c.power-d.ensures (many c.power-banks.ensures c.requires.0) c.run_gates-at.ensures c.deliver.ensures;
-      work_after = cleared c.requires.1 c.power-d.ensures (many c.power-banks.ensures c.requires.0) c.run_gates-at.ensures c.branch_size.ensures c.clear.ensures;
+      work_after = cleared c.requires.1 c.power-d.ensures (many c.power-banks.ensures c.requires.0) c.run_gates-at.ensures c.slot_size.ensures c.clear.ensures;
     }

@@ -15,7 +15,7 @@ pub branch_size-requires : goal.branch_size-requires
 branch_size-requires c = dim_small c.args.program.qubits c.requires.1.dim c.requires.1.sound.few
 
 pub start_branch-requires : goal.start_branch-requires
-start_branch-requires c = (dim_small c.args.program.qubits c.requires.1.dim c.requires.1.sound.few, (omega (arith, first_fits c.requires.1), (c.requires.1.short, c.requires.1.bytes)))
+start_branch-requires c = (dim_small c.args.program.qubits c.requires.1.dim c.requires.1.sound.few, (omega (arith, first_fits c.requires.1, c.requires.1.room), (c.requires.1.short, c.requires.1.bytes)))
 
 pub loop-i-init : goal.loop-i-init
 loop-i-init c = λ nodes r. begins r c.args.work.now c.start_branch.ensures

@@ -18,7 +18,7 @@ ops_are o e = ap (λ (k : ℕ). k + 1) e ∙ ops_is o
 pub step-requires : goal.step-requires
 step-requires c =
     let a = c.args in
-    operating_ready c.requires (c.referred-m.ensures ∙ ap (ref_mask a.masks.now) c.axis.ensures) c.write_operators.ensures c.flips.ensures.0 c.shift_of.ensures (ops_are (operation_in a.operation) c.splits.ensures.0)
+    operating_ready c.requires (c.referred-m.ensures ∙ ap (ref_mask a.masks.now) c.axis.ensures) c.operator_rows-first.ensures c.operator_rows-second.ensures c.flips.ensures.0 c.shift_of.ensures (ops_are (operation_in a.operation) c.splits.ensures.0)
 
 bit_told : (b : Option ℕ) → unwrap_or b no_bit ≡ get_or (option_to_list b) 0 no_bit
 bit_told None = refl
@@ -30,5 +30,5 @@ returns c =
     let ops = ops_are (operation_in a.operation) c.splits.ensures.0 in
     let bit = bit_told c.bit.result ∙ ap (λ (bs : List ℕ). get_or bs 0 no_bit) c.bit.ensures in (
       ap (λ (k : ℕ). a.from.count * k) ops,
-      operating_done c.requires (c.referred-m.ensures ∙ ap (ref_mask a.masks.now) c.axis.ensures) c.write_operators.ensures c.flips.ensures.0 c.shift_of.ensures ops bit c.step.ensures,
+      operating_done c.requires (c.referred-m.ensures ∙ ap (ref_mask a.masks.now) c.axis.ensures) c.operator_rows-first.ensures c.operator_rows-second.ensures c.flips.ensures.0 c.shift_of.ensures ops bit c.step.ensures,
     )

@@ -1,9 +1,9 @@
 -- `Source::sum_block` meets its contract: j branches are summed.
-use Rattle.collect.specs.Inner.Bank.{store_of}
+use Prim.Native.Nat.{◌≤◌}
 use Rattle.collect.proofs.Summing.{Summed}
 use Rattle.collect.proofs.blocks.Source.sum_block.Given as goal
 
 abbrev pub invariant-loop-j : goal.invariant-loop-j
 invariant-loop-j l =
     let b = l.self.branch in
-    Summed l.fn.res l.out b.work.now b.bank.at b.bank.d (store_of b.work.now b.bank.at b.bank.d b.j) l.res l.j
+    Summed l.fn.res l.out b.work.now b.bank.at b.bank.d l.e b.j l.res l.j × (l.j ≤ b.bank.count)

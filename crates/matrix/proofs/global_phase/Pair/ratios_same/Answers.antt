@@ -1,14 +1,11 @@
 -- `matrix::global_phase::Pair::ratios_same` meets its contract.
-use mathlib.Core.Path.{◌≡◌, sym, ap, ◌∙◌, subst}
+use mathlib.Core.Path.{◌≡◌, sym, ◌∙◌}
 use mathlib.Core.Bool.{Bool}
-use Prim.Native.Nat.{ℕ}
-use native.Mathlib.Omega.{arith}
 use Rattle.algebra.proofs.Tests.{all-step, all_no}
 use Rattle.exact.specs.Exact.{Exact, equal}
 use Rattle.scalar.specs.declared.Scalar.{Scalar}
 use Rattle.scalar.specs.Calls.{value, scalar_of}
-use Rattle.matrix.specs.Phase.{◌·◌, equal_ratios, entry_of}
-use Rattle.matrix.specs.Inner.Operands.{Operand}
+use Rattle.matrix.specs.Phase.{◌·◌}
 use Rattle.matrix.proofs.global_phase.Pair.ratios_same.Goals as goal
 
 -- the test of the products p and q of what was read, x and y
