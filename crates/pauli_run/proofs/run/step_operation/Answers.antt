@@ -18,7 +18,8 @@ ops_are o e = ap (λ (k : ℕ). k + 1) e ∙ ops_is o
 pub step-requires : goal.step-requires
 step-requires c =
     let a = c.args in
-    operating_ready c.requires (c.referred-m.ensures ∙ ap (ref_mask a.masks.now) c.axis.ensures) c.operator_rows-first.ensures c.operator_rows-second.ensures c.flips.ensures.0 c.shift_of.ensures (ops_are (operation_in a.operation) c.splits.ensures.0)
+    let m = c.referred-m.ensures ∙ ap (ref_mask a.masks.now) c.axis.ensures in
+    operating_ready c.requires m c.operator_rows-first.ensures c.operator_rows-second.ensures c.flips.ensures.0 c.shift_of.ensures (ops_are (operation_in a.operation) c.splits.ensures.0)
 
 bit_told : (b : Option ℕ) → unwrap_or b no_bit ≡ get_or (option_to_list b) 0 no_bit
 bit_told None = refl
