@@ -30,7 +30,7 @@ pub fn judge_form(s: &[i64], f: Parts) -> Result<Shape, Refusal>
 }
 
 // What is found along a chain: whether a block is blank, and the place of the first that a form does not restore, if there is one.
-#[derive(Clone, Copy, Debug, PartialEq, Eq)]
+#[derive(Clone, Copy)]
 pub struct Found {
     pub blank: bool,
     pub fault: Option<usize>,
@@ -74,7 +74,7 @@ fn judge_blocks(s: &[i64], form: Form, m: u32, count: usize, to: Parts) -> Optio
 }
 
 // A channel that is well formed, without a block of zeros: its header, and the place along its chain of the first block that a form does not restore, if there is one.
-#[derive(Clone, Copy, Debug, PartialEq, Eq)]
+#[derive(Clone, Copy)]
 pub struct Judged {
     pub shape: Shape,
     pub fault: Option<usize>,

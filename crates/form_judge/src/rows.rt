@@ -20,7 +20,7 @@ use exact::ranges::all_zero;
 use gather::{Seen, see};
 
 // What is seen of a block that is right: whether it is blank, and whether a form restores it.
-#[derive(Clone, Copy, Debug, PartialEq, Eq)]
+#[derive(Clone, Copy)]
 pub struct Sight {
     pub blank: bool,
     pub fits: bool,
@@ -97,7 +97,7 @@ fn row_fits(b: &Record, to: Parts, r: usize) -> bool
 }
 
 // What is seen of a block's words, and whether a form restores each of its rows.
-#[derive(Clone, Copy, Debug, PartialEq, Eq)]
+#[derive(Clone, Copy)]
 struct Pass {
     seen: Seen,
     fits: bool,

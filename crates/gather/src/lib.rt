@@ -12,7 +12,7 @@ use exact::ranges::at_most;
 
 // What is seen of numerators: whether each is in range, each even, each zero.
 // Kept: three answers of one pass, each asked for by itself, and none of them a failure.
-#[derive(Clone, Copy, Debug, PartialEq, Eq)]
+#[derive(Clone, Copy)]
 pub struct Seen {
     pub range: bool,
     pub even: bool,

@@ -5,7 +5,7 @@ pub mod global_phase;
 pub mod words;
 
 // Whether two matrices are equal up to a global phase.
-#[derive(Clone, Copy, Debug, PartialEq, Eq)]
+#[derive(Clone, Copy)]
 pub enum Phase {
     Equivalent,
     Different,

@@ -18,7 +18,7 @@ use gate::judge::{GateWords, read_gate};
 use verdict::{Refusal, Verdict};
 
 // A Pauli of one qubit.
-#[derive(Clone, Copy, Debug, PartialEq, Eq)]
+#[derive(Clone, Copy)]
 pub enum Pauli {
     I,
     X,
@@ -27,18 +27,18 @@ pub enum Pauli {
 }
 
 // A number that is no Pauli's.
-#[derive(Clone, Copy, Debug, PartialEq, Eq)]
+#[derive(Clone, Copy)]
 pub struct NoPauli;
 
 // A node by its number, and the power of i before it.
-#[derive(Clone, Copy, Debug, PartialEq, Eq)]
+#[derive(Clone, Copy)]
 pub struct Reference {
     pub node: u32,
     pub turns: u32,
 }
 
 // A Pauli of a qubit, or the product of two nodes.
-#[derive(Clone, Copy, Debug, PartialEq, Eq)]
+#[derive(Clone, Copy)]
 pub enum Node {
     Single(u32, Pauli),
     Product(Reference, Reference),

@@ -16,7 +16,7 @@ use gate::judge::{GateWords, read_gate};
 use verdict::{Refusal, Verdict};
 
 // A rotation about an axis by eighths of a turn; the same where an earlier outcome was one; and a measurement, into a classical bit or into none.
-#[derive(Clone, Copy, Debug, PartialEq, Eq)]
+#[derive(Clone, Copy)]
 pub enum Operation {
     Rotate {
         axis: Reference,

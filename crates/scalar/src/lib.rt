@@ -18,7 +18,7 @@ use ranges::{are_narrow, are_well_formed};
 use verdict::Refusal;
 
 // (n[0] + n[1]·√2 + n[2]·i + n[3]·i·√2) / 2^e
-#[derive(Clone, Copy, Debug, PartialEq, Eq)]
+#[derive(Clone, Copy, PartialEq, Eq)]
 pub struct Scalar {
     pub n: [i64; 4],
     pub e: u32,

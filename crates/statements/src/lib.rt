@@ -8,7 +8,7 @@ use qasm::tokens::Tokens;
 
 // A gate's position, and how many gates stand before it. Beyond the last gate: the text's end, and how many there are.
 // Kept: the end of the text is the place that is shown where no gate is, as `gate_position` of the specs has it; an Option would be unwrapped to it.
-#[derive(Clone, Copy, Debug, PartialEq, Eq)]
+#[derive(Clone, Copy)]
 pub struct Spot {
     pub position: usize,
     pub before: usize,

@@ -5,7 +5,7 @@ ghost use Rattle.std.specs.Prelude.{◌≡◌};
 ghost use Rattle.verdict.specs.Verdict.{refusal_number, refusal_index, verdict_number, verdict_index};
 
 // In the order of document 01's numbers, from 1 to 25.
-#[derive(Clone, Copy, Debug, PartialEq, Eq)]
+#[derive(Clone, Copy, PartialEq, Eq)]
 pub enum Refusal {
     OverLimit,
     UnsupportedAt(usize),
