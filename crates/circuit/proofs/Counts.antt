@@ -10,11 +10,12 @@ use Rattle.std.proofs.Common.{length-drop}
 use Rattle.std.proofs.lemmas.List.{get_or-drop, take_all}
 use borrow.Author.Tests.{eqb-true, eqb-false, lt-ltb, le-ltb}
 use Rattle.algebra.specs.Lists.{some, total, marks}
-use Rattle.algebra.proofs.Tests.{leb_same}
+use Rattle.algebra.proofs.Tests.{or_no, leb_same}
 use Rattle.gate.specs.Gate.{Gate, gate, gate_size, measure, reset, elem, gate_at, gates_from, gates_of, splits, weight}
+use Rattle.gate.proofs.Gate.{elem_in}
 use Rattle.gate.proofs.Listed.{gates-more, gates-none, gates-length}
 use Rattle.circuit.specs.Footprint.{writes, footprint_of}
-use Rattle.circuit.specs.Inner.Footprint.{newly}
+use Rattle.circuit.specs.Inner.Footprint.{gates_behind, newly}
 
 -- ---- marks
 one_more : (s : Bool) (k : ℕ) → 0 + k + 1 ≡ cond (not s) 1 0 + (k + cond s 1 0)
@@ -74,6 +75,23 @@ weight-one g = at_most_one (elem g.kind (0 ∷ 16 ∷ 25 ∷ []))
 pub newly-one : (m : ℕ) (g : Gate) (gs : List Gate) → newly m g gs ≤ 1
 newly-one m g gs = at_most_one (eqb g.kind measure && (ltb g.b m && not (some (λ (h : Gate). writes h g.b) gs)))
 
+-- ---- a gate that weighs does not split, and one that does not split writes no bit
+none-counted : (b : Bool) → ◌≡◌ {A = ℕ} (cond b 1 0) 0 → b ≡ false
+none-counted true e = absurd (omega arith)
+none-counted false e = refl
+
+pub heavy-whole : (g : Gate) → (weight g ≡ 0 → ⊥) → splits g ≡ 0
+heavy-whole g h = go (elem g.kind (0 ∷ 16 ∷ 25 ∷ [])) refl
+  where
+    go : (b : Bool) → elem g.kind (0 ∷ 16 ∷ 25 ∷ []) ≡ b → splits g ≡ 0
+    go true e = elem_in (λ (m : ℕ). ◌≡◌ {A = ℕ} (cond (elem m (measure ∷ reset ∷ [])) 1 0) 0) (0 ∷ 16 ∷ 25 ∷ []) (refl, (refl, (refl, tt))) g.kind e
+    go false e = absurd (h (ap (λ (b : Bool). cond b 1 0) e))
+
+pub whole-unwritten : (m : ℕ) (g : Gate) (gs : List Gate) → splits g ≡ 0 → newly m g gs ≡ 0
+whole-unwritten m g gs e =
+    ap (λ (t : Bool). cond (t && (ltb g.b m && not (some (λ (h : Gate). writes h g.b) gs))) 1 0)
+    (or_no (eqb g.kind measure) (eqb g.kind reset || false) (none-counted (elem g.kind (measure ∷ reset ∷ [])) e)).0
+
 -- ---- the gates behind the first i
 gates-dropped : (ws : List ℕ) (i j n : ℕ) → gates_from (drop (i * gate_size) ws) j n ≡ gates_from ws (i + j) n
 gates-dropped ws i j zero = refl
@@ -85,7 +103,7 @@ gates-dropped ws i j (suc n) =
     let e : i + suc j ≡ suc (i + j) = omega arith in
     λ k. gate (first k) (word 1 k) (word 2 k) (word 3 k) (word 4 k) ∷ (gates-dropped ws i (suc j) n ∙ ap (λ (x : ℕ). gates_from ws x n) e) k
 
-pub gates-behind : (ws : List ℕ) (i : ℕ) → gates_of (take (length ws - i * gate_size) (drop (i * gate_size) ws)) ≡ gates_from ws i (length ws / gate_size - i)
+pub gates-behind : (ws : List ℕ) (i : ℕ) → gates_of (take (length ws - i * gate_size) (drop (i * gate_size) ws)) ≡ gates_behind ws i
 gates-behind ws i =
     let long = length-drop (i * gate_size) ws in
     let e : length (drop (i * gate_size) ws) / gate_size ≡ length ws / gate_size - i = omega (arith, long) in
@@ -96,7 +114,7 @@ gates-behind ws i =
 -- ---- gate i of a list of words, and those after it
 module _ (ws : List ℕ) where
   abbrev from : ℕ → List Gate
-  from i = gates_from ws i (length ws / gate_size - i)
+  from = gates_behind ws
 
   abbrev count : ℕ
   count = length ws / gate_size
@@ -127,24 +145,24 @@ module _ (ws : List ℕ) where
         heavy = z _ ∙ rw e;
       }
 
-  add-front : (a b c d e : ℕ) → a + b ≡ c → b ≡ d + e → a + d + e ≡ c
-  add-front a b c d e p q = omega arith
+  add-front : (a b c d e f : ℕ) → a + b ≡ c → b ≡ d + e → f ≡ a + d → f + e ≡ c
+  add-front a b c d e f p q r = omega arith
 
   pub counted-more : {m i s t w : ℕ} → Counted m i s t w → i < count → (g : Gate) → g ≡ gate_at ws (i * gate_size)
-      → (a b c : ℕ) → a ≡ splits g → b ≡ newly m g (from (i + 1)) → c ≡ weight g → Counted m (i + 1) (s + a) (t + b) (w + c)
+      → (a b c : ℕ) → a ≡ s + splits g → b ≡ t + newly m g (gates_behind ws (i + 1)) → c ≡ w + weight g → Counted m (i + 1) a b c
   counted-more {m} {i} {s} {t} {w} k l g e a b c p q r =
       let x : (v : Gate → ℕ) → total v (from i) ≡ v g + total v (from (i + 1)) = λ v. ap (total v) (gates-more ws count i l) ∙ rw e in
       let y : marks m writes (from i) ≡ newly m g (from (i + 1)) + marks m writes (from (i + 1)) =
       ap (marks m writes) (gates-more ws count i l) ∙ marks-more m (gate_at ws (i * gate_size)) (from (i + 1)) ∙ rw e in
-      let u : a ≤ 1 = rw p (splits-one g) in
-      let v : b ≤ 1 = rw q (newly-one m g (from (i + 1))) in
-      let o : c ≤ 1 = rw r (weight-one g) in
+      let u = splits-one g in
+      let v = newly-one m g (from (i + 1)) in
+      let o = weight-one g in
       record {
         below = omega arith;
         few = omega (arith, k.few);
-        splitting = add-front s (total splits (from i)) _ a _ k.splitting (rw p (x splits));
-        written = add-front t (marks m writes (from i)) _ b _ k.written (rw q y);
-        heavy = add-front w (total weight (from i)) _ c _ k.heavy (rw r (x weight));
+        splitting = add-front s (total splits (from i)) _ (splits g) _ a k.splitting (x splits) p;
+        written = add-front t (marks m writes (from i)) _ (newly m g (from (i + 1))) _ b k.written y q;
+        heavy = add-front w (total weight (from i)) _ (weight g) _ c k.heavy (x weight) r;
       }
 
   pub counted-all : {m i s t w : ℕ} → Counted m i s t w → count ≤ i → record { gates = count; splits = s; written = t; weight = w } ≡ footprint_of m (gates_of ws)

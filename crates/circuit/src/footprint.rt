@@ -1,13 +1,14 @@
 // What a gate list asks for, in one pass over its words.
-ghost use Rattle.std.specs.Prelude.{◌≡◌, ℕ, ◌+◌, ◌*◌, ◌-◌, ◌/◌, ◌≤◌, length};
+// Kept (buffers, facts): a gate by its place among the words of all gates, as in `layers` and in `branches::run`.
+ghost use Rattle.std.specs.Prelude.{◌≡◌, ℕ, ◌+◌, ◌*◌, ◌/◌, ◌≤◌, ◌<◌, length};
 ghost use Rattle.algebra.specs.Lists.{some};
-ghost use Rattle.gate.specs.Gate.{Gate, gate_size, gates_from, gates_of};
+ghost use Rattle.gate.specs.Gate.{Gate, gate_size, gate_at, gates_of};
 ghost use Rattle.gate.specs.Inner.Words.{gate_of};
 ghost use Rattle.circuit.specs.Footprint.{writes, footprint_of};
-ghost use Rattle.circuit.specs.Inner.Footprint.{newly};
+ghost use Rattle.circuit.specs.Inner.Footprint.{gates_behind, newly};
 
 use gate::GATE;
-use gate::judge::{GateWords, read_gate};
+use gate::judge::read_gate;
 
 #[derive(Clone, Copy)]
 pub struct Footprint {
@@ -20,11 +21,11 @@ pub struct Footprint {
     pub weight: u64,
 }
 
-// Whether some gate measures into the bit.
-fn is_written(words: &[u32], bit: u32) -> bool
-    ensures { result ≡ some (λ (g : Gate). writes g bit) (gates_of words.now) }
+// Whether a gate from gate `first` on measures into the bit.
+fn is_written(words: &[u32], first: usize, bit: u32) -> bool
+    ensures { result ≡ some (λ (g : Gate). writes g bit) (gates_behind words.now first) }
 {
-    for i in 0..words.len() / GATE {
+    for i in first..words.len() / GATE {
         let g = read_gate(words, i * GATE);
         if g.writes(bit) {
             return true;
@@ -33,12 +34,16 @@ fn is_written(words: &[u32], bit: u32) -> bool
     false
 }
 
-// 1 if the gate measures into one of the bits and none of the gates after it does.
-fn newly_written(g: GateWords, after: &[u32], bits: u32) -> u64
-    ensures { result ≡ newly bits (gate_of g) (gates_of after.now) }
+// 1 if gate i measures into one of the bits and none of the gates after it does.
+// Out of line: few gates measure, and in line it slows the loop over all gates by a third.
+#[inline(never)]
+fn newly_written(words: &[u32], i: usize, bits: u32) -> u64
+    requires { i < length words.now / gate_size }
+    ensures { result ≡ newly bits (gate_at words.now (i * gate_size)) (gates_behind words.now (i + 1)) }
 {
+    let g = read_gate(words, i * GATE);
     g.bit()
-        .is_some_and(|bit| bit < bits && !is_written(after, bit)) as u64
+        .is_some_and(|bit| bit < bits && !is_written(words, i + 1, bit)) as u64
 }
 
 impl Footprint {
@@ -51,9 +56,13 @@ impl Footprint {
         let mut weight: u64 = 0;
         for i in 0..count {
             let g = read_gate(words, i * GATE);
-            splits += g.splits();
-            written += newly_written(g, &words[(i + 1) * GATE..], bits);
-            weight += g.weight();
+            // A gate that weighs does not split.
+            if g.weight() != 0 {
+                weight += 1;
+            } else if g.splits() != 0 {
+                splits += 1;
+                written += newly_written(words, i, bits);
+            }
         }
         Footprint {
             gates: count as u64,

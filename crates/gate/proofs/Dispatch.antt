@@ -7,18 +7,17 @@ use native.Mathlib.Omega.{arith}
 use lib.Dec.{T, eqb, leb, ltb}
 use lib.ListN.{length, get_or}
 use borrow.Author.Tests.{leb-true, ltb-true, eqb-true, eq-eqb, not-true}
-use Rattle.algebra.specs.Lists.{all_below, every}
+use Rattle.algebra.specs.Lists.{all_below}
 use Rattle.algebra.proofs.Tests.{exhaust, and_split, holds-true}
 use Rattle.exact.specs.Exact.{Exact, exact}
-use Rattle.gate.specs.Gate.{Gate, gate, arity, qubits, bits, elem, distinct, last_kind, rz, measure, reset, formed, placed, supported}
+use Rattle.gate.specs.Gate.{Gate, gate, arity, elem, last_kind, rz, measure, reset, formed, placed, supported}
 use Rattle.gate.specs.Inner.Kinds.{one_qubit, controlled_once, controlled_twice, swap, cswap}
 use Rattle.gate.specs.Operators.{Small, operator, operators, no_unitary, controlled, swapped, operator_at}
 use Rattle.gate.specs.Embed.{embed, gate_entry}
-use Rattle.gate.specs.Questions.{on_qubits}
 use Rattle.gate.specs.Inner.Entries.{valid, table_of, core_of, small_of, unitary_of, target_of, Ready, Apart2, Apart3}
 use Rattle.gate.proofs.Gate.{elem_in}
 use Rattle.gate.proofs.Placed.{one_table, two-table, three-table}
-use Rattle.gate.proofs.Questions.{on_one, on-two, on-three}
+use Rattle.gate.proofs.Questions.{on_one, on-two, on-three, placed_on}
 
 -- ---- kinds
 abbrev angles : List ℕ
@@ -140,12 +139,6 @@ module _ (n j r s₀ : ℕ) where
     controlled-swap-entry m e = subst (Entry (a ∷ b ∷ c ∷ []) (controlled swapped)) (sym e) (only_one (a ∷ b ∷ c ∷ []) (controlled swapped))
 
 -- ---- a gate that is valid is ready
-pub placed_on : (n m : ℕ) (g : Gate) → placed n m g ≡ true → on_qubits n g ≡ true
-placed_on n m g e =
-    let a = and_split (every (λ (q : ℕ). ltb q n) (qubits g)) (distinct (qubits g) && every (λ (i : ℕ). ltb i m) (bits g)) e in
-    let b = and_split (distinct (qubits g)) (every (λ (i : ℕ). ltb i m) (bits g)) a.1 in
-    λ i. a.0 i && b.0 i
-
 pub valid_ready : (n m : ℕ) (g : Gate) (j : ℕ) → valid n m g ≡ true → j < length (operators g) → Ready n g j
 valid_ready n m g j e l =
     let a = and_split (formed g) (placed n m g && supported g) e in

@@ -10,7 +10,9 @@ use native.Mathlib.Omega.{arith}
 use lib.Bits.{bit_and, bit_xor, and_zero_r}
 use lib.Dec.{T, eqb}
 use lib.ListN.{length}
+use lib.Pow.{pow_pos}
 use borrow.Author.Tests.{eqb-false, eq-eqb, ne_eqb}
+use Rattle.std.proofs.lemmas.Nat.{and_comm}
 use Rattle.algebra.specs.Lists.{all_below}
 use Rattle.algebra.proofs.Tests.{exhaust, equal2, or_no}
 use Rattle.exact.specs.Exact.{Exact, exact}
@@ -297,3 +299,54 @@ row-entry i {n} {g} {j} ready few em eh el eu l =
         ≡ gate_entry n g j (i / 2) (cond b (i / 2) (partner n g (i / 2)))
     go true = h.in_own
     go false = h.in_other
+
+-- ---- the bits that a gate may change are none of its controls
+single : (w v : ℕ) → w < 5 → v < 5 → w ≢ v → bit_and (2 ^ w) (2 ^ v) ≡ 0
+single w v hw hv ne = two-equal (λ (w v r : ℕ). bit_and (2 ^ w) (2 ^ v)) (λ (w v r : ℕ). 0) tt w v 0 hw hv ne (omega arith)
+
+-- a number, or 0 where u is w or v
+abbrev third : ℕ → ℕ → ℕ → ℕ → ℕ
+third w v u x = cond (eqb u w) 0 (cond (eqb u v) 0 x)
+
+double : (w v u : ℕ) → w < 5 → v < 5 → u < 5 → w ≢ v → u ≢ w → u ≢ v → bit_and (2 ^ w + 2 ^ v) (2 ^ u) ≡ 0
+double w v u hw hv hu ne p q =
+    sym (ap (λ (b : Bool). cond b 0 (cond (eqb u v) 0 x)) (ne_eqb u w p) ∙ ap (λ (b : Bool). cond b 0 x) (ne_eqb u v q))
+    ∙ two-equal (λ (w v u : ℕ). third w v u (bit_and (2 ^ w + 2 ^ v) (2 ^ u))) (λ (w v u : ℕ). 0) tt w v u hw hv ne (omega arith)
+  where
+    x : ℕ
+    x = bit_and (2 ^ w + 2 ^ v) (2 ^ u)
+
+pub masks-apart : {n : ℕ} {g : Gate} {j : ℕ} → Ready n g j → n ≤ 5 → bit_and (flips n g) (controls n g) ≡ 0
+masks-apart {n} {g} {j} ready few = go (ℕ_discrete (arity g.kind) 1) (ℕ_discrete (arity g.kind) 2)
+  where
+    Disjoint : ℕ → Type 0
+    Disjoint m = let f = gate m g.a g.b g.c g.k in bit_and (flips n f) (controls n f) ≡ 0
+
+    uncontrolled : (x : ℕ) → bit_and x 0 ≡ 0
+    uncontrolled x = and_zero_r x
+
+    other : {a b : ℕ} → a < n → b < n → eqb a b ≡ false → n - 1 - a ≢ n - 1 - b
+    other = apart n 0 few (pow_pos n)
+
+    low : (q : ℕ) → q < n → n - 1 - q < 5
+    low q l = omega arith
+
+    go : Dec (arity g.kind ≡ 1) → Dec (arity g.kind ≡ 2) → bit_and (flips n g) (controls n g) ≡ 0
+    go (yes p) q =
+        let o = uncontrolled (2 ^ (n - 1 - g.a)) in
+        elem_in Disjoint one_qubit (o, (o, (o, (o, (o, (o, (o, (o, (o, (o, (o, (o, tt)))))))))))) g.kind (one-kinds ready p)
+    go (no p) (yes q) =
+        let on = two-on ready q in
+        let o = single (n - 1 - g.b) (n - 1 - g.a) (low g.b on.second) (low g.a on.first) (λ e. other on.first on.second on.other (sym e)) in
+        elem_in Disjoint (swap ∷ controlled_once) (uncontrolled (2 ^ (n - 1 - g.a) + 2 ^ (n - 1 - g.b)), (o, (o, (o, (o, tt))))) g.kind (two-kinds ready q)
+    go (no p) (no q) =
+        let e = three_else ready (arity g.kind) refl p q in
+        let on = three-on ready e in
+        let rest = on.others in
+        let (ab, ac) = or_no (eqb g.a g.b) (elem g.a (g.c ∷ [])) on.other in
+        let x = other on.first rest.first ab in
+        let y = other on.first rest.second (sym (or-false (eqb g.a g.c)) ∙ ac) in
+        let z = other rest.first rest.second rest.other in
+        let twice = and_comm (2 ^ (n - 1 - g.c)) (2 ^ (n - 1 - g.a) + 2 ^ (n - 1 - g.b)) ∙ double (n - 1 - g.a) (n - 1 - g.b) (n - 1 - g.c) (low g.a on.first) (low g.b rest.first) (low g.c rest.second) x (λ e. y (sym e)) (λ e. z (sym e)) in
+        elem_in Disjoint (cswap ∷ controlled_twice)
+        (double (n - 1 - g.b) (n - 1 - g.c) (n - 1 - g.a) (low g.b rest.first) (low g.c rest.second) (low g.a on.first) z x y, (twice, (twice, tt))) g.kind (three-kinds ready e)

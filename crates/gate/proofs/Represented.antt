@@ -6,20 +6,20 @@ use Prim.Native.Nat.{ℕ, suc, ◌+◌, ◌-◌, ◌*◌, ◌/◌, ◌%◌, ◌^
 use native.Mathlib.Omega.{arith}
 use denote.Ref.{Bor}
 use lib.Bits.{bit_and}
-use lib.Dec.{eqb, leb, lit≤}
+use lib.Dec.{eqb, leb, ltb, lit≤}
 use lib.ListN.{length, get_or}
-use borrow.Author.Tests.{leb-true, eqb-true}
+use borrow.Author.Tests.{leb-true, ltb-true, eqb-true, eq-eqb}
 use Rattle.std.specs.Prelude.{Option, Some, None, is_some}
 use Rattle.algebra.specs.Dyadic.{power, frac}
 use Rattle.algebra.specs.Lists.{all_below, every}
 use Rattle.algebra.proofs.Tests.{and_split, all-at}
 use Rattle.algebra.proofs.Quadratic.{ℤ√2i}
-use Rattle.algebra.proofs.Dyadic.{lowest-up}
+use Rattle.algebra.proofs.Dyadic.{lowest-up, lowest_is}
 use Rattle.exact.specs.Exact.{Exact, equal, Number, numbers, number_of, lowest, within, is_lowest, narrow_exponent}
-use Rattle.exact.specs.Inner.Sizes.{Within, Coords, room_numerator}
+use Rattle.exact.specs.Inner.Sizes.{Within, Coords}
 use Rattle.exact.proofs.Equal.{equal-true}
 use Rattle.exact.proofs.Exact.{exact_halving, is_lowest_lem}
-use Rattle.exact.proofs.Align.{scaled_is, raised, power-within, widen}
+use Rattle.exact.proofs.Align.{scaled_is, raised, widen}
 use Rattle.exact.proofs.Sizes.{within_of}
 use Rattle.scalar.specs.Calls.{value}
 use Rattle.gate.specs.declared.rows.Pair.{Pair}
@@ -28,11 +28,11 @@ use Rattle.gate.specs.declared.rows.Rows.{Rows}
 use Rattle.gate.specs.declared.rows.Choice.TheVariants.{Controls}
 use Rattle.gate.specs.declared.tables.Core.{Core}
 use Rattle.gate.specs.declared.tables.Unmixed.{Unmixed}
-use Rattle.gate.specs.Gate.{Gate, gate, last_kind, rz, measure, reset, unused, supported}
+use Rattle.gate.specs.Gate.{Gate, gate, last_kind, rz, measure, reset, unused, supported, splits}
 use Rattle.gate.specs.Operators.{Operator, operator, projectors, resetters, unitaries, no_unitary}
 use Rattle.gate.specs.Inner.Entries.{Table, Ready, core_of, flips, controls, row_entry, pair_of, kept, exchanged, side, row_pair}
-use Rattle.gate.specs.Inner.Rows.{row_in, entry_in, over, row_over, Over, Represents, Sized}
-use Rattle.gate.specs.Inner.Tables.{phase_of, phase_core, place, no_core, is_over, is_row, is_core, takes, each_of, each_operator, is_operator, are_cores, are_unmixed}
+use Rattle.gate.specs.Inner.Rows.{row_in, entry_in, over, Represents, Sized}
+use Rattle.gate.specs.Inner.Tables.{phase_of, phase_core, place, no_core, core_at, is_over, is_row, is_core, takes, each_of, each_operator, are_unmixed}
 use Rattle.gate.proofs.Masks.{row-entry}
 
 module _ {R : Rows} {m : ℕ} {E : ℕ → Exact} (h : Represents R m E) where
@@ -51,10 +51,6 @@ module _ {R : Rows} {m : ℕ} {E : ℕ → Exact} (h : Represents R m E) where
     sizes = λ i l. subst (Within (2 ^ R.exponent)) (sym (h.numerators i l)) (widen (1 * 2 ^ R.exponent) (2 ^ R.exponent) (over R.exponent (E i)) (omega arith) (raised 1 (E i).exp R.exponent (E i).num (h.reached i l) (s i l).size));
   }
 
--- a number over 2^k that `scaled4` raises
-pub over_fits : (x : Exact) (k : ℕ) → k ≤ narrow_exponent → Coords 1 k x → Within room_numerator (over k x)
-over_fits x k l h = widen (1 * 2 ^ narrow_exponent) room_numerator (over k x) (lit≤ tt) (power-within 1 k narrow_exponent (over k x) l (raised 1 x.exp k x.num h.exponent h.size))
-
 -- ---- sizes, tested
 abbrev pub is_coords : ℕ → Exact → Bool
 is_coords k x = leb x.exp k && within (1 * 2 ^ x.exp) x.num
@@ -62,21 +58,24 @@ is_coords k x = leb x.exp k && within (1 * 2 ^ x.exp) x.num
 pub coords_is : (k : ℕ) (x : Exact) → is_coords k x ≡ true → Coords 1 k x
 coords_is k x e = let (a, b) = and_split (leb x.exp k) (within (1 * 2 ^ x.exp) x.num) e in record { exponent = leb-true x.exp k a; size = within_of (1 * 2 ^ x.exp) x.num b }
 
--- over any larger power
-pub over-up : {p : Pair} {k : ℕ} (f : ℕ) → Over p k → p.own.e ≤ f → p.other.e ≤ f → f ≤ narrow_exponent → Over p f
-over-up f h a b l = record { small = l; own = record { exponent = a; size = h.own.size }; other = record { exponent = b; size = h.other.size } }
-
 -- ---- rows made of pairs
+-- numerators over 2^k are those of their lowest form over 2^k
+pub over_lowest : (k : ℕ) (z : Number) → over k (lowest z k) ≡ z
+over_lowest k z =
+    let (j, h, g) = lowest_is ℤ√2i exact_halving z k in
+    let d : k - (lowest z k).exp ≡ j = omega arith in
+    scaled_is (lowest z k).num (k - (lowest z k).exp) ∙ ap (λ (j : ℕ). numbers.◌⊗◌ (lowest z k).num (power numbers j)) d ∙ sym h
+
 -- the numerators of a row are those of a pair over 2^k
-record Stands (w : Row) (p : Pair) (k : ℕ) : Type 0 where
-  own_reached : p.own.e ≤ k
-  other_reached : p.other.e ≤ k
-  own : number_of w.own ≡ over k (value p.own)
-  other : number_of w.other ≡ over k (value p.other)
+pub record Stands (w : Row) (p : Pair) (k : ℕ) : Type 0 where
+  pub own_reached : p.own.e ≤ k
+  pub other_reached : p.other.e ≤ k
+  pub own : number_of w.own ≡ over k (value p.own)
+  pub other : number_of w.other ≡ over k (value p.other)
 
 -- p r is that of row r
 module _ {R : Rows} {m : ℕ} {E : ℕ → Exact} (p : ℕ → Pair) where
-  rows_stand : R.exponent ≤ narrow_exponent → ((r : ℕ) → Stands (row_in R r) (p r) R.exponent) → ((i : ℕ) → i < m → value (side (p (i / 2)) i) ≡ E i) → Represents R m E
+  pub rows_stand : R.exponent ≤ narrow_exponent → ((r : ℕ) → Stands (row_in R r) (p r) R.exponent) → ((i : ℕ) → i < m → value (side (p (i / 2)) i) ≡ E i) → Represents R m E
   rows_stand small rows entries = record {
     small = small;
     reached = λ i l. subst (λ (x : Exact). x.exp ≤ R.exponent) (entries i l) (reach (rows (i / 2)) (eqb (i % 2) 0));
@@ -90,14 +89,6 @@ module _ {R : Rows} {m : ℕ} {E : ℕ → Exact} (p : ℕ → Pair) where
       one-of : {w : Row} {q : Pair} → Stands w q R.exponent → (b : Bool) → number_of (cond b w.own w.other) ≡ over R.exponent (value (cond b q.own q.other))
       one-of h true = h.own
       one-of h false = h.other
-
-  pub rows_of : R.exponent ≤ narrow_exponent → ((r : ℕ) → Over (p r) R.exponent) → ((r : ℕ) → row_in R r ≡ row_over (p r) R.exponent) → ((i : ℕ) → i < m → value (side (p (i / 2)) i) ≡ E i) → Represents R m E
-  rows_of small sizes rows = rows_stand small (λ r. record {
-    own_reached = (sizes r).own.exponent;
-    other_reached = (sizes r).other.exponent;
-    own = ap (λ (w : Row). number_of w.own) (rows r);
-    other = ap (λ (w : Row). number_of w.other) (rows r);
-  })
 
 -- ---- of a gate
 is_stands : (k : ℕ) (w : Row) (p : Pair) → is_row k w p ≡ true → Stands w p k
@@ -148,10 +139,16 @@ pub at-phase : {n : ℕ} {g : Gate} {j p : ℕ} → Ready n g j → phase_of g.k
 at-phase {g = g} {j} ready e =
     subst (λ (o : Option ℕ). core_is o (core_of g j) ≡ true) e (at-operator (λ (kind k j : ℕ). core_is (phase_of kind k) (core_of (gate kind 0 0 0 k) j)) ready refl)
 
--- that of another kind, by the table
-pub at-place : {n : ℕ} {g : Gate} {j : ℕ} (t : List Core) → Ready n g j → are_cores t ≡ true → phase_of g.kind g.k ≡ None → is_core (get_or t (place g.kind j) no_core) (core_of g j) ≡ true
-at-place {g = g} {j} t ready whole e =
-    subst (λ (o : Option ℕ). is_some o || is_core (get_or t (place g.kind j) no_core) (core_of g j) ≡ true) e (at-operator (is_operator t) ready whole)
+-- and by the first of the table where it splits nothing
+abbrev is_first : ℕ → ℕ → ℕ → Bool
+is_first kind k j = is_some (phase_of kind k) || (not (eqb (splits (gate kind 0 0 0 k)) 0) || ltb (place kind j) 4 && is_core (core_at (place kind j)) (core_of (gate kind 0 0 0 k) j))
+
+pub at-first : {n : ℕ} {g : Gate} {j : ℕ} → Ready n g j → phase_of g.kind g.k ≡ None → splits g ≡ 0 → (place g.kind j < 4) × (is_core (core_at (place g.kind j)) (core_of g j) ≡ true)
+at-first {g = g} {j} ready e none =
+    let tested = is_core (core_at (place g.kind j)) (core_of g j) in
+    let (a, b) = and_split (ltb (place g.kind j) 4) tested (subst (λ (t : Bool). not t || ltb (place g.kind j) 4 && tested ≡ true) (eq-eqb (splits g) 0 none)
+    (subst (λ (o : Option ℕ). is_some o || (not (eqb (splits g) 0) || ltb (place g.kind j) 4 && tested) ≡ true) e (at-operator is_first ready refl))) in
+    (ltb-true (place g.kind j) 4 a, b)
 
 module _ {n : ℕ} {g : Gate} {j : ℕ} (ready : Ready n g j) (c : Core) (tested : is_core c (core_of g j) ≡ true) where
   pub core-small : c.e ≤ 1

@@ -2,5 +2,6 @@
 pub mod Words
 pub mod Kinds
 pub mod Entries
+pub mod Accepted
 pub mod Rows
 pub mod Tables

@@ -4,6 +4,7 @@ ghost use Rattle.std.specs.List.{list_all};
 ghost use Rattle.gate.specs.Gate.{gate_size, gate_at, arity, elem, distinct, bits, bit_of, formed, placed, supported, weight, splits};
 ghost use Rattle.verdict.specs.Questions.{first_no};
 ghost use Rattle.gate.specs.Inner.Words.{gate_of};
+ghost use Rattle.gate.specs.Inner.Accepted.{names_qubits, bits_asked, may_split, accepted};
 ghost use Rattle.gate.specs.Kinds.{Known};
 ghost use Rattle.gate.specs.Questions.{three_answers, on_qubits, gate_questions};
 
@@ -11,7 +12,7 @@ use crate::kinds::Kind;
 use verdict::{Refusal, Verdict};
 
 // The five words of a gate.
-#[derive(Clone, Copy, Debug, PartialEq, Eq)]
+#[derive(Clone, Copy, PartialEq, Eq)]
 pub struct GateWords {
     // Kept: a word from outside may be no kind, which question 4 asks. A struct with a Kind in its place would be made at each gate that runs,
     // from the clause Ready that rows and tables ask now, and save their three `unreachable!`.
@@ -23,11 +24,33 @@ pub struct GateWords {
 }
 
 // Which call asks: circuit_channel, with its bit count; circuit_unitary; or judge_schedule, with its bit count, which leaves question 6 to the other two.
-#[derive(Clone, Copy, Debug, PartialEq, Eq)]
+#[derive(Clone, Copy)]
 pub enum Asking {
     Channel(u32),
     Unitary,
     Placing(u32),
+}
+
+impl Asking {
+    // The bit count; circuit_unitary has no bits.
+    fn bits(self) -> u32
+        ensures { result ≡ bits_asked self }
+    {
+        match self {
+            Asking::Channel(bits) | Asking::Placing(bits) => bits,
+            Asking::Unitary => 0,
+        }
+    }
+
+    // Whether a gate may be a measure or a reset.
+    fn may_split(self) -> bool
+        ensures { result ≡ may_split self }
+    {
+        match self {
+            Asking::Channel(_) | Asking::Placing(_) => true,
+            Asking::Unitary => false,
+        }
+    }
 }
 
 // The gate in the five words from `at` on.
@@ -145,7 +168,7 @@ impl GateWords {
     pub fn writes(self, bit: u32) -> bool
         ensures { result ≡ elem bit (bits (gate_of self)) }
     {
-        self.bit() == Some(bit)
+        self.kind == u32::from(Kind::Measure) && self.b == bit
     }
 
     // h, sx and ch weigh 1.
@@ -168,8 +191,47 @@ impl GateWords {
         }
     }
 
-    // Questions 4 to 6 of gate i.
-    pub fn judge(self, i: usize, n: u32, asking: Asking) -> Verdict
+    // Whether the first `used` of its three words name different qubits below n, and those behind them are 0.
+    fn names_qubits(self, used: usize, n: u32) -> bool
+        ensures { result ≡ names_qubits used n (gate_of self) }
+    {
+        let words = [self.a, self.b, self.c];
+        are_zero(used, words) && are_below(used, words, n) && are_distinct(used, words)
+    }
+
+    // Whether every answer to questions 4 to 6 is yes, where a measure or a reset may stand or not.
+    // Kept: one match where three would be asked of each gate; `judge_each` tells which question a gate fails.
+    fn is_accepted(self, n: u32, bits: u32, may_split: bool) -> bool
+        ensures { result ≡ accepted n bits may_split (gate_of self) }
+    {
+        match self.known_kind() {
+            Some(
+                Kind::H
+                | Kind::X
+                | Kind::Z
+                | Kind::S
+                | Kind::Sdg
+                | Kind::T
+                | Kind::Tdg
+                | Kind::Y
+                | Kind::Sx,
+            ) => self.k == 0 && self.names_qubits(1, n),
+            Some(Kind::Rz) => self.k < 8 && self.names_qubits(1, n),
+            Some(Kind::Cnot | Kind::Cz | Kind::Swap | Kind::Cy | Kind::Ch) => self.k == 0
+                && self.names_qubits(2, n),
+            Some(Kind::Ccx | Kind::Ccz | Kind::Cswap) => self.k == 0 && self.names_qubits(3, n),
+            Some(Kind::Measure) => may_split
+                && self.k == 0
+                && self.c == 0
+                && self.a < n
+                && self.b < bits,
+            Some(Kind::Reset) => may_split && self.k == 0 && self.names_qubits(1, n),
+            _ => false,
+        }
+    }
+
+    // Questions 4 to 6 of gate i, one by one.
+    fn judge_each(self, i: usize, n: u32, asking: Asking) -> Verdict
         ensures { result ≡ first_no (gate_questions asking n i (gate_of self)) }
     {
         let formed = self.is_formed();
@@ -189,6 +251,16 @@ impl GateWords {
                 first_fault(i, formed, placed, true)
             }
         }
+    }
+
+    // Questions 4 to 6 of gate i.
+    pub fn judge(self, i: usize, n: u32, asking: Asking) -> Verdict
+        ensures { result ≡ first_no (gate_questions asking n i (gate_of self)) }
+    {
+        if self.is_accepted(n, asking.bits(), asking.may_split()) {
+            return Ok(());
+        }
+        self.judge_each(i, n, asking)
     }
 }
 

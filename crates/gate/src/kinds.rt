@@ -5,7 +5,7 @@ ghost use Rattle.gate.specs.Gate.{arity};
 ghost use Rattle.gate.specs.Kinds.{number_of, Names};
 
 // The kinds, in the order of their numbers.
-#[derive(Clone, Copy, Debug, PartialEq, Eq)]
+#[derive(Clone, Copy)]
 pub enum Kind {
     H,
     X,
@@ -37,7 +37,7 @@ pub enum Kind {
 }
 
 // A number that no kind has.
-#[derive(Clone, Copy, Debug, PartialEq, Eq)]
+#[derive(Clone, Copy)]
 pub struct NoKind(pub u32);
 
 impl TryFrom<u32> for Kind {

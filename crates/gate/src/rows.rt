@@ -1,16 +1,15 @@
 // The rows of a gate's matrices on n qubits. Row r has entries in two columns alone: its own, r, and its partner's, which has the bits flipped that the gate may change.
-// Kept (facts, together): n ≤ 5 stands in four functions here, Ready in three and in tables::core_at. A struct of a gate and n with both as ghost fields would be made by branches::run at each gate, from a clause on the whole circuit,
-// and be taken apart again by each function: the masks need n and one qubit, core_at needs Ready alone, and only n ≤ 5 would leave the clauses.
+// Kept (facts, together): n ≤ 5 stands in three functions here, Ready in two. A struct of a gate and n with both as ghost fields would be made by branches::run at each gate, from a clause on the whole circuit,
+// and be taken apart again by each function: the masks need n and one qubit, and only n ≤ 5 would leave the clauses.
 // Kept (switches): the arms of flips and controls are sums of masks of a kind's qubits, and none is a step that a caller could choose.
-ghost use Rattle.std.specs.Prelude.{◌≡◌, ◌-◌, ◌*◌, ◌^◌, ◌≤◌, ◌<◌};
+ghost use Rattle.std.specs.Prelude.{◌≡◌, ◌-◌, ◌^◌, ◌≤◌, ◌<◌};
 ghost use Rattle.gate.specs.Inner.Words.{gate_of};
-ghost use Rattle.gate.specs.Inner.Entries.{Ready, flips, controls, row_entry};
-ghost use Rattle.gate.specs.Inner.Rows.{is_even, row_in, row_over, Over, Represents};
+ghost use Rattle.gate.specs.Inner.Entries.{Ready, flips, controls};
+ghost use Rattle.gate.specs.Inner.Rows.{is_even, row_in};
 
 use super::judge::GateWords;
 use super::kinds::Kind;
-use super::tables::{Unmixed, core_at, unmixed_over};
-use exact::numerators::scaled4;
+use super::tables::Unmixed;
 use scalar::Scalar;
 
 // The entries of a row in its own column and in its partner's, as scalars in lowest form.
@@ -47,7 +46,7 @@ pub fn flips(g: GateWords, n: u32) -> usize
 }
 
 // The bits of a row number that are a gate's controls.
-fn controls(g: GateWords, n: u32, j: usize) -> usize
+pub fn controls(g: GateWords, n: u32, j: usize) -> usize
     requires { (n ≤ 5) × Ready n (gate_of g) j }
     ensures { result ≡ controls n (gate_of g) }
 {
@@ -120,30 +119,5 @@ impl Rows {
                 &self.high
             }
         }
-    }
-}
-
-// The numerators of a pair over 2^k.
-pub fn row_over(p: Pair, k: u32) -> Row
-    requires { Over p k }
-    ensures { result ≡ row_over p k }
-{
-    Row {
-        own: scaled4(p.own.n, k - p.own.e),
-        other: scaled4(p.other.n, k - p.other.e),
-    }
-}
-
-// Operator j of a gate on n qubits; m are the bits that the gate may change.
-pub fn gate_rows(g: GateWords, n: u32, j: usize, m: usize) -> Rows
-    requires { (m ≡ flips n (gate_of g)) × ((n ≤ 5) × Ready n (gate_of g) j) }
-    ensures { Represents result (2 ^ n * 2) (row_entry n (gate_of g) j) }
-{
-    let u = core_at(g, n, j);
-    Rows {
-        choice: Choice::Controls(controls(g, n, j), m, unmixed_over(u.e)),
-        low: u.low,
-        high: u.high,
-        exponent: u.e,
     }
 }

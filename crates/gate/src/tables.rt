@@ -1,12 +1,10 @@
-// The two-by-two matrices of the kinds and the rows that are in none of them: phases by the powers of ω, all others by table.
-// Kept (facts, together): Ready, with n that it needs, as in rows.rt.
+// The two-by-two matrices of the kinds that split nothing: phases by the powers of ω, all others by name.
 // Kept (switches): `phase_of` and `place` name the matrix of each kind, and no caller chooses it.
 ghost use Rattle.std.specs.Prelude.{◌≡◌, true, ◌<◌};
-ghost use Rattle.algebra.specs.Lists.{all_below};
+ghost use Rattle.gate.specs.Gate.{formed};
 ghost use Rattle.gate.specs.Kinds.{number_of};
 ghost use Rattle.gate.specs.Inner.Words.{gate_of};
-ghost use Rattle.gate.specs.Inner.Entries.{Ready, core_of};
-ghost use Rattle.gate.specs.Inner.Tables.{phase_of, phase_core, place, are_cores, is_core, is_unmixed, are_unmixed};
+ghost use Rattle.gate.specs.Inner.Tables.{phase_of, phase_core, place};
 
 use super::judge::GateWords;
 use super::kinds::Kind;
@@ -29,141 +27,61 @@ pub struct Unmixed {
     pub exchanged: Row,
 }
 
-static CORES: [Core; 7] = [
-    // h: 1/√2 (1 1; 1 −1)
-    Core {
-        low: Row {
-            own: [0, 1, 0, 0],
-            other: [0, 1, 0, 0],
-        },
-        high: Row {
-            own: [0, -1, 0, 0],
-            other: [0, 1, 0, 0],
-        },
-        e: 1,
+// h: 1/√2 (1 1; 1 −1)
+pub const H: Core = Core {
+    low: Row {
+        own: [0, 1, 0, 0],
+        other: [0, 1, 0, 0],
     },
-    // x
-    Core {
-        low: Row {
-            own: [0; 4],
-            other: [1, 0, 0, 0],
-        },
-        high: Row {
-            own: [0; 4],
-            other: [1, 0, 0, 0],
-        },
-        e: 0,
+    high: Row {
+        own: [0, -1, 0, 0],
+        other: [0, 1, 0, 0],
     },
-    // y: (0 −i; i 0)
-    Core {
-        low: Row {
-            own: [0; 4],
-            other: [0, 0, -1, 0],
-        },
-        high: Row {
-            own: [0; 4],
-            other: [0, 0, 1, 0],
-        },
-        e: 0,
-    },
-    // sx: 1/2 (1 + i, 1 − i; 1 − i, 1 + i)
-    Core {
-        low: Row {
-            own: [1, 0, 1, 0],
-            other: [1, 0, -1, 0],
-        },
-        high: Row {
-            own: [1, 0, 1, 0],
-            other: [1, 0, -1, 0],
-        },
-        e: 1,
-    },
-    // measure's first and reset's: |0⟩⟨0|
-    Core {
-        low: Row {
-            own: [1, 0, 0, 0],
-            other: [0; 4],
-        },
-        high: Row {
-            own: [0; 4],
-            other: [0; 4],
-        },
-        e: 0,
-    },
-    // measure's second: |1⟩⟨1|
-    Core {
-        low: Row {
-            own: [0; 4],
-            other: [0; 4],
-        },
-        high: Row {
-            own: [1, 0, 0, 0],
-            other: [0; 4],
-        },
-        e: 0,
-    },
-    // reset's second: |0⟩⟨1|
-    Core {
-        low: Row {
-            own: [0; 4],
-            other: [1, 0, 0, 0],
-        },
-        high: Row {
-            own: [0; 4],
-            other: [0; 4],
-        },
-        e: 0,
-    },
-];
+    e: 1,
+};
 
-// Over 1 and over 2.
-static UNMIXED: [Unmixed; 2] = [
-    Unmixed {
-        kept: Row {
-            own: [1, 0, 0, 0],
-            other: [0; 4],
-        },
-        exchanged: Row {
-            own: [0; 4],
-            other: [1, 0, 0, 0],
-        },
+// x
+pub const X: Core = Core {
+    low: Row {
+        own: [0; 4],
+        other: [1, 0, 0, 0],
     },
-    Unmixed {
-        kept: Row {
-            own: [2, 0, 0, 0],
-            other: [0; 4],
-        },
-        exchanged: Row {
-            own: [0; 4],
-            other: [2, 0, 0, 0],
-        },
+    high: Row {
+        own: [0; 4],
+        other: [1, 0, 0, 0],
     },
-];
+    e: 0,
+};
 
-// The table of matrices, which is tested whole.
-fn cores() -> &'static [Core; 7]
-    ensures { are_cores result.now ≡ true }
-{
-    &CORES
-}
+// y: (0 −i; i 0)
+pub const Y: Core = Core {
+    low: Row {
+        own: [0; 4],
+        other: [0, 0, -1, 0],
+    },
+    high: Row {
+        own: [0; 4],
+        other: [0, 0, 1, 0],
+    },
+    e: 0,
+};
 
-// The other table, which is tested whole.
-fn unmixed_table() -> &'static [Unmixed; 2]
-    ensures { all_below 2 (is_unmixed result.now) ≡ true }
-{
-    &UNMIXED
-}
-
-// The rows over 2^e.
-pub fn unmixed_over(e: u32) -> &'static Unmixed
-    requires { e < 2 }
-    ensures { are_unmixed result.now e ≡ true }
-{
-    &unmixed_table()[e as usize]
-}
+// sx: 1/2 (1 + i, 1 − i; 1 − i, 1 + i)
+pub const SX: Core = Core {
+    low: Row {
+        own: [1, 0, 1, 0],
+        other: [1, 0, -1, 0],
+    },
+    high: Row {
+        own: [1, 0, 1, 0],
+        other: [1, 0, -1, 0],
+    },
+    e: 1,
+};
 
 // The phase diag(1, ω^k).
-fn phase_core(k: u32) -> Core
+#[inline(always)]
+pub fn phase_core(k: u32) -> Core
     ensures { result ≡ phase_core k }
 {
     let Scalar { n, e } = power(k);
@@ -212,16 +130,26 @@ fn place(kind: Kind, j: usize) -> usize
     }
 }
 
-// The two-by-two matrix of operator j: on the only qubit, or on the target; the identity for a swap.
-pub fn core_at(g: GateWords, n: u32, j: usize) -> Core
-    requires { Ready n (gate_of g) j }
-    ensures { is_core result (core_of (gate_of g) j) ≡ true }
+// The k of a gate whose matrix is the phase diag(1, ω^k).
+#[inline(always)]
+pub fn phase_at(g: GateWords) -> Option<u32>
+    requires { formed (gate_of g) ≡ true }
+    ensures { result ≡ phase_of g.kind g.k }
 {
     let Some(kind) = g.known_kind() else {
         unreachable!()
     };
-    match phase_of(kind, g.k) {
-        Some(k) => phase_core(k),
-        None => cores()[place(kind, j)],
-    }
+    phase_of(kind, g.k)
+}
+
+// Where the matrix of another gate's first operator stands.
+#[inline(always)]
+pub fn place_at(g: GateWords) -> usize
+    requires { formed (gate_of g) ≡ true }
+    ensures { result ≡ place g.kind 0 }
+{
+    let Some(kind) = g.known_kind() else {
+        unreachable!()
+    };
+    place(kind, 0)
 }

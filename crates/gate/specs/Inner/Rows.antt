@@ -1,10 +1,8 @@
 -- An operator by its rows as the code holds it: which row is chosen, and what its numerators stand for.
 use Rattle.std.specs.Prelude.{◌≡◌, Bool, cond, ℕ, ◌-◌, ◌/◌, ◌%◌, ◌^◌, ◌<◌, ◌≤◌, eqb, count_ones}
 use Rattle.std.specs.Int.Bits.{bit_and, bit_xor}
-use Rattle.exact.specs.Exact.{Number, number_of, list_of, Exact, lowest, narrow_exponent}
-use Rattle.exact.specs.Inner.Sizes.{Within, Coords, scaled}
-use Rattle.scalar.specs.Calls.{value}
-use Rattle.gate.specs.declared.rows.Pair.{Pair}
+use Rattle.exact.specs.Exact.{Number, number_of, Exact, lowest, narrow_exponent}
+use Rattle.exact.specs.Inner.Sizes.{Within, scaled}
 use Rattle.gate.specs.declared.rows.Row.{Row}
 use Rattle.gate.specs.declared.rows.Rows.{Rows}
 use Rattle.gate.specs.declared.rows.Choice.{Choice}
@@ -32,15 +30,6 @@ entry_in R i = lowest (numerators_in R i) R.exponent
 -- a number's numerators over 2^k
 abbrev pub over : ℕ → Exact → Number
 over k x = scaled x.num (k - x.exp)
-
-abbrev pub row_over : Pair → ℕ → Row
-row_over p k = record { own = list_of (over k (value p.own)); other = list_of (over k (value p.other)) }
-
--- both numbers of a pair are from −1 to 1, and over at most 2^k, which is that of a narrow number
-pub record Over (p : Pair) (k : ℕ) : Type 0 where
-  pub small : k ≤ narrow_exponent
-  pub own : Coords 1 k (value p.own)
-  pub other : Coords 1 k (value p.other)
 
 -- the first m entries are these numbers
 pub record Represents (R : Rows) (m : ℕ) (E : ℕ → Exact) : Type 0 where

@@ -1,5 +1,5 @@
 -- The matrices of the kinds: phases by the powers of ω, all others by where they stand in a table; the tables of rows, and the tests of them.
-use Rattle.std.specs.Prelude.{Bool, cond, not, ◌&&◌, ◌||◌, List, [], ◌∷◌, ℕ, suc, ℤ, pos, ◌+◌, ◌*◌, ◌^◌, eqb, leb, get_or, Option, Some, None, is_some}
+use Rattle.std.specs.Prelude.{Bool, cond, not, ◌&&◌, ◌||◌, List, [], ◌∷◌, ℕ, suc, ℤ, pos, negsuc, ◌+◌, ◌*◌, ◌^◌, eqb, leb, get_or, Option, Some, None, is_some}
 use Rattle.algebra.specs.Dyadic.{frac}
 use Rattle.algebra.specs.Lists.{all_below}
 use Rattle.exact.specs.Exact.{number_of, equal, omega}
@@ -66,16 +66,18 @@ each_of p kind k = not (takes kind k && supported (gate kind 0 0 0 k)) || all_be
 abbrev pub each_operator : (ℕ → ℕ → ℕ → Bool) → Bool
 each_operator p = all_below (suc last_kind) (λ (kind : ℕ). all_below 9 (each_of p kind))
 
--- of the kinds that are no phases, by the table
-abbrev pub is_operator : List Core → ℕ → ℕ → ℕ → Bool
-is_operator t kind k j = is_some (phase_of kind k) || is_core (get_or t (place kind j) no_core) (core_of (gate kind 0 0 0 k) j)
-
-abbrev pub are_cores : List Core → Bool
-are_cores t = each_operator (is_operator t)
-
--- the two rows over 2^k, and entry k of their table
+-- the two rows over 2^k
 abbrev pub are_unmixed : Unmixed → ℕ → Bool
 are_unmixed u k = is_row k u.kept kept && is_row k u.exchanged exchanged
 
-abbrev pub is_unmixed : List Unmixed → ℕ → Bool
-is_unmixed t k = are_unmixed (get_or t k (record { kept = no_row; exchanged = no_row })) k
+-- the first four of the table: those of h, x, y and sx
+abbrev pub first_cores : List Core
+first_cores =
+    record { low = record { own = pos 0 ∷ pos 1 ∷ pos 0 ∷ pos 0 ∷ []; other = pos 0 ∷ pos 1 ∷ pos 0 ∷ pos 0 ∷ [] }; high = record { own = pos 0 ∷ negsuc 0 ∷ pos 0 ∷ pos 0 ∷ []; other = pos 0 ∷ pos 1 ∷ pos 0 ∷ pos 0 ∷ [] }; e = 1 }
+    ∷ record { low = record { own = pos 0 ∷ pos 0 ∷ pos 0 ∷ pos 0 ∷ []; other = pos 1 ∷ pos 0 ∷ pos 0 ∷ pos 0 ∷ [] }; high = record { own = pos 0 ∷ pos 0 ∷ pos 0 ∷ pos 0 ∷ []; other = pos 1 ∷ pos 0 ∷ pos 0 ∷ pos 0 ∷ [] }; e = 0 }
+    ∷ record { low = record { own = pos 0 ∷ pos 0 ∷ pos 0 ∷ pos 0 ∷ []; other = pos 0 ∷ pos 0 ∷ negsuc 0 ∷ pos 0 ∷ [] }; high = record { own = pos 0 ∷ pos 0 ∷ pos 0 ∷ pos 0 ∷ []; other = pos 0 ∷ pos 0 ∷ pos 1 ∷ pos 0 ∷ [] }; e = 0 }
+    ∷ record { low = record { own = pos 1 ∷ pos 0 ∷ pos 1 ∷ pos 0 ∷ []; other = pos 1 ∷ pos 0 ∷ negsuc 0 ∷ pos 0 ∷ [] }; high = record { own = pos 1 ∷ pos 0 ∷ pos 1 ∷ pos 0 ∷ []; other = pos 1 ∷ pos 0 ∷ negsuc 0 ∷ pos 0 ∷ [] }; e = 1 }
+    ∷ []
+
+abbrev pub core_at : ℕ → Core
+core_at p = get_or first_cores p no_core

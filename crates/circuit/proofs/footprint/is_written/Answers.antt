@@ -15,7 +15,7 @@ After-writes = lts.After-writes tie.the-claims reads.Pre reads.Post goal.the-inv
 
 -- gate i writes the bit, or the answer is that of the gates after it
 here : (c : After-writes) → let a = c.args in
-    had a.words.now a.bit 0 ≡ c.writes.result || had a.words.now a.bit (c.loop-i.i + 1)
+    had a.words.now a.bit a.first ≡ c.writes.result || had a.words.now a.bit (c.loop-i.i + 1)
 here c =
     let a = c.args in
     c.loop-i.invariant ∙ written-more a.words.now a.bit c.loop-i.i (gate_of c.read_gate-g.result) c.writes.result c.loop-i-test.true c.read_gate-g.ensures c.writes.ensures

@@ -2,15 +2,15 @@
 use mathlib.Core.Path.{◌≡◌}
 use mathlib.Core.Bool.{Bool}
 use mathlib.Core.List.{List}
-use Prim.Native.Nat.{ℕ, ◌-◌, ◌/◌}
-use lib.ListN.{length}
+use Prim.Native.Nat.{ℕ}
 use Rattle.algebra.specs.Lists.{some}
-use Rattle.gate.specs.Gate.{Gate, gate_size, gates_from}
+use Rattle.gate.specs.Gate.{Gate}
 use Rattle.circuit.specs.Footprint.{writes}
+use Rattle.circuit.specs.Inner.Footprint.{gates_behind}
 use Rattle.circuit.proofs.footprint.is_written.Given as goal
 
 abbrev pub had : List ℕ → ℕ → ℕ → Bool
-had ws bit i = some (λ (g : Gate). writes g bit) (gates_from ws i (length ws / gate_size - i))
+had ws bit i = some (λ (g : Gate). writes g bit) (gates_behind ws i)
 
 abbrev pub invariant-loop-i : goal.invariant-loop-i
-invariant-loop-i l = had l.words l.bit 0 ≡ had l.words l.bit l.i
+invariant-loop-i l = had l.words l.bit l.first ≡ had l.words l.bit l.i
