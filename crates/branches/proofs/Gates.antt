@@ -1,31 +1,37 @@
 -- One gate in words: how many operators it has, what its step asks, and what it leaves.
 use mathlib.Core.Path.{◌≡◌, refl, sym, ap, ◌∙◌, subst, subst₂, fun_ext}
-use mathlib.Core.Bool.{Bool, true, false, cond}
+use mathlib.Core.Bool.{Bool, true, false, cond, ◌||◌}
 use mathlib.Core.List.{List, [], ◌∷◌}
 use Prim.Native.Nat.{ℕ, zero, suc, ◌+◌, ◌*◌, ◌-◌, ◌/◌, ◌%◌, ◌^◌, ◌≤◌, ◌<◌}
-use native.Mathlib.Nat.{mod-lt}
+use native.Mathlib.Nat.{mod-lt, le_of_eq}
 use native.Mathlib.Omega.{arith}
-use lib.Bits.{bit_xor}
-use lib.Pow.{pow_mono}
+use lib.Bits.{bit_and, bit_xor}
+use lib.Pow.{pow_mono, pow_pos}
 use lib.ListN.{length}
 use lib.IntN.{ℤ}
 use Rattle.std.specs.Prelude.{Some, None, eqb, unwrap_or}
 use Rattle.algebra.specs.Words.{blocks}
+use Rattle.algebra.specs.Inner.Apart.{Apart}
 use Rattle.exact.specs.Exact.{is_lowest, narrow_exponent}
 use Rattle.exact.specs.Inner.Sizes.{Coords}
 use Rattle.gate.specs.Gate.{Gate, elem, measure, reset, splits, bit_of}
 use Rattle.gate.specs.Operators.{operators}
-use Rattle.gate.specs.Inner.Entries.{flips, partner, row_entry}
+use Rattle.gate.specs.Inner.Entries.{flips, controls, core_of, partner, row_entry}
 use Rattle.gate.specs.declared.rows.Rows.{Rows}
 use Rattle.gate.specs.Inner.Rows.{entry_in, Represents}
-use Rattle.gate.proofs.Represented.{represented, sized}
+use Rattle.gate.specs.declared.tables.Core.{Core}
+use Rattle.gate.specs.Inner.Tables.{is_core, are_unmixed}
+use Rattle.gate.proofs.Masks.{masks-apart}
+use Rattle.gate.proofs.Partner.{row-two}
+use Rattle.gate.proofs.Represented.{represented, sized, core-small, gate-represented}
 use Rattle.kraus.proofs.Counting.{operators-length}
+use Rattle.branches.specs.declared.bank.Bank.{Bank}
 use Rattle.branches.specs.Inner.Store.{no_bit, outcome_bit}
 use Rattle.branches.specs.Inner.Bank.{branch_size}
-use Rattle.branches.specs.Inner.Step.{Step, operator_in, operator_number, product_words, step_words}
-use Rattle.branches.specs.Inner.Run.{gate_stepped, GateStep}
+use Rattle.branches.specs.Inner.Step.{Step, StepInPlace, MasksApart, unmixed, rows_by, operator_in, product_words, step_words, turned}
+use Rattle.branches.specs.Inner.Run.{gate_stepped, place_after, GateStep}
 use Rattle.branches.proofs.Products.{partner_lt, product_same}
-use Rattle.branches.proofs.Steps.{number_is}
+use Rattle.branches.proofs.Steps.{none_is}
 
 splits-one : (g : Gate) → splits g ≤ 1
 splits-one g = go (elem g.kind (measure ∷ reset ∷ []))
@@ -46,6 +52,20 @@ splits-none g e = operators-length g ∙ ap (λ (k : ℕ). 2 ^ k) e
 
 pub splits-some : (g : Gate) → (splits g ≡ 0 → ⊥) → length (operators g) ≡ 2
 splits-some g h = let e : splits g ≡ 1 = omega (arith, splits-one g, h) in operators-length g ∙ ap (λ (k : ℕ). 2 ^ k) e
+
+-- a gate that splits no branch leaves each in its place and writes no bit, and any other has its products in the other bank
+pub place-kept : (g : Gate) (from to : ℕ) → splits g ≡ 0 → from ≡ place_after g from to
+place-kept g from to e = ap (λ (k : ℕ). cond (eqb k 0) from to) (sym e)
+
+pub place-other : (g : Gate) (from to : ℕ) → (splits g ≡ 0 → ⊥) → to ≡ place_after g from to
+place-other g from to h = let e : splits g ≡ 1 = omega (arith, splits-one g, h) in ap (λ (k : ℕ). cond (eqb k 0) from to) (sym e)
+
+pub no_bit_is : (g : Gate) → splits g ≡ 0 → no_bit ≡ outcome_bit g
+no_bit_is g e = go (eqb g.kind measure) (eqb g.kind reset) (le_of_eq e)
+  where
+    go : (a b : Bool) → cond (a || (b || false)) 1 0 ≤ 0 → no_bit ≡ cond a g.b no_bit
+    go true b h = absurd (omega arith)
+    go false b h = refl
 
 -- the bit that a gate writes, as a number
 pub bit_is : (g : Gate) → unwrap_or (bit_of g) no_bit ≡ outcome_bit g
@@ -84,44 +104,82 @@ module _ {l : List ℤ} {g read : Gate} {n d from to count : ℕ} (p : GateStep 
       column : cond (eqb (i % 2) 0) (i / 2) (partner n g (i / 2)) < d
       column = elim (eqb (i % 2) 0) as (λ (b : Bool). cond b (i / 2) (partner n g (i / 2)) < d) [ true ↦ omega arith | false ↦ partner-lt (i / 2) (omega arith) ]
 
-  -- the number of a product's operator is its number's last digit
-  number : operator_number 0 (ops - 1) ≡ (λ (j : ℕ). j % ops)
-  number = number_is ops (operators-some g) (two-operators g)
+  pub gate_in_place : StepInPlace l m (operator_in first second) (k - 1) from d count
+  gate_in_place = record {
+    dim = omega (arith, p.dim, pow_mono {i = n} {j = 5} p.few);
+    below = λ r h. subst (λ (m : ℕ). bit_xor r m < d) (sym masks) (partner-lt r h);
+    sized = λ v h. let q : v < ops = omega (arith, ops_are, operators-some g) in sized (rows v q) (λ i hi. (entries v i q hi).0);
+    room = p.from_room;
+    factors = p.factors;
+  }
 
-  step_ready : Step l m R (ops - 1 + 1) (operator_number 0 (ops - 1)) ops from to d count
-  step_ready =
-      let some = operators-some g in
-      let all : ops - 1 + 1 ≡ ops = omega arith in
-      subst₂ (λ (held : ℕ) (v : ℕ → ℕ). Step l m R held v ops from to d count) (sym all) (sym number) record {
-        dim = omega (arith, p.dim, pow_mono {i = n} {j = 5} p.few);
-        below = λ r h. subst (λ (m : ℕ). bit_xor r m < d) (sym masks) (partner-lt r h);
-        some_op = some;
-        few_ops = two-operators g;
-        number = λ j h. mod-lt j some;
-        few_held = two-operators g;
-        sized = λ v h. sized (rows v h) (λ i hi. (entries v i h hi).0);
-        from_room = p.from_room;
-        to_room = p.to_room;
-        from_apart = p.from_apart;
-        factors = p.factors;
-        stores = p.stores;
-      }
-
-  pub gate_ready : Step l m (operator_in first second) (k - 1 + 1) (operator_number 0 (k - 1)) k from to d count
-  gate_ready = subst (λ (k : ℕ). Step l m R (k - 1 + 1) (operator_number 0 (k - 1)) k from to d count) ops_are step_ready
+  pub gate_splits : k ≡ 2 → Step l m (operator_in first second) from to d count
+  gate_splits two = record {
+    branches = subst (λ (k : ℕ). StepInPlace l m R (k - 1) from d count) two gate_in_place;
+    to_room = subst (λ (k : ℕ). to + count * k * branch_size d ≤ length l) (ops_are ∙ two) p.to_room;
+    from_apart = subst (λ (k : ℕ). Apart from (count * branch_size d) to (count * k * branch_size d)) (ops_are ∙ two) p.from_apart;
+    stores = p.stores;
+  }
 
   -- each product is one with an operator of the gate
-  words : (bit j : ℕ) → step_words l m (λ (v : ℕ). entry_in (R v)) (operator_number 0 (ops - 1)) ops from d bit j ≡ step_words l (flips n g) (row_entry n g) (λ (j : ℕ). j % ops) ops from d bit j
+  words : (bit j : ℕ) → step_words l m (λ (v : ℕ). entry_in (R v)) (λ (j : ℕ). j % ops) ops from d bit j ≡ step_words l (flips n g) (row_entry n g) (λ (j : ℕ). j % ops) ops from d bit j
   words bit j =
       let v = j % ops in
       let h : v < ops = mod-lt j (operators-some g) in
       let old = from + j / ops * branch_size d in
-      (λ i. product_words l (masks i) (entry_in (R (number i j))) old d bit (number i j))
-      ∙ product_same l (flips n g) old d bit v (λ i hi. represented (rows v h) i hi (entries v i h hi).1)
+      (λ i. product_words l (masks i) (entry_in (R v)) old d bit v) ∙ product_same l (flips n g) old d bit v (λ i hi. represented (rows v h) i hi (entries v i h hi).1)
 
-  pub gate_done : {q : List ℤ} {bit : ℕ} → bit ≡ outcome_bit read → q ≡ blocks (branch_size d) l to (count * k) (step_words l m (λ (v : ℕ). entry_in (operator_in first second v)) (operator_number 0 (k - 1)) k from d bit)
-      → q ≡ gate_stepped l n d from to count g
-  gate_done {bit = bit} u h =
-      h ∙ ap (λ (k : ℕ). blocks (branch_size d) l to (count * k) (step_words l m (λ (v : ℕ). entry_in (R v)) (operator_number 0 (k - 1)) k from d bit)) (sym ops_are)
-      ∙ ap (blocks (branch_size d) l to (count * ops)) (fun_ext (words bit))
-      ∙ ap (λ (bit : ℕ). blocks (branch_size d) l to (count * ops) (step_words l (flips n g) (row_entry n g) (λ (j : ℕ). j % ops) ops from d bit)) (u ∙ ap outcome_bit e)
+  -- the bank that the products are in, and their words
+  pub gate_done : {q : List ℤ} {at total bit : ℕ} {number : ℕ → ℕ} → at ≡ place_after read from to → total ≡ count * k → number ≡ (λ (j : ℕ). j % k) → bit ≡ outcome_bit read
+      → q ≡ blocks (branch_size d) l at total (step_words l m (λ (v : ℕ). entry_in (operator_in first second v)) number k from d bit)
+      → ◌≡◌ {A = Bank} (record { at = at; d = d; count = total }) (record { at = place_after g from to; d = d; count = count * length (operators g) }) × (q ≡ gate_stepped l n d from (place_after g from to) count g)
+  gate_done {at = at} {total = total} {bit = bit} {number = number} a t v u h = (
+    λ i. record { at = place i; d = d; count = number_of i },
+    h ∙ (λ i. blocks (branch_size d) l (place i) (number_of i) (step_words l m (λ (v : ℕ). entry_in (R v)) (digit i) (sym ops_are i) from d (written i)))
+        ∙ ap (blocks (branch_size d) l (place_after g from to) (count * ops)) (fun_ext (words (outcome_bit g))),
+  )
+    where
+      place : at ≡ place_after g from to
+      place = a ∙ ap (λ (g : Gate). place_after g from to) e
+
+      number_of : total ≡ count * ops
+      number_of = t ∙ ap (λ (k : ℕ). count * k) (sym ops_are)
+
+      written : bit ≡ outcome_bit g
+      written = u ∙ ap outcome_bit e
+
+      digit : number ≡ (λ (j : ℕ). j % ops)
+      digit = v ∙ ap (λ (k : ℕ). λ (j : ℕ). j % k) (sym ops_are)
+
+-- ---- a gate that splits nothing, by its two-by-two matrix c
+unmixed-tested : (e : ℕ) → e ≤ 1 → are_unmixed (unmixed e) e ≡ true
+unmixed-tested zero h = refl
+unmixed-tested (suc zero) h = refl
+unmixed-tested (suc (suc e)) h = absurd (omega arith)
+
+module _ {l : List ℤ} {g : Gate} {n d from to count : ℕ} (p : GateStep l g n d from to count) (none : splits g ≡ 0) (c : Core) (tested : is_core c (core_of g 0) ≡ true) {m held : ℕ}
+    (m_is : m ≡ flips n g) (held_is : held ≡ controls n g) where
+  abbrev by_core : Rows
+  by_core = rows_by held m c
+
+  rows_are : Represents by_core (2 ^ n * 2) (row_entry n g 0)
+  rows_are = gate-represented p.ready c tested p.few m_is held_is (unmixed-tested c.e (core-small p.ready c tested))
+
+  pub turning_asked : MasksApart held m × StepInPlace l m (operator_in by_core by_core) 0 from d count
+  turning_asked = (
+    record { some = omega (arith, m_is, (row-two p.ready p.few 0 (pow_pos n)).other); apart = (λ i. bit_and (m_is i) (held_is i)) ∙ masks-apart p.ready p.few },
+    gate_in_place p refl m_is (splits-none g none) rows_are (λ h. absurd (omega arith)),
+  )
+
+  pub turning_done : {q : List ℤ} → q ≡ turned l m by_core from d count → q ≡ gate_stepped l n d from from count g
+  turning_done h =
+      (gate_done p refl m_is (splits-none g none) rows_are (λ h. absurd (omega arith)) (place-kept g from to none) (omega arith) (none_is 0) (no_bit_is g none) h).1
+      ∙ ap (λ (k : ℕ). gate_stepped l n d from k count g) (sym (place-kept g from to none))
+
+-- ---- what a step leaves, said of the gate that was read
+pub gate_left : (l : List ℤ) (n d from to count : ℕ) {read g : Gate} → read ≡ g → {at total : ℕ} → at ≡ place_after read from to → total ≡ count * length (operators read) → {q : List ℤ} → q ≡ gate_stepped l n d from at count read
+    → ◌≡◌ {A = Bank} (record { at = at; d = d; count = total }) (record { at = place_after g from to; d = d; count = count * length (operators g) }) × (q ≡ gate_stepped l n d from (place_after g from to) count g)
+gate_left l n d from to count {read} e {at} {total} a t h =
+    let place = a ∙ ap (λ (g : Gate). place_after g from to) e in
+    let number = t ∙ ap (λ (g : Gate). count * length (operators g)) e in
+    (λ i. record { at = place i; d = d; count = number i }, h ∙ (λ i. gate_stepped l n d from (place i) count (e i)))

@@ -4,7 +4,12 @@ pub mod Identity
 pub mod Numerators
 pub mod Products
 pub mod Applied
+pub mod Pairs
+pub mod Chosen
 pub mod Gates
 pub mod Steps
+pub mod Projections
+pub mod Splits
+pub mod InPlace
 pub mod Link
 pub mod Runs

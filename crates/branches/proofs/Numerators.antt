@@ -1,5 +1,5 @@
 -- The numerators of an operator times a matrix: their value, their sizes, and that the same words have the same.
-use mathlib.Core.Path.{◌≡◌, sym, ap, ap₂, ◌∙◌}
+use mathlib.Core.Path.{◌≡◌, sym, ap, ap₂, ◌∙◌, subst}
 use mathlib.Core.Bool.{Bool, true, false, cond}
 use mathlib.Core.List.{List}
 use Prim.Native.Nat.{ℕ, ◌+◌, ◌*◌, ◌/◌, ◌%◌, ◌^◌, ◌≤◌, ◌<◌}
@@ -17,6 +17,7 @@ use Rattle.algebra.proofs.Quadratic.{ℤ√2i}
 use Rattle.algebra.proofs.Dyadic.{value-add, value-mul}
 use Rattle.algebra.proofs.Signed.{back, word_is}
 use Rattle.algebra.proofs.Blocks.{Same, part, block_in_lem}
+use Rattle.algebra.proofs.Squares.{row_lt, column_lt}
 use Rattle.exact.specs.Exact.{numbers, Exact, exact, lowest, narrow_exponent, narrow_numerator, number_of}
 use Rattle.exact.specs.Inner.Sizes.{Within}
 use Rattle.exact.proofs.Exact.{exact_halving}
@@ -26,7 +27,8 @@ use Rattle.gate.specs.declared.rows.Rows.{Rows}
 use Rattle.gate.specs.Inner.Rows.{row_in, numerators_in, entry_in, Sized}
 use Rattle.share.specs.Share.{number_in}
 use Rattle.share.proofs.Numbers.{number_same}
-use Rattle.rows.specs.Inner.Rows.{exponent_in, Factors}
+use Rattle.rows.specs.Inner.Rows.{held_words, exponent_in, Factors, combined_row}
+use Rattle.rows.proofs.Held.{words_same}
 use Rattle.branches.specs.Inner.Bank.{matrix_size}
 use Rattle.branches.specs.Inner.Step.{entry_at, row_numerators, row_sum}
 
@@ -74,6 +76,23 @@ module _ (R : Rows) (r : ℕ) where
 pub entry-narrow : {R : Rows} {m : ℕ} → Sized R m → (i : ℕ) → i < m → Within narrow_numerator (numerators_in R i)
 entry-narrow {R} h i q = widen (2 ^ R.exponent) narrow_numerator (numerators_in R i) (pow_mono h.small) (h.sizes i q)
 
+-- a row as the code reads it
+module _ {R : Rows} {d : ℕ} (sized : Sized R (d * 2)) {r : ℕ} (h : r < d) {x : Row} (e : x ≡ row_in R r) where
+  pub own_narrow : Within narrow_numerator (number_of x.own)
+  own_narrow = subst (Within narrow_numerator) (sym (own_is R r) ∙ ap (λ (x : Row). number_of x.own) (sym e)) (entry-narrow sized (r * 2) (omega arith))
+
+  pub other_narrow : Within narrow_numerator (number_of x.other)
+  other_narrow = subst (Within narrow_numerator) (sym (other-is R r) ∙ ap (λ (x : Row). number_of x.other) (sym e)) (entry-narrow sized (r * 2 + 1) (omega arith))
+
+-- and what it makes of two rows of numbers that are as they were
+pub row_made : (l b : List ℤ) (m : ℕ) (R : Rows) (old d r c : ℕ) {x : Row} → x ≡ row_in R r → number_in b (old + r * d * 4 + c * 4) ≡ number_in l (old + r * d * 4 + c * 4)
+    → number_in b (old + bit_xor r m * d * 4 + c * 4) ≡ number_in l (old + bit_xor r m * d * 4 + c * 4)
+    → combined_row b (number_of x.own) (old + r * d * 4) (number_of x.other) (old + bit_xor r m * d * 4) c ≡ row_numerators l m R old d r c
+row_made l b m R old d r c e own other =
+    let p = ap (λ (x : Row). number_of x.own) e ∙ own_is R r in
+    let q = ap (λ (x : Row). number_of x.other) e ∙ other-is R r in
+    λ i. numbers.◌⊕◌ (numbers.◌⊗◌ (p i) (own i)) (numbers.◌⊗◌ (q i) (other i))
+
 -- a matrix of factors
 module _ {l : List ℤ} {at n : ℕ} (p : Factors l at n) where
   pub exponent_small : exponent_in l at n ≤ narrow_exponent
@@ -98,5 +117,8 @@ module _ {l b : List ℤ} {old : ℕ} (d : ℕ) (matrix : Same b l old (matrix_s
   entry-same : (k c : ℕ) → k < d → c < d → entry_at b old d k c ≡ entry_at l old d k c
   entry-same k c hk hc = ap₂ lowest (numbers-same k c hk hc) (ap nat_abs (matrix.word (old + d * d * 4) (omega arith) (omega arith)))
 
-  pub sum_same : (m : ℕ) (E : ℕ → Exact) (r c : ℕ) → r < d → c < d → bit_xor r m < d → row_sum b m E old d r c ≡ row_sum l m E old d r c
-  sum_same m E r c hr hc hs = λ i. exact.◌⊕◌ (exact.◌⊗◌ (E (r * 2)) (entry-same r c hr hc i)) (exact.◌⊗◌ (E (r * 2 + 1)) (entry-same (bit_xor r m) c hs hc i))
+  pub sums_same : (m : ℕ) (E : ℕ → Exact) → ((r : ℕ) → r < d → bit_xor r m < d) → held_words (d * d) (λ (i : ℕ). row_sum b m E old d (i / d) (i % d)) ≡ held_words (d * d) (λ (i : ℕ). row_sum l m E old d (i / d) (i % d))
+  sums_same m E below = words_same (d * d) _ _ (λ k h. sum (k / d) (k % d) (row_lt k d h) (column_lt k d h))
+    where
+      sum : (r c : ℕ) → r < d → c < d → row_sum b m E old d r c ≡ row_sum l m E old d r c
+      sum r c hr hc = λ i. exact.◌⊕◌ (exact.◌⊗◌ (E (r * 2)) (entry-same r c hr hc i)) (exact.◌⊗◌ (E (r * 2 + 1)) (entry-same (bit_xor r m) c (below r hr) hc i))

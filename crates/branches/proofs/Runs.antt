@@ -1,12 +1,13 @@
 -- A circuit run gate by gate: what holds of the buffer after i gates, what the next gate may ask, and what it leaves.
 use mathlib.Core.Path.{◌≡◌, refl, sym, ap, ◌∙◌, subst}
-use mathlib.Core.Bool.{true}
+use mathlib.Core.Bool.{Bool, true, false, cond}
 use mathlib.Core.Logic.{◌⊎◌, inl, inr, ⊎_elim}
 use mathlib.Core.List.{List, [], ◌∷◌, foldl-append}
 use Prim.Native.Nat.{ℕ, ◌+◌, ◌*◌, ◌-◌, ◌/◌, ◌%◌, ◌^◌, ◌≤◌, ◌<◌}
 use native.Mathlib.Nat.{mul-le-mul, le_refl, le_of_eq, add-mul, mul_assoc, zero-add}
 use native.Mathlib.Numerals.{add-one}
 use native.Mathlib.Omega.{arith}
+use lib.Dec.{eqb}
 use lib.Pow.{pow_mono, pow_pos}
 use lib.ListN.{length, get_or, take, get_or-append}
 use lib.Seq.{sets, take-suc, take_all, length-sets}
@@ -27,7 +28,7 @@ use Rattle.kraus.proofs.Limits.{Enough, kraus_exponent, circuit_enough}
 use Rattle.branches.specs.Inner.Store.{outcome_bit}
 use Rattle.branches.specs.Inner.Bank.{branch_size, slot_size, branch_words, bank_words, identity_branch, Holds}
 use Rattle.branches.specs.Inner.Step.{step_words}
-use Rattle.branches.specs.Inner.Run.{work_size, gate_stepped, GateStep, Runs, Ran}
+use Rattle.branches.specs.Inner.Run.{work_size, place_after, gate_stepped, GateStep, Runs, Ran}
 use Rattle.branches.proofs.Banks.{length-branch, length-bank}
 use Rattle.branches.proofs.Steps.{length-product}
 use Rattle.branches.proofs.Gates.{operators-some}
@@ -39,6 +40,16 @@ branch_fits d h = omega (arith, mul-le-mul h h)
 -- the work buffer has room for two banks
 pub work_room : (d banks : ℕ) → 1 ≤ d → 2 * (banks * branch_size d) ≤ work_size d banks
 work_room d banks h = omega (arith, add-mul (2 * banks) 2 (slot_size d), mul_assoc 2 banks (slot_size d), mul-le-mul (le_refl banks) (branch_fits d h))
+
+-- ---- two banks, one after the other
+-- what stays in its bank, or goes to the other, lies in one of them
+pub in_bank : {bank from at : ℕ} (b : Bool) → at ≡ cond b from (bank - from) → (from ≡ 0) ⊎ (from ≡ bank) → (at ≡ 0) ⊎ (at ≡ bank)
+in_bank true a p = ⊎_elim (λ e. inl (a ∙ e)) (λ e. inr (a ∙ e)) p
+in_bank false a p = ⊎_elim (λ e. inr (omega arith)) (λ e. inl (omega arith)) p
+
+-- and what is no longer than a bank ends within both
+pub ends_within : {bank at size : ℕ} → (at ≡ 0) ⊎ (at ≡ bank) → size ≤ bank → at + size ≤ 2 * bank
+ends_within p h = ⊎_elim (λ e. omega arith) (λ e. omega arith) p
 
 -- the buffer after i gates: their branches at `from`
 pub record Running (l₀ : List ℤ) (ws : List ℕ) (σ : Store) (n d banks : ℕ) (l : List ℤ) (from count i : ℕ) : Type 0 where
@@ -104,9 +115,6 @@ module _ {l₀ : List ℤ} {ws : List ℕ} {σ : Store} {n banks : ℕ} (r : Run
     abbrev ops : ℕ
     ops = length (operators g)
 
-    abbrev to : ℕ
-    to = bank - from
-
     abbrev none : Gate
     none = gate_at ws 0
 
@@ -129,9 +137,6 @@ module _ {l₀ : List ℤ} {ws : List ℕ} {σ : Store} {n banks : ℕ} (r : Run
     next-length : length (after (i + 1)) ≡ length (after i) * ops
     next-length = ap length next ∙ gate-length n (length σ) g ok (identity_branch d σ) (after i)
 
-    from_le : from ≤ bank
-    from_le = ⊎_elim (λ e. omega arith) (λ e. omega arith) w.place
-
     count-size : count * size ≤ bank
     count-size = omega (arith, bank_le i, ap (λ (k : ℕ). k * size) w.counted)
 
@@ -143,9 +148,6 @@ module _ {l₀ : List ℤ} {ws : List ℕ} {σ : Store} {n banks : ℕ} (r : Run
 
     room : 2 * bank ≤ length l
     room = omega (arith, r.room, work_room d banks (pow_pos n), w.same_length)
-
-    to_room : to + count * ops * size ≤ 2 * bank
-    to_room = omega (arith, next-size, from_le)
 
     words : All (λ (b : Branch). Word (length σ) b.store) (after i)
     words = branches-bits n σ (take i (gates_of ws)) r.bits
@@ -163,26 +165,33 @@ module _ {l₀ : List ℤ} {ws : List ℕ} {σ : Store} {n banks : ℕ} (r : Run
       dim = refl;
       ready = valid_ready n (length σ) g 0 ok (operators-some g);
       entries = step_entries n (length σ) g ok z (after i);
-      from_room = omega (arith, count-size, from_le, room);
-      to_room = omega (arith, to_room, room);
+      from_room = omega (arith, ends_within w.place count-size, room);
+      to_room = omega (arith, next-size, room);
       from_apart = ⊎_elim (λ e. inl (omega (arith, count-size))) (λ e. inr (omega (arith, next-size))) w.place;
       factors = λ b hb. step_factors n (length σ) g ok z (after i) w.held enough (omega arith) b (omega (arith, w.counted));
       stores = λ b hb. step-store n (length σ) g ok z (after i) w.held enough words r.short b (omega (arith, w.counted));
     }
 
-    running_more : {q : List ℤ} {c : ℕ} → c ≡ count * length (operators (gate_at ws (i * gate_size))) → q ≡ gate_stepped l n (2 ^ n) from (banks * branch_size (2 ^ n) - from) count (gate_at ws (i * gate_size))
-        → Running l₀ ws σ n (2 ^ n) banks q (banks * branch_size (2 ^ n) - from) c (i + 1)
-    running_more {q} p e = record {
+    -- the products lie in one of the banks
+    running_more : {q : List ℤ} {c at : ℕ} → c ≡ count * length (operators (gate_at ws (i * gate_size))) → at ≡ place_after (gate_at ws (i * gate_size)) from (banks * branch_size (2 ^ n) - from)
+        → q ≡ gate_stepped l n (2 ^ n) from at count (gate_at ws (i * gate_size)) → Running l₀ ws σ n (2 ^ n) banks q at c (i + 1)
+    running_more {q} {at = at} p a e = record {
       below = omega arith;
       counted = p ∙ next-count;
-      held = subst (λ (bs : List Branch). Holds q to (bank_words d bs)) (sym next)
-          (step_held n (length σ) g ok z (after i) w.held enough words r.short r.few (e ∙ ap (λ (k : ℕ). gate_stepped l n d from to k g) w.counted) (omega (arith, to_room, room, ap (λ (k : ℕ). k * ops * size) w.counted)));
-      place = ⊎_elim (λ e. inr (omega arith)) (λ e. inl (omega arith)) w.place;
+      held = subst (λ (bs : List Branch). Holds q at (bank_words d bs)) (sym next)
+          (step_held n (length σ) g ok z (after i) w.held enough words r.short r.few (e ∙ ap (λ (k : ℕ). gate_stepped l n d from at k g) w.counted) (omega (arith, at_room, room, ap (λ (k : ℕ). k * ops * size) w.counted)));
+      place = place;
       same_length = long after-step ∙ w.same_length;
-      past = λ k hk. (kept after-step k 1 (inr (omega (arith, to_room, hk, work_room d banks (pow_pos n))))).word k (omega arith) (omega arith) ∙ w.past k hk;
+      past = λ k hk. (kept after-step k 1 (inr (omega (arith, at_room, hk, work_room d banks (pow_pos n))))).word k (omega arith) (omega arith) ∙ w.past k hk;
     }
       where
-        after-step : Writing size l to (count * ops) (step_words l (flips n g) (row_entry n g) (λ (j : ℕ). j % ops) ops from d (outcome_bit g)) q (count * ops)
+        place : (at ≡ 0) ⊎ (at ≡ bank)
+        place = in_bank (eqb (splits g) 0) a w.place
+
+        at_room : at + count * ops * size ≤ 2 * bank
+        at_room = ends_within place next-size
+
+        after-step : Writing size l at (count * ops) (step_words l (flips n g) (row_entry n g) (λ (j : ℕ). j % ops) ops from d (outcome_bit g)) q (count * ops)
         after-step = wrote (λ j. le_of_eq (length-product l (flips n g) (row_entry n g (j % ops)) (from + j / ops * size) d (outcome_bit g) (j % ops))) e
 
 -- ---- the same with the number of rows, and the size of a bank, as they are handed over
@@ -220,10 +229,9 @@ module _ {l₀ : List ℤ} {ws : List ℕ} {σ : Store} {n d banks : ℕ} (r₀ 
         (subst (λ (d : ℕ). Runs b ws σ n d banks → Running b ws σ n d banks l from count i → GateStep l (gate_at ws (i * gate_size)) n d from (banks * branch_size d - from) count) (sym r₀.dim)
         (λ r w. running_ready r w h) runs w)
 
-    pub more : {q : List ℤ} {c : ℕ} → c ≡ count * length (operators (gate_at ws (i * gate_size))) → q ≡ gate_stepped l n d from (banks * size - from) count (gate_at ws (i * gate_size))
-        → Running b ws σ n d banks q (banks * size - from) c (i + 1)
-    more {q} {c} p =
-        subst (λ (s : ℕ). q ≡ gate_stepped l n d from (banks * s - from) count (gate_at ws (i * gate_size)) → Running b ws σ n d banks q (banks * s - from) c (i + 1)) (sym e)
-        (subst (λ (d : ℕ). Runs b ws σ n d banks → Running b ws σ n d banks l from count i
-        → q ≡ gate_stepped l n d from (banks * branch_size d - from) count (gate_at ws (i * gate_size)) → Running b ws σ n d banks q (banks * branch_size d - from) c (i + 1)) (sym r₀.dim)
-        (λ r w f. running_more r w h p f) runs w)
+    pub more : {q : List ℤ} {c at : ℕ} → c ≡ count * length (operators (gate_at ws (i * gate_size))) → at ≡ place_after (gate_at ws (i * gate_size)) from (banks * size - from)
+        → q ≡ gate_stepped l n d from at count (gate_at ws (i * gate_size)) → Running b ws σ n d banks q at c (i + 1)
+    more {q} {c} {at} p a f =
+        subst (λ (d : ℕ). Runs b ws σ n d banks → Running b ws σ n d banks l from count i → at ≡ place_after (gate_at ws (i * gate_size)) from (banks * branch_size d - from)
+        → q ≡ gate_stepped l n d from at count (gate_at ws (i * gate_size)) → Running b ws σ n d banks q at c (i + 1)) (sym r₀.dim)
+        (λ r w a f. running_more r w h p a f) runs w (a ∙ ap (λ (s : ℕ). place_after (gate_at ws (i * gate_size)) from (banks * s - from)) e) f

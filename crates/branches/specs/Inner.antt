@@ -2,4 +2,5 @@
 pub mod Store
 pub mod Bank
 pub mod Step
+pub mod Project
 pub mod Run

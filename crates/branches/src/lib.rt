@@ -3,5 +3,7 @@
 
 pub mod apply;
 pub mod bank;
+pub mod cores;
 pub mod outcome;
+pub mod project;
 pub mod run;

@@ -19,7 +19,7 @@ use Rattle.pauli_nodes.specs.Operations.{Operation, axis, splits}
 use Rattle.pauli_nodes.specs.Inner.Masks.{Mask, ref_mask}
 use Rattle.pauli_words.specs.Words.{operation_of, operations_of}
 use Rattle.pauli_program.specs.Program.{program_branches}
-use Rattle.pauli_run.specs.Inner.Operators.{stepped}
+use Rattle.pauli_run.specs.Inner.Operators.{place_after, stepped}
 use Rattle.pauli_run.specs.Inner.Run.{Operating, Runs, Ran}
 use Rattle.pauli_run.proofs.Running.{Running, first_fits, running_begin, running_ready, running_more}
 
@@ -46,15 +46,16 @@ module _ {b : List ℤ} {ws : List ℕ} {ms : List Mask} {σ : Store} {n d banks
           (sym r₀.dim)
           (λ r w. running_ready r w h) r₀ w))
 
-      pub more : {q : List ℤ} {c s : ℕ} → c ≡ count * 2 ^ splits x → s ≡ made + splits x
-          → q ≡ stepped l d (ref_mask ms (axis x)) made from (banks * size - from) count x → Running b ws σ n d banks nodes q (banks * size - from) c s (i + 1)
-      more {q} {c} {s} p f g =
-          subst (λ (z : ℕ). Running b ws σ n d banks nodes q (banks * z - from) c s (i + 1)) (sym e)
-          (subst (λ (d : ℕ). Runs b ws ms σ n d banks nodes → Running b ws σ n d banks nodes l from count made i
-          → q ≡ stepped l d (ref_mask ms (axis (operation_of (gate_at ws (i * gate_size))))) made from (banks * branch_size d - from) count (operation_of (gate_at ws (i * gate_size)))
-          → Running b ws σ n d banks nodes q (banks * branch_size d - from) c s (i + 1)) (sym r₀.dim)
-          (λ r w g. running_more r w h (p ∙ ap (λ (x : Operation). count * 2 ^ splits x) read) (f ∙ ap (λ (x : Operation). made + splits x) read) g) r₀ w
-          (g ∙ (λ t. stepped l d (ref_mask ms (axis (read t))) made from (banks * e t - from) count (read t))))
+      pub more : {q : List ℤ} {c s at : ℕ} → c ≡ count * 2 ^ splits x → s ≡ made + splits x → at ≡ place_after x from (banks * size - from)
+          → q ≡ stepped l d (ref_mask ms (axis x)) made from at count x → Running b ws σ n d banks nodes q at c s (i + 1)
+      more {q} {c} {s} {at} p f a g =
+          subst (λ (d : ℕ). Runs b ws ms σ n d banks nodes → Running b ws σ n d banks nodes l from count made i
+          → at ≡ place_after (operation_of (gate_at ws (i * gate_size))) from (banks * branch_size d - from)
+          → q ≡ stepped l d (ref_mask ms (axis (operation_of (gate_at ws (i * gate_size))))) made from at count (operation_of (gate_at ws (i * gate_size)))
+          → Running b ws σ n d banks nodes q at c s (i + 1)) (sym r₀.dim)
+          (λ r w a g. running_more r w h (p ∙ ap (λ (x : Operation). count * 2 ^ splits x) read) (f ∙ ap (λ (x : Operation). made + splits x) read) a g) r₀ w
+          (a ∙ (λ t. place_after (read t) from (banks * e t - from)))
+          (g ∙ (λ t. stepped l d (ref_mask ms (axis (read t))) made from at count (read t)))
 
 module _ {l₀ b : List ℤ} {ws : List ℕ} {ms : List Mask} {σ : Store} {n d banks : ℕ} {nodes : List Node} (r₀ : Runs l₀ ws ms σ n d banks nodes) (start_is : b ≡ sets l₀ 0 (branch_words d (identity_branch d σ))) where
   same : length b ≡ length l₀

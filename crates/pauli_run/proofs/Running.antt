@@ -7,6 +7,7 @@ use native.Mathlib.Nat.{mul-le-mul, le_refl, le_of_eq, zero-add, div-lt_iff_lt-m
 use native.Mathlib.Numerals.{add-one}
 use native.Mathlib.Omega.{arith}
 use lib.Arith.{digits_lt}
+use lib.Dec.{eqb}
 use lib.Pow.{pow_mono, pow_pos}
 use lib.ListN.{length, get_or, take, drop, length-map, get_or-map, get_or-append}
 use lib.Seq.{sets, take-suc, length-sets}
@@ -35,11 +36,12 @@ use Rattle.branches.specs.Inner.Store.{store_words, outcome_pair}
 use Rattle.branches.specs.Inner.Bank.{branch_size, branch_words, bank_words, identity_branch, Holds}
 use Rattle.branches.specs.Inner.Step as step
 use Rattle.branches.specs.Inner.Step.{row_sum, step_words}
+use Rattle.branches.proofs.Runs.{in_bank, ends_within}
 use Rattle.branches.proofs.Banks.{length-branch, length-bank, held_blocks, bank_held, bank_factors, bank-low, bank_high, store_at, table_words}
 use Rattle.branches.proofs.Stores.{store-written}
 use Rattle.branches.proofs.Steps.{length-product}
 use Rattle.pauli_nodes.specs.Nodes.{Node, axis_matrix}
-use Rattle.pauli_nodes.specs.Operations.{Operation, rotate, rotate_if, measure, axis, bits, splits}
+use Rattle.pauli_nodes.specs.Operations.{Operation, axis, bits, splits}
 use Rattle.pauli_nodes.specs.Inner.Masks.{Mask, mask_matrix, ref_mask, node_mask}
 use Rattle.pauli_nodes.specs.Inner.Laws.{InRange}
 use Rattle.pauli_nodes.proofs.Nodes.{axes_are_masks, masks_in-range}
@@ -49,7 +51,7 @@ use Rattle.pauli_program.specs.Operators.{mixed}
 use Rattle.pauli_program.specs.Program.{Path, operation_step, paths, program_branches}
 use Rattle.pauli_program.proofs.Counting.{step-length, program_count, program_marked}
 use Rattle.pauli_program.proofs.Whole.{program_enough}
-use Rattle.pauli_run.specs.Inner.Operators.{Seen, chosen, coefficients_of, operator_of, shift_of, bit_of, rows_entry, stepped}
+use Rattle.pauli_run.specs.Inner.Operators.{chosen, coefficients_of, operator_of, shift_of, bit_of, rows_entry, place_after, stepped}
 use Rattle.branches.specs.Inner.Run.{banks_size}
 use Rattle.pauli_run.specs.Inner.Run.{Fits, Operating, Runs}
 use Rattle.pauli_run.proofs.Forms.{own-lowest}
@@ -146,9 +148,6 @@ module _ {l₀ : List ℤ} {ws : List ℕ} {ms : List Mask} {σ : Store} {n bank
     abbrev ops : ℕ
     ops = 2 ^ splits (operation_of (gate_at ws (i * gate_size)))
 
-    abbrev to : ℕ
-    to = bank - from
-
     abbrev bs : List Branch
     bs = after i
 
@@ -199,9 +198,6 @@ module _ {l₀ : List ℤ} {ws : List ℕ} {ms : List Mask} {σ : Store} {n bank
         total_append [] x = omega arith
         total_append (y ∷ xs) x = omega (arith, total_append xs x)
 
-    from_le : from ≤ bank
-    from_le = ⊎_elim (λ e. omega arith) (λ e. omega arith) w.place
-
     count-size : count * size ≤ bank
     count-size = omega (arith, bank_le i, ap (λ (k : ℕ). k * size) w.counted)
 
@@ -213,9 +209,6 @@ module _ {l₀ : List ℤ} {ws : List ℕ} {ms : List Mask} {σ : Store} {n bank
 
     room : 2 * bank ≤ length l
     room = omega (arith, r.room, w.same_length)
-
-    to_room : to + count * ops * size ≤ 2 * bank
-    to_room = omega (arith, next-size, from_le)
 
     words : All (λ (b : Branch). Word (length σ) b.store) bs
     words = marked-bits _ (take i os) σ r.bytes bs (program_marked n nodes σ (take i os) r.bytes)
@@ -238,23 +231,14 @@ module _ {l₀ : List ℤ} {ws : List ℕ} {ms : List Mask} {σ : Store} {n bank
       fits = fits;
       dim = pow_mono {i = n} {j = 5} r.sound.few;
       below = partner_lt n r.sound.few m range A masked;
-      shifted = shift_lt;
-      from_room = omega (arith, count-size, from_le, room);
-      to_room = omega (arith, to_room, room);
+      from_room = omega (arith, ends_within w.place count-size, room);
+      to_room = omega (arith, next-size, room);
       from_apart = ⊎_elim (λ e. inl (omega (arith, count-size))) (λ e. inr (omega (arith, next-size))) w.place;
       factors = λ b hb. let p : b < length bs = omega (arith, w.counted) in bank_factors d bs w.held zb b p (kraus b p) (omega arith);
       stores = λ b hb. let p : b < length bs = omega (arith, w.counted) in
           let (e, t) = all_get_d (λ (b : Branch). Word (length σ) b.store) bs words b p zb in
           store_at d bs w.held zb b p t (omega (arith, e, r.short));
     }
-      where
-        less : (o : Operation) → Seen made o → shift_of made o < 64
-        less (rotate a q) s = omega arith
-        less (rotate_if a q j) s = omega (arith, fits.few)
-        less (measure a q) s = omega arith
-
-        shift_lt : shift_of made o < 64
-        shift_lt = less o fits.outcome
 
     -- ---- the words of product j
     told : Told n nodes z made (paths_at i)
@@ -289,25 +273,33 @@ module _ {l₀ : List ℤ} {ws : List ℕ} {ms : List Mask} {σ : Store} {n bank
             ∙ step-branch n nodes z o (paths_at i) made told fits.outcome j (omega (arith, hj, ap (λ (q : ℕ). q * ops) (length-map (paths_at i) (λ (p : Path). p.branch))))
             ∙ ap (λ (b : Branch). apply n b (operator_of n nodes o (chosen (shift_of made o) j))) (sym (get_or-map (λ (p : Path). p.branch) (paths_at i) (j / ops) z))
 
-    pub running_more : {q : List ℤ} {c s : ℕ} → c ≡ count * 2 ^ splits (operation_of (gate_at ws (i * gate_size))) → s ≡ made + splits (operation_of (gate_at ws (i * gate_size)))
-        → q ≡ stepped l (2 ^ n) (ref_mask ms (axis (operation_of (gate_at ws (i * gate_size))))) made from (banks * branch_size (2 ^ n) - from) count (operation_of (gate_at ws (i * gate_size)))
-        → Running l₀ ws σ n (2 ^ n) banks nodes q (banks * branch_size (2 ^ n) - from) c s (i + 1)
-    running_more {q} p f e = record {
+    -- the products lie in one of the banks
+    pub running_more : {q : List ℤ} {c s at : ℕ} → c ≡ count * 2 ^ splits (operation_of (gate_at ws (i * gate_size))) → s ≡ made + splits (operation_of (gate_at ws (i * gate_size)))
+        → at ≡ place_after (operation_of (gate_at ws (i * gate_size))) from (banks * branch_size (2 ^ n) - from)
+        → q ≡ stepped l (2 ^ n) (ref_mask ms (axis (operation_of (gate_at ws (i * gate_size))))) made from at count (operation_of (gate_at ws (i * gate_size)))
+        → Running l₀ ws σ n (2 ^ n) banks nodes q at c s (i + 1)
+    running_more {q} {at = at} p f a e = record {
       below = omega arith;
       making = f ∙ next_made;
       counted = p ∙ next-count;
-      held = held_blocks l to d words_of zb (after (i + 1)) (e ∙ ap (λ (x : ℕ). blocks size l to x words_of) next-count) word-length
-          (omega (arith, to_room, room, ap (λ (x : ℕ). x * size) next-count)) (λ j hj. step_words_lem j (omega (arith, next-length)));
-      place = ⊎_elim (λ e. inr (omega arith)) (λ e. inl (omega arith)) w.place;
+      held = held_blocks l at d words_of zb (after (i + 1)) (e ∙ ap (λ (x : ℕ). blocks size l at x words_of) next-count) word-length
+          (omega (arith, at_room, room, ap (λ (x : ℕ). x * size) next-count)) (λ j hj. step_words_lem j (omega (arith, next-length)));
+      place = place;
       same_length = long after-step ∙ w.same_length;
-      past = λ x hx. (kept after-step x 1 (inr (omega (arith, to_room, hx)))).word x (omega arith) (omega arith) ∙ w.past x hx;
+      past = λ x hx. (kept after-step x 1 (inr (omega (arith, at_room, hx)))).word x (omega arith) (omega arith) ∙ w.past x hx;
     }
       where
+        place : (at ≡ 0) ⊎ (at ≡ bank)
+        place = in_bank (eqb (splits o) 0) a w.place
+
+        at_room : at + count * ops * size ≤ 2 * bank
+        at_room = ends_within place next-size
+
         words_of : ℕ → List ℤ
         words_of = step_words l m.x (rows_entry m o) (chosen (shift_of made o)) ops from d (bit_of o)
 
         word-length : (j : ℕ) → length (words_of j) ≤ size
         word-length j = le_of_eq (length-product l m.x (rows_entry m o (chosen (shift_of made o) j)) _ d (bit_of o) (chosen (shift_of made o) j))
 
-        after-step : Writing size l to (count * ops) words_of q (count * ops)
+        after-step : Writing size l at (count * ops) words_of q (count * ops)
         after-step = wrote word-length e

@@ -16,9 +16,9 @@ use pauli_words::masks::Mask;
 use pauli_words::operations::Operation;
 
 // Of a rotation by k eighths where the outcome v is 1.
-fn conditional(k: u32, v: u32) -> Pair
+fn conditional(k: u32, v: u32) -> &'static Pair
     requires { k < 8 }
-    ensures { result ≡ pair_of (turn_by (cond (eqb v 1) k 0)) }
+    ensures { result.now ≡ pair_of (turn_by (cond (eqb v 1) k 0)) }
 {
     if v == 1 {
         return turning(k);
@@ -27,9 +27,9 @@ fn conditional(k: u32, v: u32) -> Pair
 }
 
 // The coefficients of operator v.
-fn coefficients(operation: Operation, v: u32) -> Pair
+fn coefficients(operation: Operation, v: u32) -> &'static Pair
     requires { Eighths (operation_in operation) }
-    ensures { result ≡ pair_of (coefficients_of (operation_in operation) v) }
+    ensures { result.now ≡ pair_of (coefficients_of (operation_in operation) v) }
 {
     match operation {
         Operation::Rotate { eighths, .. } => turning(eighths),

@@ -6,6 +6,11 @@ ghost use Rattle.pauli_steps.specs.Inner.Rows.{pair_of};
 use gate::rows::Pair;
 use scalar::{ONE, Scalar, ZERO};
 
+const HALF: Scalar = Scalar {
+    n: [1, 0, 0, 0],
+    e: 1,
+};
+
 // Of rotations by 0 to 7 eighths.
 static TURNINGS: [Pair; 8] = [
     Pair {
@@ -78,29 +83,36 @@ static TURNINGS: [Pair; 8] = [
     },
 ];
 
+// Onto outcome 0, and onto outcome 1.
+static PROJECTINGS: [Pair; 2] = [
+    Pair {
+        own: HALF,
+        other: HALF,
+    },
+    Pair {
+        own: HALF,
+        other: Scalar {
+            n: [-1, 0, 0, 0],
+            e: 1,
+        },
+    },
+];
+
 // Of a rotation by k eighths.
-pub fn turning(k: u32) -> Pair
+pub fn turning(k: u32) -> &'static Pair
     requires { k < 8 }
-    ensures { result ≡ pair_of (turn_by k) }
+    ensures { result.now ≡ pair_of (turn_by k) }
 {
-    TURNINGS[k as usize]
+    &TURNINGS[k as usize]
 }
 
 // Of the projector onto outcome v.
 // Kept: v is the number of an operator, 0 or 1, as in branches::outcome; a bool or an enum would be made of it in each clause.
-pub fn projecting(v: u32) -> Pair
-    ensures { result ≡ pair_of (onto v) }
+pub fn projecting(v: u32) -> &'static Pair
+    ensures { result.now ≡ pair_of (onto v) }
 {
-    let h = Scalar {
-        n: [1, 0, 0, 0],
-        e: 1,
-    };
-    let m = Scalar {
-        n: [-1, 0, 0, 0],
-        e: 1,
-    };
     if v == 0 {
-        return Pair { own: h, other: h };
+        return &PROJECTINGS[0];
     }
-    Pair { own: h, other: m }
+    &PROJECTINGS[1]
 }

@@ -1,19 +1,18 @@
 // The rows of p·1 + q·A, where the axis A has a mask form: row r has p in column r, and q times a power of i in the column with the bits x flipped.
-// Kept (facts): the range of a pair's entries is asked by `turn` and `axis_rows`; a Pair is crate gate's, where it has no range, and one with a range would be made for each call of axis_rows.
+// Kept (kinds): t counts quarter turns, as in the words of a program.
+// Kept (facts): `Level` is asked by `axis_rows`; a Pair is crate gate's, where it has no range, and one with a range would be made for each call of axis_rows.
 ghost use Rattle.std.specs.Prelude.{◌≡◌, ℕ, ◌<◌};
-ghost use Rattle.exact.specs.Exact.{exact, narrow_exponent};
-ghost use Rattle.exact.specs.Inner.Sizes.{Coords};
-ghost use Rattle.scalar.specs.Calls.{value, scalar_of};
+ghost use Rattle.exact.specs.Exact.{numbers, number_of};
+ghost use Rattle.exact.specs.Inner.Sizes.{Within, room_numerator};
+ghost use Rattle.scalar.specs.Calls.{value};
 ghost use Rattle.gate.specs.Inner.Rows.{Represents};
 ghost use Rattle.pauli_nodes.specs.Nodes.{turned};
 ghost use Rattle.pauli_nodes.specs.Inner.Masks.{mask};
-ghost use Rattle.pauli_steps.specs.Inner.Rows.{axis_row};
+ghost use Rattle.pauli_steps.specs.Inner.Rows.{axis_row, Level};
 
-use gate::rows::{Choice, Pair, Rows, row_over};
+use exact::numerators::neg4;
+use gate::rows::{Choice, Pair, Row, Rows};
 use pauli_words::masks::Mask;
-use products::times;
-use scalar::Scalar;
-use scalar::powers::power;
 
 // What an axis does: the bits that it flips in a row's number, which may be any, those that it signs, and a power of i.
 #[derive(Clone, Copy)]
@@ -36,33 +35,39 @@ impl From<Mask> for Axis {
     }
 }
 
-// q·i^t
-fn turn(q: Scalar, t: u32) -> Scalar
-    requires { (t < 8) × Coords 1 narrow_exponent (value q) }
-    ensures { result ≡ scalar_of (exact.◌⊗◌ (value q) (turned t)) }
+// i times the numerators.
+fn times_i(x: [i64; 4]) -> [i64; 4]
+    requires { Within room_numerator (number_of x) }
+    ensures { number_of result ≡ numbers.◌⊗◌ (number_of x) (turned 1).num }
 {
-    let w = power(2 * t);
-    times(q, w)
+    [-x[2], -x[3], x[0], x[1]]
+}
+
+// i^t times the numerators.
+fn turned4(x: [i64; 4], t: u32) -> [i64; 4]
+    requires { (t < 4) × Within room_numerator (number_of x) }
+    ensures { number_of result ≡ numbers.◌⊗◌ (number_of x) (turned t).num }
+{
+    match t {
+        0 => x,
+        1 => times_i(x),
+        2 => neg4(x),
+        _ => neg4(times_i(x)),
+    }
 }
 
 // p·1 + q·A by its rows, where p and q are a pair and A is the axis.
-pub fn axis_rows(axis: Axis, pair: Pair) -> Rows
-    requires { Coords 1 narrow_exponent (value pair.own) × Coords 1 narrow_exponent (value pair.other) }
-    ensures { (d : ℕ) → Represents result d (axis_row (mask axis.flips axis.signs axis.turns) (value pair.own) (value pair.other)) }
+pub fn axis_rows(axis: Axis, pair: &Pair) -> Rows
+    requires { Level pair.now }
+    ensures { (d : ℕ) → Represents result d (axis_row (mask axis.flips axis.signs axis.turns) (value pair.now.own) (value pair.now.other)) }
 {
-    let plus = Pair {
-        own: pair.own,
-        other: turn(pair.other, axis.turns),
-    };
-    let minus = Pair {
-        own: pair.own,
-        other: turn(pair.other, axis.turns + 2),
-    };
-    let k = plus.own.e.max(plus.other.e).max(minus.other.e);
+    let own = pair.own.n;
+    let plus = turned4(pair.other.n, axis.turns);
+    let minus = neg4(plus);
     Rows {
         choice: Choice::Signs(axis.signs, axis.flips),
-        low: row_over(plus, k),
-        high: row_over(minus, k),
-        exponent: k,
+        low: Row { own, other: plus },
+        high: Row { own, other: minus },
+        exponent: pair.own.e,
     }
 }

@@ -1,5 +1,5 @@
--- Circuits run in a work buffer: two banks of `banks` branches each; each gate reads one bank and writes the other.
-use Rattle.std.specs.Prelude.{◌≡◌, true, List, ℕ, ◌+◌, ◌*◌, ◌%◌, ◌^◌, ◌<◌, ◌≤◌, length, get_or, ℤ, pos}
+-- Circuits run in a work buffer: two banks of `banks` branches each; a gate that splits branches reads one bank and writes the other, and any other gate writes over what it reads.
+use Rattle.std.specs.Prelude.{◌≡◌, true, cond, eqb, List, ℕ, ◌+◌, ◌*◌, ◌%◌, ◌^◌, ◌<◌, ◌≤◌, length, get_or, ℤ, pos}
 use Rattle.algebra.specs.Lists.{every, total}
 use Rattle.algebra.specs.Words.{blocks}
 use Rattle.algebra.specs.Inner.Apart.{Apart}
@@ -24,6 +24,10 @@ abbrev pub work_size : ℕ → ℕ → ℕ
 work_size d banks = (2 * banks + 2) * slot_size d
 
 -- ---- one gate
+-- where the products of the branches at `from` lie: in their places, or at `to` where the gate splits them
+abbrev pub place_after : Gate → ℕ → ℕ → ℕ
+place_after g from to = cond (eqb (splits g) 0) from to
+
 -- the words, with the products of `count` branches written
 abbrev pub gate_stepped : List ℤ → ℕ → ℕ → ℕ → ℕ → ℕ → Gate → List ℤ
 gate_stepped l n d from to count g =

@@ -45,6 +45,10 @@ bit_of o = get_or (bits o) 0 no_bit
 abbrev pub rows_entry : Mask → Operation → ℕ → ℕ → Exact
 rows_entry m o v = axis_row m (coefficients_of o v).own (coefficients_of o v).other
 
+-- where the products of the branches at `from` lie: in their places, or at `to` where the operation splits them
+abbrev pub place_after : Operation → ℕ → ℕ → ℕ
+place_after o from to = cond (eqb (splits o) 0) from to
+
 -- the words, with the products of `count` branches written
 abbrev pub stepped : List ℤ → ℕ → Mask → ℕ → ℕ → ℕ → ℕ → Operation → List ℤ
 stepped l d m made from to count o =

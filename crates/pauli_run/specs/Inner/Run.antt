@@ -1,4 +1,4 @@
--- Programs run in a work buffer: two banks of `banks` branches each; each operation reads one bank and writes the other.
+-- Programs run in a work buffer: two banks of `banks` branches each; an operation that splits branches reads one bank and writes the other, and any other writes over what it reads.
 use Rattle.std.specs.Prelude.{◌≡◌, List, ℕ, ◌+◌, ◌*◌, ◌/◌, ◌^◌, ◌≤◌, ◌<◌, length, get_or, take, ℤ, pos}
 use Rattle.std.specs.Int.Bits.{bit_xor}
 use Rattle.algebra.specs.Lists.{All, total}
@@ -15,7 +15,7 @@ use Rattle.pauli_nodes.specs.Inner.Masks.{Mask, ref_mask, axis_mask}
 use Rattle.pauli_words.specs.Words.{operation_of, operations_of}
 use Rattle.pauli_program.specs.Program.{program_branches}
 use Rattle.pauli_program.specs.Claims.{Eighths, Sound}
-use Rattle.pauli_run.specs.Inner.Operators.{Seen, shift_of}
+use Rattle.pauli_run.specs.Inner.Operators.{Seen}
 
 -- an operation after `made` outcomes, and the mask forms of the nodes
 pub record Fits (ms : List Mask) (made : ℕ) (o : Operation) : Type 0 where
@@ -29,7 +29,6 @@ pub record Operating (l : List ℤ) (ms : List Mask) (o : Operation) (made from 
   pub fits : Fits ms made o
   pub dim : d ≤ 32
   pub below : (r : ℕ) → r < d → bit_xor r (ref_mask ms (axis o)).x < d
-  pub shifted : shift_of made o < 64
   pub from_room : from + count * branch_size d ≤ length l
   pub to_room : to + count * 2 ^ splits o * branch_size d ≤ length l
   pub from_apart : Apart from (count * branch_size d) to (count * 2 ^ splits o * branch_size d)

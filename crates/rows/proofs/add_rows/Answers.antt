@@ -1,14 +1,10 @@
 -- `add_rows` meets its contract.
-use mathlib.Core.Path.{sym, ap, ◌∙◌, subst}
-use mathlib.Core.List.{List}
-use Prim.Native.Nat.{◌*◌}
+use mathlib.Core.Path.{sym, subst}
 use native.Mathlib.Nat.{le_refl}
-use lib.IntN.{ℤ}
-use Rattle.algebra.proofs.Blocks.{begin, again, kept, cut, block_in_lem}
-use Rattle.exact.specs.Exact.{numbers, number_of, list_of, narrow_numerator, max_numerator}
-use Rattle.exact.specs.Inner.Sizes.{Within, room_numerator}
-use Rattle.exact.proofs.Align.{roomy}
-use Rattle.rows.proofs.Rows.{number_read, product_fits}
+use Rattle.algebra.proofs.Blocks.{begin, again}
+use Rattle.exact.specs.Exact.{number_of, narrow_numerator}
+use Rattle.exact.specs.Inner.Sizes.{Within}
+use Rattle.rows.proofs.Rows.{number_read, product_read, sum_read, sum_fits, unread}
 use Rattle.rows.proofs.add_rows.Goals as goal
 
 pub loop-c-init : goal.loop-c-init
@@ -16,37 +12,30 @@ loop-c-init c = begin (λ k. le_refl 4)
 
 pub product-u-requires : goal.product-u-requires
 product-u-requires c =
-    let a = c.args in
-    let i = c.loop-c.c in
-    let left = cut (kept c.loop-c.invariant a.p (a.d * 4) c.requires.0.apart) 4 i (block_in_lem c.loop-c-test.true 4) in
-    (c.requires.0.scale, subst (Within narrow_numerator) (sym (number_read left c.numerators_at.ensures)) (c.requires.0.factor i c.loop-c-test.true))
+    let r = c.requires.0 in
+    let left = number_read (unread c.loop-c.invariant r.place c.loop-c-test.true) c.numerators_at.ensures in
+    (r.scale, subst (Within narrow_numerator) (sym left) (r.factor c.loop-c.c c.loop-c-test.true))
 
 pub product-v-requires : goal.product-v-requires
 product-v-requires c =
-    let a = c.args in
-    let i = c.loop-c.c in
-    let right = cut (kept c.loop-c.invariant a.q (a.d * 4) c.requires.1.apart) 4 i (block_in_lem c.loop-c-test.true 4) in
-    (c.requires.1.scale, subst (Within narrow_numerator) (sym (number_read right c.numerators_at-in-loop-c.ensures)) (c.requires.1.factor i c.loop-c-test.true))
+    let r = c.requires.1 in
+    let right = number_read (unread c.loop-c.invariant r.place c.loop-c-test.true) c.numerators_at-in-loop-c.ensures in
+    (r.scale, subst (Within narrow_numerator) (sym right) (r.factor c.loop-c.c c.loop-c-test.true))
 
 pub sum4-requires : goal.sum4-requires
 sum4-requires c =
     let a = c.args in
-    let i = c.loop-c.c in
-    let left = cut (kept c.loop-c.invariant a.p (a.d * 4) c.requires.0.apart) 4 i (block_in_lem c.loop-c-test.true 4) in
-    let right = cut (kept c.loop-c.invariant a.q (a.d * 4) c.requires.1.apart) 4 i (block_in_lem c.loop-c-test.true 4) in (
-      subst (Within room_numerator) (sym (ap number_of c.product-u.ensures ∙ ap (numbers.◌⊗◌ (number_of a.x)) (number_read left c.numerators_at.ensures)))
-          (roomy _ (product_fits (number_of a.x) _ c.requires.0.scale (c.requires.0.factor i c.loop-c-test.true))),
-      subst (Within max_numerator) (sym (ap number_of c.product-v.ensures ∙ ap (numbers.◌⊗◌ (number_of a.y)) (number_read right c.numerators_at-in-loop-c.ensures)))
-          (product_fits (number_of a.y) _ c.requires.1.scale (c.requires.1.factor i c.loop-c-test.true)),
-    )
+    let r = c.requires.0 in
+    let s = c.requires.1 in
+    let left = number_read (unread c.loop-c.invariant r.place c.loop-c-test.true) c.numerators_at.ensures in
+    let right = number_read (unread c.loop-c.invariant s.place c.loop-c-test.true) c.numerators_at-in-loop-c.ensures in
+    sum_fits (number_of a.x) (number_of a.y) r.scale s.scale (r.factor c.loop-c.c c.loop-c-test.true) (s.factor c.loop-c.c c.loop-c-test.true)
+    (product_read (number_of a.x) c.product-u.ensures left) (product_read (number_of a.y) c.product-v.ensures right)
 
 pub loop-c-preserved : goal.loop-c-preserved
 loop-c-preserved c =
     let a = c.args in
-    let i = c.loop-c.c in
-    let left = cut (kept c.loop-c.invariant a.p (a.d * 4) c.requires.0.apart) 4 i (block_in_lem c.loop-c-test.true 4) in
-    let right = cut (kept c.loop-c.invariant a.q (a.d * 4) c.requires.1.apart) 4 i (block_in_lem c.loop-c-test.true 4) in
-    let u = ap number_of c.product-u.ensures ∙ ap (numbers.◌⊗◌ (number_of a.x)) (number_read left c.numerators_at.ensures) in
-    let v = ap number_of c.product-v.ensures ∙ ap (numbers.◌⊗◌ (number_of a.y)) (number_read right c.numerators_at-in-loop-c.ensures) in
+    let left = number_read (unread c.loop-c.invariant c.requires.0.place c.loop-c-test.true) c.numerators_at.ensures in
+    let right = number_read (unread c.loop-c.invariant c.requires.1.place c.loop-c-test.true) c.numerators_at-in-loop-c.ensures in
     again c.loop-c.invariant c.loop-c-test.true c.write_numerators.ensures
-    (ap (λ (w : List ℤ). list_of (number_of w)) c.sum4.ensures ∙ (λ j. list_of (numbers.◌⊕◌ (u j) (v j))))
+    (sum_read c.sum4.ensures (product_read (number_of a.x) c.product-u.ensures left) (product_read (number_of a.y) c.product-v.ensures right))

@@ -1,12 +1,12 @@
 -- Numbers in words that share an exponent: four numerators for each, then the exponent; and their rows multiplied and added.
-use Rattle.std.specs.Prelude.{◌≡◌, Bool, true, List, [], ◌∷◌, ◌++◌, ℕ, ◌+◌, ◌*◌, ◌^◌, ◌<◌, ◌≤◌, length, get_or, ℤ, pos, nat_abs}
+use Rattle.std.specs.Prelude.{◌≡◌, ◌⊎◌, Bool, true, List, [], ◌∷◌, ◌++◌, ℕ, ◌+◌, ◌*◌, ◌^◌, ◌<◌, ◌≤◌, length, get_or, ℤ, pos, nat_abs}
 use Rattle.algebra.specs.Lists.{all_below}
 use Rattle.algebra.specs.Words.{joined, up_to}
 use Rattle.algebra.specs.Inner.Apart.{Apart}
 use Rattle.exact.specs.Exact.{Number, numbers, Exact, lowest, list_of, is_zero, narrow_exponent, narrow_numerator}
 use Rattle.exact.specs.Inner.Sizes.{Within}
 use Rattle.channel.specs.Shared.{shared}
-use Rattle.share.specs.Share.{number_in}
+use Rattle.share.specs.Share.{number_in, with_numerators}
 
 -- ---- n numbers
 -- the words of n numbers in their shared form
@@ -40,10 +40,26 @@ scaled_row l x from c = numbers.◌⊗◌ x (number_in l (from + c * 4))
 abbrev pub combined_row : List ℤ → Number → ℕ → Number → ℕ → ℕ → Number
 combined_row l x p y q c = numbers.◌⊕◌ (scaled_row l x p c) (scaled_row l y q c)
 
--- d narrow numbers from `from` on, a narrow number x to multiply them by, and apart from them a place for d numbers from `to` on
+-- d narrow numbers from `from` on, a narrow number x to multiply them by, and, where they lie or apart from them, a place for d numbers from `to` on
 pub record Scaling (l : List ℤ) (x : Number) (from to d : ℕ) : Type 0 where
   pub scale : Within narrow_numerator x
   pub from_room : from + d * 4 ≤ length l
   pub factor : (c : ℕ) → c < d → Within narrow_numerator (number_in l (from + c * 4))
   pub to_room : to + d * 4 ≤ length l
-  pub apart : Apart from (d * 4) to (d * 4)
+  pub place : (from ≡ to) ⊎ Apart from (d * 4) to (d * 4)
+
+-- two rows of d narrow numbers, at p and, apart from it, at q, and narrow numbers to multiply them by: x and y for the first, v and u for the second
+pub record Mixing (l : List ℤ) (x y : Number) (p : ℕ) (v u : Number) (q d : ℕ) : Type 0 where
+  pub own : Within narrow_numerator x
+  pub other : Within narrow_numerator y
+  pub own_of_second : Within narrow_numerator v
+  pub other_of_second : Within narrow_numerator u
+  pub room : p + d * 4 ≤ length l
+  pub room_of_second : q + d * 4 ≤ length l
+  pub factor : (c : ℕ) → c < d → Within narrow_numerator (number_in l (p + c * 4))
+  pub factor_of_second : (c : ℕ) → c < d → Within narrow_numerator (number_in l (q + c * 4))
+  pub apart : Apart p (d * 4) q (d * 4)
+
+-- both rows, each a sum of multiples of both
+abbrev pub mixed : List ℤ → Number → Number → ℕ → Number → Number → ℕ → ℕ → List ℤ
+mixed l x y p v u q d = with_numerators (with_numerators l p d (combined_row l x p y q)) q d (combined_row l v q u p)

@@ -27,7 +27,7 @@ write_store-requires c =
     let s = c.matrix_size-matrix.ensures in
     let bit = unwrap_or c.args.bit no_bit in
     let e = c.numbered-rows.ensures in (
-      omega (arith, p.number c.loop-j.j h, p.few_held),
+      omega arith,
       (turn-room p h s bit c.loop-j.invariant e c.apply_operator.ensures, turn-store p h s bit c.loop-j.invariant e c.apply_operator.ensures),
     )
 

@@ -1,12 +1,12 @@
 -- `run_gates` meets its contract.
 use mathlib.Core.Path.{◌≡◌, refl, sym, ap, ◌∙◌, subst}
-use Prim.Native.Nat.{ℕ, ◌+◌, ◌*◌, ◌-◌, ◌^◌, ◌≤◌}
+use Prim.Native.Nat.{ℕ, ◌*◌, ◌-◌, ◌^◌, ◌≤◌}
 use native.Mathlib.Omega.{arith}
 use lib.Pow.{pow_mono, pow_pos}
 use Rattle.gate.specs.Gate.{gate_at, gate_size}
 use Rattle.branches.specs.Inner.Run.{GateStep, gate_stepped}
 use Rattle.branches.specs.declared.bank.Bank.{Bank}
-use Rattle.branches.proofs.Runs.{Running, branch_fits, work_room, begins, ready, more, ends}
+use Rattle.branches.proofs.Runs.{branch_fits, work_room, begins, ready, more, ends}
 use Rattle.branches.proofs.run.run_gates.Goals as goal
 
 dim_small : (n : ℕ) {d : ℕ} → d ≡ 2 ^ n → n ≤ 5 → d ≤ 32
@@ -36,12 +36,10 @@ loop-i-preserved c =
     let l = c.loop-i in
     let a = c.args in
     let e = c.step_gate-bank.ensures.bank in
-    let size = c.branch_size.result in
-    let words : c.step_gate-bank.new.work ≡ gate_stepped l.work a.n a.d l.bank.at (a.banks * size - l.bank.at) l.bank.count (gate_at a.gates.now (l.i * gate_size))
-    = c.step_gate-bank.ensures.words ∙ ap (λ (d : ℕ). gate_stepped l.work a.n d l.bank.at (a.banks * size - l.bank.at) l.bank.count (gate_at a.gates.now (l.i * gate_size))) l.invariant.0 in (
+    let at = ap (λ (b : Bank). b.at) e in (
       ap (λ (b : Bank). b.d) e ∙ l.invariant.0,
-      subst (λ (k : ℕ). Running c.start_branch.new.work a.gates.now a.store.now a.n a.d a.banks c.step_gate-bank.new.work k c.step_gate-bank.result.count (l.i + 1)) (sym (ap (λ (b : Bank). b.at) e))
-          (more c.requires c.start_branch.ensures l.invariant.1 c.loop-i-test.true c.branch_size.ensures (ap (λ (b : Bank). b.count) e) words),
+      more c.requires c.start_branch.ensures l.invariant.1 c.loop-i-test.true c.branch_size.ensures (ap (λ (b : Bank). b.count) e) at
+          (c.step_gate-bank.ensures.words ∙ (λ t. gate_stepped l.work a.n (l.invariant.0 t) l.bank.at (sym at t) l.bank.count (gate_at a.gates.now (l.i * gate_size)))),
     )
 
 pub returns : goal.returns

@@ -1,31 +1,35 @@
 -- `step_gate` meets its contract.
-use mathlib.Core.Path.{sym, ap, ◌∙◌}
-use Prim.Native.Nat.{ℕ}
+use mathlib.Core.Path.{refl, sym, ap, ◌∙◌, subst}
+use Prim.Native.Nat.{ℕ, ◌*◌}
 use native.Mathlib.Omega.{arith}
-use Rattle.std.specs.Prelude.{Option, unwrap_or}
+use Rattle.gate.specs.Gate.{Gate}
 use Rattle.gate.specs.Inner.Words.{gate_of}
-use Rattle.branches.specs.Inner.Store.{no_bit}
-use Rattle.branches.proofs.Gates.{splits-none, splits-some, bit_is, gate_ready, gate_done}
+use Rattle.branches.specs.Inner.Run.{GateStep}
+use Rattle.branches.proofs.Gates.{splits-none, place-kept, place-other, gate_left}
 use Rattle.branches.proofs.run.step_gate.Goals as goal
 
-pub step-requires : goal.step-requires
-step-requires c =
-    let g = gate_of c.read_gate-g.result in
-    gate_ready c.requires.branches c.read_gate-g.ensures c.flips-m.ensures (splits-none g (sym c.splits.ensures ∙ c.if-splits-eq0.true)) c.gate_rows-first.ensures (λ h. absurd (omega arith))
+pub split_gate-requires : goal.split_gate-requires
+split_gate-requires c =
+    let a = c.args in
+    (λ e. c.if-splits-ne0.true (c.splits.ensures ∙ e), subst (λ (g : Gate). GateStep a.work.now g a.n a.from.d a.from.at a.to a.from.count) (sym c.read_gate-g.ensures) c.requires.branches)
 
-pub returns-then-splits-eq0-clause-words : goal.returns-then-splits-eq0-clause-words
-returns-then-splits-eq0-clause-words c =
+pub returns-then-splits-ne0 : goal.returns-then-splits-ne0
+returns-then-splits-ne0 c =
+    let a = c.args in
     let g = gate_of c.read_gate-g.result in
-    gate_done c.requires.branches c.read_gate-g.ensures c.flips-m.ensures (splits-none g (sym c.splits.ensures ∙ c.if-splits-eq0.true)) c.gate_rows-first.ensures (λ h. absurd (omega arith))
-    (ap (λ (o : Option ℕ). unwrap_or o no_bit) c.bit.ensures ∙ bit_is g) c.step.ensures
+    let (bank, words) = gate_left a.work.now a.n a.from.d a.from.at a.to a.from.count c.read_gate-g.ensures (place-other g a.from.at a.to (λ e. c.if-splits-ne0.true (c.splits.ensures ∙ e))) refl c.split_gate.ensures.words in
+    record { bank = c.split_gate.ensures.bank ∙ bank; words = words }
 
-pub step-requires-2 : goal.step-requires-2
-step-requires-2 c =
-    let g = gate_of c.read_gate-g.result in
-    gate_ready c.requires.branches c.read_gate-g.ensures c.flips-m.ensures (splits-some g (λ e. c.if-splits-eq0.false (c.splits.ensures ∙ e))) c.gate_rows-first.ensures (λ _. c.gate_rows-second.ensures)
+pub turn_gate-requires : goal.turn_gate-requires
+turn_gate-requires c =
+    let a = c.args in
+    (sym c.splits.ensures ∙ c.if-splits-ne0.false, subst (λ (g : Gate). GateStep a.work.now g a.n a.from.d a.from.at a.to a.from.count) (sym c.read_gate-g.ensures) c.requires.branches)
 
-pub returns-clause-words : goal.returns-clause-words
-returns-clause-words c =
+pub returns : goal.returns
+returns c =
+    let a = c.args in
     let g = gate_of c.read_gate-g.result in
-    gate_done c.requires.branches c.read_gate-g.ensures c.flips-m.ensures (splits-some g (λ e. c.if-splits-eq0.false (c.splits.ensures ∙ e))) c.gate_rows-first.ensures (λ _. c.gate_rows-second.ensures)
-    (ap (λ (o : Option ℕ). unwrap_or o no_bit) c.bit-2.ensures ∙ bit_is g) c.step-2.ensures
+    let none = sym c.splits.ensures ∙ c.if-splits-ne0.false in
+    let f = a.from in
+    let (bank, words) = gate_left a.work.now a.n f.d f.at a.to f.count c.read_gate-g.ensures (place-kept g f.at a.to none) (omega (arith, splits-none g none, ap (λ (k : ℕ). f.count * k) (splits-none g none))) c.turn_gate.ensures in
+    record { bank = bank; words = words }

@@ -1,19 +1,25 @@
--- Each row is that of one of two pairs, over the largest of their powers.
-use Rattle.gate.specs.Inner.Rows.{Over}
+-- Numbers from −1 to 1 leave room, and both rows have the pair's numbers over its power of two.
+use mathlib.Core.Path.{sym, subst}
+use lib.Dec.{lit≤}
+use Rattle.exact.specs.Exact.{Exact, number_of, narrow_numerator, narrow_exponent}
+use Rattle.exact.specs.Inner.Sizes.{Within, Coords, room_numerator}
+use Rattle.exact.proofs.Align.{widen, factor_within}
 use Rattle.pauli_nodes.specs.Inner.Masks.{mask}
-use Rattle.pauli_steps.proofs.Tables.{pairs-over, axis_represented}
+use Rattle.pauli_steps.proofs.Tables.{turned-within, axis_represented}
 use Rattle.pauli_steps.proofs.rows.axis_rows.Goals as goal
 
-over : (c : goal.After-max-k) → Over (record { own = c.args.pair.own; other = c.turn.result }) c.max-k.result × Over (record { own = c.args.pair.own; other = c.turn-2.result }) c.max-k.result
-over c = let a = c.args.axis in pairs-over (mask a.flips a.signs a.turns) c.args.pair c.requires.0 c.requires.1 c.turn.ensures c.turn-2.ensures c.max.ensures c.max-k.ensures
+room : {x : Exact} → Coords 1 narrow_exponent x → Within room_numerator x.num
+room {x} h = widen narrow_numerator room_numerator x.num (lit≤ tt) (factor_within x h)
 
-pub row_over-requires : goal.row_over-requires
-row_over-requires c = (over c).0
+pub turned4-plus-requires : goal.turned4-plus-requires
+turned4-plus-requires c = (c.args.axis.in_range.1, room c.requires.other)
 
-pub row_over-requires-2 : goal.row_over-requires-2
-row_over-requires-2 c = (over c.before).1
+pub neg4-minus-requires : goal.neg4-minus-requires
+neg4-minus-requires c =
+    let a = c.args in
+    subst (Within room_numerator) (sym c.turned4-plus.ensures) (turned-within room_numerator (number_of a.pair.now.other.n) a.axis.turns (room c.requires.other))
 
 pub returns : goal.returns
 returns c =
     let a = c.args.axis in
-    axis_represented (mask a.flips a.signs a.turns) c.args.pair c.requires.0 c.requires.1 c.turn.ensures c.turn-2.ensures a.in_range.0 (over c.before.before) c.row_over.ensures c.row_over-2.ensures
+    axis_represented (mask a.flips a.signs a.turns) c.args.pair.now c.requires c.turned4-plus.result c.neg4-minus.result a.in_range.1 c.turned4-plus.ensures c.neg4-minus.ensures a.in_range.0
