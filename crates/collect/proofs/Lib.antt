@@ -1,6 +1,7 @@
 pub mod Numerators
 pub mod Summing
 pub mod Sharing
+pub mod Alone
 pub mod Sparse
 pub mod Recording
 pub mod Rising

@@ -1,13 +1,14 @@
 -- From the upper half of a block to the words of its shared form.
 use mathlib.Core.Path.{◌≡◌, refl, sym, ap, ◌∙◌}
 use mathlib.Core.Bool.{Bool, true, false, cond}
-use mathlib.Core.List.{List, [], ◌∷◌}
+use mathlib.Core.List.{List, ◌∷◌}
+use mathlib.Core.Logic.{inl}
 use Prim.Native.Nat.{ℕ, zero, suc, ◌+◌, ◌*◌, ◌/◌, ◌%◌, ◌≤◌, ◌<◌}
 use native.Mathlib.Nat.{le_refl, div-add-mod'}
 use native.Mathlib.Omega.{arith}
 use lib.Dec.{leb}
 use lib.ListN.{length, set}
-use lib.Seq.{sets, set_comm}
+use lib.Seq.{sets}
 use lib.IntN.{ℤ}
 use borrow.Author.Tests.{leb-true, leb-false}
 use Rattle.algebra.specs.Quadratic.{conjugate}
@@ -23,6 +24,7 @@ use Rattle.channel.proofs.Full.{full-words}
 use Rattle.share.specs.Share.{number_in, with_numerators}
 use Rattle.hermitian.specs.Inner.Upper.{mirrored_at, mirrored_from}
 use Rattle.hermitian.proofs.Mirrored.{mirror_is}
+use Rattle.rows.proofs.Mixed.{set_past}
 use Rattle.collect.specs.Inner.Bank.{store_of, entry, has, overlaps, largest, numerators, shared_of, Bank}
 use Rattle.collect.proofs.Numerators.{entry_is}
 use Rattle.collect.proofs.Summing.{Summed, upper_is}
@@ -44,14 +46,10 @@ overlaps_mirror l at d (suc n) s r c = go (has l at d s n) (overlaps_mirror l at
     go false h = h
 
 -- ---- a word written before others that are written
-set_past : (vs l : List ℤ) (i j : ℕ) (x : ℤ) → j < i → set (sets l i vs) j x ≡ sets (set l j x) i vs
-set_past [] l i j x h = refl
-set_past (v ∷ vs) l i j x h = set_past vs (set l i v) (suc i) j x (omega arith) ∙ ap (λ (m : List ℤ). sets m (suc i) vs) (set_comm l i j v x (λ e. omega arith))
-
 pub block_written : (m : List ℤ) (to d : ℕ) (f : ℕ → Number) (x : ℤ) → set (with_numerators m (to + 1) (d * d * (d * d)) f) to x ≡ sets m to (x ∷ block_words (channels d) f)
 block_written m to d f x =
     ap (λ (q : List ℤ). set q to x) (blocks-joined 4 (λ (k : ℕ). list_of (f k)) (λ i. refl) m (to + 1) (d * d * (d * d)))
-    ∙ set_past (joined (d * d * (d * d)) (λ (k : ℕ). list_of (f k))) m (to + 1) to x (omega arith)
+    ∙ set_past (joined (d * d * (d * d)) (λ (k : ℕ). list_of (f k))) m (to + 1) to x (inl (omega arith))
     ∙ (λ i. sets (set m to x) (first i) (sym (full-words (d * d) f) i))
   where
     first : to + 1 ≡ suc to

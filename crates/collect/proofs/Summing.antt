@@ -44,7 +44,7 @@ module _ (l : List ℤ) (at d e : ℕ) where
     pub has_own : has l at d (store_of l at d b) b ≡ true
     has_own = λ i. eq-eqb (store_of l at d b) (store_of l at d b) refl i && (and_split (survives l at d b) (is_first l at d b) first).0 i
 
-    first-summed : (r c : ℕ) → numerators l at d e (b + 1) (store_of l at d b) r c ≡ numbers.◌⊗◌ (raised l at d e b r) (conjugate root2 (raised l at d e b c))
+    pub first-summed : (r c : ℕ) → numerators l at d e (b + 1) (store_of l at d b) r c ≡ numbers.◌⊗◌ (raised l at d e b r) (conjugate root2 (raised l at d e b c))
     first-summed r c =
         sum_step b (store_of l at d b) r c true has_own
         ∙ ap (more b r c) (none-summed (store_of l at d b) r c b (λ j h. not-true _ (all-at b (λ (j : ℕ). not (has l at d (store_of l at d b) j)) (and_split (survives l at d b) (is_first l at d b) first).1 j h)))

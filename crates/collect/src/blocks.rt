@@ -1,16 +1,17 @@
-// The block of one store: integer products over one power of two, summed on and above the diagonal, and then brought to their shared form and mirrored.
+// The block of one store: integer products over one power of two, summed on and above the diagonal, and then brought to their shared form and mirrored; of a bank of one branch with few different entries, a row for each of these and its copies.
 // Kept (facts): that a branch is the first to survive with its store is found before its block is written; as a ghost of Source it would be shown for each branch of which it is asked.
 // Kept (buffers): a place in the result. The contracts say what all of it becomes, record by record; a cut slice would tell of its own part alone.
 ghost use Rattle.std.specs.Prelude.{◌≡◌, true, ◌+◌, ◌*◌, ◌<◌, ◌≤◌, length};
 ghost use Rattle.std.proofs.lemmas.List.Edits.{sets};
 ghost use Rattle.share.specs.Share.{with_numerators};
 ghost use Rattle.collect.specs.Inner.Bank as held;
-ghost use Rattle.collect.specs.Inner.Bank.{store_of, starts, largest, summed, shared_words};
+ghost use Rattle.collect.specs.Inner.Bank.{store_of, starts, largest, summed, shared_of, shared_words};
 
 use super::bank::Branch;
 use channel::layout::ENTRY;
 use hermitian::share_block;
 use overlaps::{add_upper, write_upper};
+use repeats::{MOST, Repeats, find_firsts};
 
 // A branch whose store is collected over its bank.
 #[derive(Clone, Copy)]
@@ -57,17 +58,41 @@ impl<'a> Source<'a> {
         }
     }
 
+    // Write the numerators of the block of its store to `out` on, in their shared form; their exponent. It is the first with its store.
+    fn write_shared(self, res: &mut [i64], out: usize) -> u32
+        requires room { let d = self.branch.bank.d in out + d * d * (d * d) * 4 ≤ length res.old }
+        requires first { let b = self.branch in starts b.work.now b.bank.at b.bank.d b.j ≡ true }
+        ensures exponent { let b = self.entry.branch in result ≡ (shared_of b.work.now b.bank.at b.bank.d b.bank.count (store_of b.work.now b.bank.at b.bank.d b.j)).exp }
+        ensures numerators { let b = self.entry.branch in let d = b.bank.d in res.new ≡ with_numerators res.old out (d * d * (d * d)) (shared_of b.work.now b.bank.at d b.bank.count (store_of b.work.now b.bank.at d b.j)).num }
+    {
+        let work = self.branch.work;
+        let bank = self.branch.bank;
+        let w = bank.d * bank.d;
+        let e = self.largest_exponent();
+        if bank.count == 1 {
+            let k = bank.branch(self.branch.j);
+            let mut firsts = [0u8; MOST];
+            if find_firsts(&mut firsts, work, k, w) {
+                let repeats = Repeats {
+                    work,
+                    k,
+                    w,
+                    firsts: &firsts,
+                };
+                return repeats.write(res, out, e + e);
+            }
+        }
+        self.sum_block(res, out, e);
+        share_block(res, out, w, e + e)
+    }
+
     // Write the exponent and then the numerators of the block of its store to `to` on; it is the first with its store.
     pub fn write_block(self, res: &mut [i64], to: usize)
         requires room { let d = self.branch.bank.d in to + 1 + d * d * (d * d) * 4 ≤ length res.old }
         requires first { let b = self.branch in starts b.work.now b.bank.at b.bank.d b.j ≡ true }
         ensures { let b = self.entry.branch in let d = b.bank.d in res.new ≡ sets res.old to (shared_words b.work.now b.bank.at d b.bank.count (store_of b.work.now b.bank.at d b.j)) }
     {
-        let out = to + 1;
-        let w = self.branch.bank.d * self.branch.bank.d;
-        let e = self.largest_exponent();
-        self.sum_block(res, out, e);
-        let shared = share_block(res, out, w, e + e);
+        let shared = self.write_shared(res, to + 1);
         res[to] = shared as i64;
     }
 }

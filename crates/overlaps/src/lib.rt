@@ -78,7 +78,7 @@ pub fn add_upper(res: &mut [i64], out: usize, work: &[i64], k: usize, w: usize, 
 }
 
 // x times the conjugate of y; a zero is not multiplied.
-fn product_with(x: [i64; 4], y: [i64; 4]) -> [i64; 4]
+pub fn product_with(x: [i64; 4], y: [i64; 4]) -> [i64; 4]
     requires { Within narrow_numerator (number_of x) × Within narrow_numerator (number_of y) }
     ensures { result ≡ list_of (numbers.◌⊗◌ (number_of x) (conjugate root2 (number_of y))) }
 {

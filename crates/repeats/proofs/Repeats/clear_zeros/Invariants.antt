@@ -1,0 +1,10 @@
+-- `Repeats::clear_zeros` meets its contract: r rows are cleared, if they are rows of zeros.
+use Prim.Native.Nat.{◌≤◌}
+use Rattle.overlaps.proofs.Rows.{Rows}
+use Rattle.repeats.specs.Inner.Repeats.{rows_cleared}
+use Rattle.repeats.proofs.Repeats.clear_zeros.Given as goal
+
+abbrev pub invariant-loop-r : goal.invariant-loop-r
+invariant-loop-r l =
+    let s = l.self in
+    (l.r ≤ s.w) × Rows l.initial.res l.out s.w (rows_cleared l.initial.res l.out s.work.now s.k s.w) l.res l.r
