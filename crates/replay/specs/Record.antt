@@ -15,6 +15,10 @@ use Rattle.replay.specs.Numerals.{word_at, word_no}
 abbrev pub source_of : ℕ → Source
 source_of n = cond (eqb n 0) Rust Document
 
+abbrev pub is_rust : Source → Bool
+is_rust Rust = true
+is_rust Document = false
+
 -- n0 to n3 and e
 abbrev pub scalar_at : List ℕ → ℕ → ScalarRead
 scalar_at t at = record {

@@ -1,11 +1,11 @@
 -- What a replay counts: all cases, those that agree by where the record comes from, those that do not, the first of these, and the numbers compared.
-use Rattle.std.specs.Prelude.{Bool, true, false, cond, not, ◌&&◌, ◌||◌, List, [], ◌++◌, ℕ, ltb, nat_lt, if◌then◌else◌, codes}
+use Rattle.std.specs.Prelude.{Bool, true, cond, not, ◌&&◌, ◌||◌, List, [], ◌++◌, ℕ, ltb, nat_lt, if◌then◌else◌, codes}
 use Rattle.std.specs.Fmt.{decimal}
 use Rattle.replay.specs.declared.record.Record.{Record}
 use Rattle.replay.specs.declared.record.Source.{Source}
-use Rattle.replay.specs.declared.record.Source.TheVariants.{Rust, Document}
 use Rattle.replay.specs.declared.tally.Tally.{Tally}
 use Rattle.replay.specs.Counts.{added, counted}
+use Rattle.replay.specs.Record.{is_rust}
 
 -- the number of the first case that does not agree: the first one before, or this case
 abbrev pub first_of : ℕ → ℕ → Bool → ℕ
@@ -13,10 +13,6 @@ first_of before case agrees = cond (agrees || ltb 0 before) before case
 
 abbrev pub none : Tally
 none = record { cases = 0; of_rust = 0; of_document = 0; disagree = 0; first = 0; compared = 0 }
-
-abbrev pub is_rust : Source → Bool
-is_rust Rust = true
-is_rust Document = false
 
 abbrev pub with_case : Tally → Record → Source → Tally
 with_case t r source = record {

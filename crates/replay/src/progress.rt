@@ -71,12 +71,6 @@ impl Progress {
         }
     }
 
-    pub fn next(self) -> usize
-        ensures { result ≡ self.next }
-    {
-        self.next
-    }
-
     // Prints what was counted of the last kind, where the case that comes next is of another.
     fn print_before(self, rt: &impl Print, after: Progress) -> io::Result<()> {
         if after.kind == self.kind {

@@ -2,7 +2,7 @@
 // Kept (buffers): a place in the text, as in words.rt.
 // Kept (kinds): a source's number is read here and nowhere else.
 ghost use Rattle.std.specs.Prelude.{◌≡◌};
-ghost use Rattle.replay.specs.Record.{source_of, begun, with_number, with_sizes, with_scalar, with_byte, with_bytes};
+ghost use Rattle.replay.specs.Record.{source_of, is_rust, begun, with_number, with_sizes, with_scalar, with_byte, with_bytes};
 
 use crate::count::added;
 use crate::numeral::{Number, read};
@@ -11,7 +11,7 @@ use cells::CELL;
 use scalar::Scalar;
 
 // Where a record comes from.
-#[derive(Clone, Copy, Debug, PartialEq, Eq)]
+#[derive(Clone, Copy)]
 pub enum Source {
     Rust,
     Document,
@@ -24,6 +24,17 @@ impl From<u64> for Source {
         match number {
             0 => Source::Rust,
             _ => Source::Document,
+        }
+    }
+}
+
+impl Source {
+    pub fn is_rust(self) -> bool
+        ensures { result ≡ is_rust self }
+    {
+        match self {
+            Source::Rust => true,
+            Source::Document => false,
         }
     }
 }

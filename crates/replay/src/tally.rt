@@ -39,7 +39,7 @@ impl Tally {
         ensures { result ≡ with_case self seen source }
     {
         let agrees = seen.agrees();
-        let rust = source == Source::Rust;
+        let rust = source.is_rust();
         let cases = counted(self.cases, true);
         Tally {
             cases,

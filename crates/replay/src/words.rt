@@ -1,7 +1,7 @@
 // Words and bytes read into lent slices, and the contents that lent words have before a call.
 // Kept (buffers): a place in the text is what each reader hands to the next one. With the part that is left in its place, each answer would borrow the text, and all that is said by places would have to be
 // said of parts; a cursor would be changed by each read, and a clause that now is one definition of a text and a place would name it before and after.
-// Kept (twins): Line, ScalarRead and Bounds of replay_circuits are each a value with the next place; one struct of any T would say `value` for bytes and limits, too.
+// Kept (twins): Line, ScalarRead and Bounds of replay_cases are each a value with the next place; one struct of any T would say `value` for bytes and limits, too.
 ghost use Rattle.std.specs.Prelude.{◌≡◌, ◌+◌, min, length, drop, set};
 ghost use Rattle.replay.specs.Words.{marked, all_placed, placed_at, numbers_at};
 

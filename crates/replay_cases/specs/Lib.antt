@@ -1,0 +1,9 @@
+pub mod Words
+pub mod Schedules
+pub mod Given
+pub mod Circuits
+pub mod Texts
+pub mod Lists
+pub mod Edits
+pub mod Programs
+pub mod Kinds

@@ -1,3 +1,0 @@
-pub mod Kinds
-pub mod Given
-pub mod Cases
