@@ -59,12 +59,19 @@ module _ (l r : List ℤ) where
     back : (s k : ℕ) → entry_of l s k ≡ entry_of r s k → look_left both s k ≡ look_right both s k
     back s k e = left_is s k ∙ e ∙ sym (right_is s k)
 
+-- the answers are three different ones
+same_differs : {X : Type 0} {d : Difference} → ◌≡◌ {A = Result Comparison Refusal} (Ok Same) (Ok (Differs d)) → X
+same_differs e = absurd (cc)
+
+same_dimensions : {X : Type 0} → ◌≡◌ {A = Result Comparison Refusal} (Ok Same) (Ok Dimensions) → X
+same_dimensions e = absurd (cc)
+
 pub same_exactly : SameExactly
 same_exactly l r c = (to (outcome l r c), from (outcome l r c))
   where
     to : Compared (side (dim_at l)) (both l r) (first (side (dim_at l)) (both l r)) → compare_of l r ≡ Ok Same → Agree l r
     to (alike d f) e = λ s k q. across l r c s k (f s k q)
-    to (differs s q p f u d) e = let i = is_first l r c in absurd (cc)
+    to (differs s q p f u d) e = same_differs (sym e ∙ is_first l r c ∙ ap (λ (o : Option Difference). Ok (found o)) d)
 
     from : Compared (side (dim_at l)) (both l r) (first (side (dim_at l)) (both l r)) → Agree l r → compare_of l r ≡ Ok Same
     from (alike d f) a = is_first l r c ∙ ap (λ (o : Option Difference). Ok (found o)) d
@@ -88,7 +95,7 @@ alike_exactly l r p q = (λ e. go (eqb (dim_at l) (dim_at r) && eqb (bits_at l) 
           stores = same-stores (side (dim_at l)) (read_back l) (read_back r) (sorted l p.right) (sorted r q.right) p.full (ap (λ (k : ℕ). some_zero (side k) (read_back r)) d ∙ q.full) a;
           entries = a;
         }
-    go false t e = absurd (cc)
+    go false t e = same_dimensions (sym e ∙ is)
       where
         is : compare_of l r ≡ Ok Dimensions
         is = λ i. result_and (sound l p i) (result_and (sound r q i) (Ok (cond (t i) (found (first (side (dim_at l)) (both l r))) Dimensions)))
@@ -110,7 +117,7 @@ first_entry l r c d e = go (outcome l r c)
         by (suc d) h = omega arith
 
     go : Compared w (both l r) (first w (both l r)) → FirstAt l r d
-    go (alike g f) = let i = is_first l r c in absurd (cc)
+    go (alike g f) = same_differs (ap (λ (o : Option Difference). Ok (found o)) (sym g) ∙ sym (is_first l r c) ∙ e)
     go (differs s q h f u g) = subst (FirstAt l r) there at
       where
         found_there : Difference

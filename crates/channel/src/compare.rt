@@ -18,7 +18,7 @@ use store::comes_before;
 use verdict::Refusal;
 
 // Bit j of a store weighs 2^j.
-#[derive(Clone, Copy, Debug, PartialEq, Eq)]
+#[derive(Clone, Copy)]
 pub struct Place {
     pub store: u64,
     pub row: usize,
@@ -26,14 +26,14 @@ pub struct Place {
 }
 
 // An entry at which two channels differ.
-#[derive(Clone, Copy, Debug, PartialEq, Eq)]
+#[derive(Clone, Copy)]
 pub struct Difference {
     pub place: Place,
     pub left: Scalar,
     pub right: Scalar,
 }
 
-#[derive(Clone, Copy, Debug, PartialEq, Eq)]
+#[derive(Clone, Copy)]
 pub enum Comparison {
     Same,
     Dimensions,

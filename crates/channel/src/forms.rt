@@ -9,7 +9,7 @@ use std::marker::Model;
 
 // What is kept of a block: only the entries (r, c) with r ≤ c, and only n0 and n2 of an entry.
 // Kept: two choices, each free of the other, and no failure: an enum of the four would be taken apart into these two wherever it is used.
-#[derive(Clone, Copy, Debug, PartialEq, Eq)]
+#[derive(Clone, Copy)]
 pub struct Parts {
     pub half: bool,
     pub plain: bool,
@@ -22,7 +22,7 @@ pub const ALL: Parts = Parts {
 };
 
 // The rows and columns of a block, and what is kept of it.
-#[derive(Clone, Copy, Debug, PartialEq, Eq)]
+#[derive(Clone, Copy)]
 pub struct Form {
     side: usize,
     parts: Parts,

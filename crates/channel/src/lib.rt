@@ -14,7 +14,7 @@ pub mod well_formed;
 use forms::{Form, Parts};
 
 // The header of a channel.
-#[derive(Clone, Copy, Debug, PartialEq, Eq)]
+#[derive(Clone, Copy, PartialEq, Eq)]
 pub struct Shape {
     pub dim: usize,
     pub bits: u32,

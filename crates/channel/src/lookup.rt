@@ -11,7 +11,7 @@ use store::{is_store, pack};
 
 // Kept: C is handed the start, which a slice does not tell; `lookup` makes the slice of it at once.
 // A part of a slice.
-#[derive(Clone, Copy, Debug, PartialEq, Eq)]
+#[derive(Clone, Copy)]
 pub struct Span {
     pub start: usize,
     pub size: usize,

@@ -1,8 +1,8 @@
 -- The words that an edit leaves, by its verdict, and what a gate that may be taken out is known for.
 use Rattle.std.specs.Prelude.{is_ok, Ok, Err}
-use mathlib.Core.Path.{◌≡◌, sym, ap, ◌∙◌, subst}
+use mathlib.Core.Path.{◌≡◌, refl, sym, ap, ◌∙◌, subst}
 use mathlib.Core.Bool.{Bool, true, false, cond, ◌&&◌, ◌||◌}
-use mathlib.Core.List.{List}
+use mathlib.Core.List.{List, [], ◌∷◌}
 use Prim.Native.Nat.{ℕ, ◌+◌, ◌≤◌, ◌<◌}
 use native.Mathlib.Omega.{arith}
 use lib.Dec.{leb, ltb}
@@ -10,13 +10,14 @@ use lib.ListN.{length}
 use lib.IntN.{ℤ}
 use borrow.Author.Tests.{ltb-true, lt-leb, lt-ltb}
 use Rattle.algebra.proofs.Tests.{and_split}
-use Rattle.verdict.specs.Questions.{Verdict, first_no}
+use Rattle.verdict.specs.declared.Refusal.{Refusal}
 use Rattle.verdict.specs.declared.Refusal.TheVariants.{NoPlace, BadCounts}
-use Rattle.verdict.proofs.Questions.{all_yes}
+use Rattle.verdict.specs.Questions.{Verdict, Question, question, first_no}
+use Rattle.verdict.proofs.Questions.{all_yes, decided, passed}
 use Rattle.algebra.specs.Lists.{every}
 use Rattle.gate.specs.Gate.{Gate, gate_size, bits}
 use Rattle.kept_circuit.specs.Kept.{max_bits, gate_place, gates_of, room, sound}
-use Rattle.kept_circuit.specs.Edits.{ask_gate, append_verdict, gate_in, takeable, take_questions}
+use Rattle.kept_circuit.specs.Edits.{ask_gate, append_verdict, gate_in, takeable, take_questions, replace_verdict}
 use Rattle.kept_circuit.specs.Inner.Taken.{Taken}
 use Rattle.kept_circuit.proofs.Sound.{Sound, bits-counted, takes_is, place_in}
 
@@ -53,3 +54,12 @@ append_asked {k} {l} {i} e f g s h a =
     let at : i ≡ gates_of l = f ∙ ap gates_of e in
     let free : ltb (gates_of l) (room (length l)) ≡ true = lt-ltb (gates_of l) (room (length l)) (omega (arith, h, at)) in
     a ∙ (λ j. first_no (ask_gate (e j) (at j) g)) ∙ (λ j. cond (sym s j) (cond (sym free j) (first_no (ask_gate l (gates_of l) g)) (Err NoPlace)) (Err BadCounts))
+
+-- ---- counts that are not sound refuse whatever is asked behind them
+pub unsound : {b : Bool} {r : Refusal} (qs : List Question) → r ≡ BadCounts → b ≡ false → Err r ≡ first_no (question 25 b BadCounts ∷ qs)
+unsound {b} qs e s = ap Err e ∙ sym (decided [] qs (question 25 b BadCounts) refl s)
+
+-- ---- a gate that replaces one which may be taken out is asked last
+pub replace_asked : {k l : List ℤ} {i : ℕ} {old : Gate} → k ≡ l → Taken k i old → (g : Gate) {v : Verdict} → v ≡ first_no (ask_gate k i g) → v ≡ replace_verdict l i g
+replace_asked {k} {l} {i} e t g a =
+    a ∙ ap (λ (l : List ℤ). first_no (ask_gate l i g)) e ∙ passed tt tt (take_questions l i) (ask_gate l i g) (taken_by e t).asked

@@ -1,20 +1,26 @@
 -- The tokens of a text from a position on, step by step.
 use mathlib.Core.Path.{◌≡◌, refl, sym, ap, ◌∙◌, subst}
-use mathlib.Core.Bool.{Bool, true, false, cond, not}
+use mathlib.Core.Bool.{Bool, true, false, cond, not, ◌&&◌, ◌||◌}
 use mathlib.Core.List.{List, [], ◌∷◌}
+use Prim.Native.Char.{code}
 use Prim.Native.Nat.{ℕ, zero, suc, ◌+◌, ◌-◌, ◌<◌, ◌≤◌, min}
 use native.Mathlib.Decide.{dec_lt}
 use native.Mathlib.Omega.{arith}
+use lib.Dec.{eqb}
 use lib.ListN.{length, get_or, take, drop, length-drop, drop_of_length-le}
 use Rattle.std.specs.Prelude.{Some, None}
+use Rattle.std.specs.List.{starts_with}
 use Rattle.std.proofs.lemmas.List.{take_rest, drop-drop}
 use Rattle.std.proofs.lemmas.List.Sums.{position_or_len_is}
 use Rattle.std.proofs.lemmas.List.Recursion.{is_position_or_len}
+use Rattle.algebra.proofs.Tests.{eqb_same}
+use Rattle.text.specs.Ascii.{ascii}
 use Rattle.text.specs.Decimal.{is_digit}
+use Rattle.qasm.specs.declared.tokens.Part.{Part}
 use Rattle.qasm.specs.declared.tokens.Part.TheVariants.{Gap, Bytes}
 use Rattle.qasm.specs.Tokens.{is_blank, is_comment, is_gap, in_line, opens_word, in_word, run, arrow, library, begins, sign_more, more, Token, token, tokens}
 use Rattle.qasm.specs.Inner.Scanning.{from, first_part}
-use Rattle.qasm.proofs.Same.{begins_long}
+use Rattle.qasm.proofs.Same.{begins_long, same_pointwise}
 use Rattle.qasm.proofs.Lexing.{tokens-inside}
 
 -- ---- runs
@@ -69,6 +75,41 @@ more-most b bs = by (is_blank b) (is_comment b bs) (is_digit b) (opens_word b)
     by false false true word = run_most is_digit bs
     by false false false true = run_most in_word bs
     by false false false false = sign-most b bs
+
+-- ---- the part at the front of a text t, by the tests in their order
+-- what std compares for two slashes
+pub comment_is : (b : ℕ) (bs : List ℕ) → starts_with eqb (b ∷ bs) (ascii "//") ≡ is_comment b bs
+comment_is b bs = by bs
+  where
+    slash : (b : ℕ) → eqb (code "/") b ≡ eqb b (code "/")
+    slash b = eqb_same (code "/") b b (code "/") sym sym
+
+    whole : (c : Bool) → c && true ≡ c
+    whole true = refl
+    whole false = refl
+
+    by : (bs : List ℕ) → starts_with eqb (b ∷ bs) (ascii "//") ≡ is_comment b bs
+    by [] = ap (λ (c : Bool). c && false) (slash b)
+    by (x ∷ xs) = λ j. slash b j && (whole (eqb (code "/") x) ∙ slash x) j
+
+module _ {t bs : List ℕ} {b : ℕ} (e : t ≡ b ∷ bs) where
+  abbrev part : (blank comment digit word : Bool) → ℕ → Part
+  part blank comment digit word sign =
+      let n = suc (cond blank 0 (cond comment (run in_line bs) (cond digit (run is_digit bs) (cond word (run in_word bs) sign)))) in
+      cond (blank || comment) (Gap n) (Bytes n)
+
+  begun : (s : List ℕ) → starts_with eqb t s ≡ begins s (b ∷ bs)
+  begun s = same_pointwise s (take (length s) t) ∙ ap (begins s) e
+
+  -- how many more bytes a sign has
+  pub sign_is : {a l : Bool} → a ≡ starts_with eqb t arrow → l ≡ starts_with eqb t library → cond a (length arrow - 1) (cond l (length library - 1) 0) ≡ sign_more (b ∷ bs)
+  sign_is {a} {l} p q =
+      λ j. cond ((p ∙ begun arrow) j) (length arrow - 1) (cond ((q ∙ begun library) j) (length library - 1) 0)
+
+  module _ {blank comment digit word : Bool} (f : blank ≡ is_blank b) (g : comment ≡ starts_with eqb t (ascii "//")) (h : digit ≡ is_digit b) (k : word ≡ opens_word b) where
+    pub first_is : Some (part blank comment digit word (sign_more (b ∷ bs))) ≡ first_part t
+    first_is =
+        (λ j. Some (part (f j) ((g ∙ ap (λ (t : List ℕ). starts_with eqb t (ascii "//")) e ∙ comment_is b bs) j) (h j) (k j) (sign_more (b ∷ bs)))) ∙ sym (ap first_part e)
 
 -- ---- the part at the front, of n bytes
 pub record Front (bs : List ℕ) (n : ℕ) : Type 0 where

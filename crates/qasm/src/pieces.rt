@@ -3,14 +3,14 @@ ghost use Rattle.std.specs.Prelude.{◌≡◌};
 ghost use Rattle.qasm.specs.Inner.Pieces.{pieces_of, form_of};
 
 // The registers: of the qubits, and of the classical bits.
-#[derive(Clone, Copy, Debug, PartialEq, Eq)]
+#[derive(Clone, Copy)]
 pub enum Register {
     Quantum,
     Classical,
 }
 
 // What stands at one place of a statement.
-#[derive(Clone, Copy, Debug)]
+#[derive(Clone, Copy)]
 pub enum Piece {
     // These bytes.
     Fixed(&'static [u8]),
@@ -84,7 +84,7 @@ static MEASURED: [Piece; 10] = [
 ];
 
 // How the statement of a gate goes on behind its name.
-#[derive(Clone, Copy, Debug, PartialEq, Eq)]
+#[derive(Clone, Copy)]
 pub enum Form {
     One,
     Two,

@@ -10,7 +10,7 @@ use verdict::Refusal;
 
 // What a text says: how many qubits and bits it declares, and how many words its gates have.
 // Kept: the words lie in the lent room; a slice of them would hold that loan, and the C interface answers how many there are.
-#[derive(Clone, Copy, Debug, PartialEq, Eq)]
+#[derive(Clone, Copy)]
 pub struct Reading {
     pub qubits: u32,
     pub bits: u32,
@@ -19,7 +19,7 @@ pub struct Reading {
 
 // Why a text is refused, and the position of the fault.
 // Kept: the C interface answers a position with each refusal, and 0 with the one that has none, ShortBuffer; an Option would be turned back into that 0.
-#[derive(Clone, Copy, Debug, PartialEq, Eq)]
+#[derive(Clone, Copy)]
 pub struct Fault {
     pub refusal: Refusal,
     pub position: usize,

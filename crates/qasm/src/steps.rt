@@ -26,7 +26,7 @@ use verdict::Refusal;
 
 // What has been read: the pieces that are due before the statement ends (none between statements), the registers' names (none: no bytes) and sizes, and how many words the gates have.
 // Kept: a register that is not declared has a name of no bytes, as `Seen` of the specs has it, and so equals no token; with Options each test would be of `Some` of the bytes, and no plainer.
-#[derive(Clone, Copy, Debug)]
+#[derive(Clone, Copy)]
 pub struct Progress<'a> {
     pub due: &'static [Piece],
     pub quantum: &'a [u8],

@@ -10,7 +10,7 @@ use text::bytes::is_digit;
 pub const HEADER: [u8; 13] = *b"OPENQASM 2.0;";
 
 // A word, a number or a sign, and the position in the text where it begins.
-#[derive(Clone, Copy, Debug)]
+#[derive(Clone, Copy)]
 pub struct Token<'a> {
     pub at: usize,
     pub bytes: &'a [u8],
@@ -18,7 +18,7 @@ pub struct Token<'a> {
 
 // The tokens of a text from `at` on.
 // Kept: each token is given with its position in the whole text, which a slice of the rest would not tell.
-#[derive(Clone, Copy, Debug)]
+#[derive(Clone, Copy)]
 pub struct Tokens<'a> {
     text: &'a [u8],
     at: usize,
@@ -26,7 +26,7 @@ pub struct Tokens<'a> {
 }
 
 // What stands at the front of a text, and how many bytes it has.
-#[derive(Clone, Copy, Debug)]
+#[derive(Clone, Copy)]
 pub enum Part {
     Gap(usize),
     Bytes(usize),
