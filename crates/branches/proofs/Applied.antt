@@ -16,9 +16,8 @@ use Rattle.algebra.proofs.Signed.{word_is}
 use Rattle.algebra.proofs.Blocks.{Writing, begin, kept, rest, wrote, Same, narrow, block_in_lem, blocks-same, blocks_more, blocks_over}
 use Rattle.exact.specs.Exact.{Number, Exact, lowest, narrow_exponent, narrow_numerator, number_of, list_of}
 use Rattle.exact.specs.Inner.Sizes.{Within}
-use Rattle.gate.specs.declared.rows.Rows.{Rows}
 use Rattle.gate.specs.declared.rows.Row.{Row}
-use Rattle.gate.specs.Inner.Rows.{row_in, entry_in}
+use Rattle.gate.specs.Inner.Rows.{Form, entry_in}
 use Rattle.channel.specs.Shared.{shared}
 use Rattle.channel.specs.Forms.{Alike}
 use Rattle.share.specs.Share.{number_in, shared_from, with_numerators}
@@ -31,13 +30,13 @@ use Rattle.branches.specs.Inner.Step.{Applying, row_numerators, row_sum}
 use Rattle.branches.proofs.Numerators.{row-place, own_narrow, other_narrow, row_made, factor_narrow, row-same, numerators_value}
 
 -- ---- b is l with r rows of the product written
-abbrev pub Applied : List ℤ → ℕ → Rows → ℕ → ℕ → ℕ → List ℤ → ℕ → Type 0
+abbrev pub Applied : List ℤ → ℕ → Form → ℕ → ℕ → ℕ → List ℤ → ℕ → Type 0
 Applied l m R old new d b r = Writing 4 l new (d * d) (λ (i : ℕ). list_of (row_numerators l m R old d (i / d) (i % d))) b (r * d)
 
-pub none_applied : (l : List ℤ) (m : ℕ) (R : Rows) (old new d : ℕ) → Applied l m R old new d l 0
+pub none_applied : (l : List ℤ) (m : ℕ) (R : Form) (old new d : ℕ) → Applied l m R old new d l 0
 none_applied l m R old new d = subst (Writing 4 l new (d * d) (λ (i : ℕ). list_of (row_numerators l m R old d (i / d) (i % d))) l) (sym (zero-mul d)) (begin (λ i. le_refl 4))
 
-module _ {l : List ℤ} {m : ℕ} {R : Rows} {old new d : ℕ} (p : Applying l m R old new d) {r : ℕ} (hr : r < d) {b : List ℤ} (w : Applied l m R old new d b r) where
+module _ {l : List ℤ} {m : ℕ} {R : Form} {old new d : ℕ} (p : Applying l m R old new d) {r : ℕ} (hr : r < d) {b : List ℤ} (w : Applied l m R old new d b r) where
   matrix : Same b l old (matrix_size d)
   matrix = kept w old (matrix_size d) (narrow old (matrix_size d) new (matrix_size d) old (matrix_size d) new (d * d * 4) p.apart (omega arith) (omega arith) (omega arith) (omega arith))
 
@@ -51,7 +50,7 @@ module _ {l : List ℤ} {m : ℕ} {R : Rows} {old new d : ℕ} (p : Applying l m
     place = inr (narrow old (matrix_size d) new (matrix_size d) (old + s * d * 4) (d * 4) (new + r * d * 4) (d * 4) p.apart (omega arith) (omega (arith, block_in_lem hs d)) (omega arith) (omega (arith, block_in_lem hr d)));
   }
 
-  module _ {x : Row} (e : x ≡ row_in R r) where
+  module _ {x : Row} (e : x ≡ R.row r) where
     pub own-scaling : Scaling b (number_of x.own) (old + r * d * 4) (new + r * d * 4) d
     own-scaling = scaling hr (own_narrow p.turning.sized hr e)
 
@@ -82,7 +81,7 @@ module _ {l : List ℤ} {m : ℕ} {R : Rows} {old new d : ℕ} (p : Applying l m
         row c hc = row_made l b m R old d r c e (row-same d matrix r c hr hc) (row-same d matrix (bit_xor r m) c (p.turning.below r hr) hc)
 
 -- ---- the whole product
-module _ (l : List ℤ) (m : ℕ) (R : Rows) (old new d : ℕ) (room : new + d * d * 4 ≤ length l) {b : List ℤ}
+module _ (l : List ℤ) (m : ℕ) (R : Form) (old new d : ℕ) (room : new + d * d * 4 ≤ length l) {b : List ℤ}
     (eb : b ≡ with_numerators l new (d * d) (λ (i : ℕ). row_numerators l m R old d (i / d) (i % d))) {e : ℕ} (ee : e ≡ exponent_in l old (d * d)) where
   abbrev sum : ℕ → Exact
   sum i = row_sum l m (entry_in R) old d (i / d) (i % d)

@@ -13,11 +13,11 @@ use Rattle.std.proofs.lemmas.Nat.{and_xor_apart}
 use Rattle.algebra.proofs.Tests.{equal2}
 use Rattle.exact.specs.Exact.{number_of}
 use Rattle.gate.specs.declared.rows.Row.{Row}
-use Rattle.gate.specs.declared.rows.Rows.{Rows}
 use Rattle.gate.specs.declared.tables.Core.{Core}
-use Rattle.gate.specs.Inner.Rows.{row_in}
+use Rattle.gate.specs.Inner.Rows.{Form}
 use Rattle.rows.specs.Inner.Rows.{Mixing, mixed}
-use Rattle.branches.specs.Inner.Step.{MasksApart, one_over, zeros, rows_by}
+use Rattle.gate.specs.Inner.Tables.{one_over, zeros, kept_row, exchanged_row, rows_by}
+use Rattle.branches.specs.Inner.Step.{MasksApart}
 
 -- 0 or 1 where the bits m of r are all 0 or all 1, else 2
 abbrev class : ℕ → ℕ → ℕ
@@ -50,14 +50,14 @@ by_class low high exchanged false false = refl
 
 -- both rows of a pair, r first
 module _ {held m : ℕ} (a : MasksApart held m) (c : Core) {r : ℕ} (hm : m < 32) (hr : r < 32) (h : r < bit_xor r m) where
-  abbrev R : Rows
+  abbrev R : Form
   R = rows_by held m c
 
   abbrev s : ℕ
   s = bit_xor r m
 
   abbrev Are : Row → Row → Type 0
-  Are x y = (row_in R r ≡ x) × (row_in R s ≡ y)
+  Are x y = (R.row r ≡ x) × (R.row s ≡ y)
 
   held-same : bit_and s held ≡ bit_and r held
   held-same = and_xor_apart held r m a.apart
@@ -68,11 +68,11 @@ module _ {held m : ℕ} (a : MasksApart held m) (c : Core) {r : ℕ} (hm : m < 3
   -- where all are 1
   module _ (e : bit_and r held ≡ held) where
     abbrev exchanged : Row
-    exchanged = record { own = zeros; other = one_over c.e }
+    exchanged = exchanged_row c.e
 
-    mixed-row : (k n : ℕ) → bit_and k held ≡ held → class m k ≡ n → row_in R k ≡ of_class c.low c.high exchanged n
+    mixed-row : (k n : ℕ) → bit_and k held ≡ held → class m k ≡ n → R.row k ≡ of_class c.low c.high exchanged n
     mixed-row k n f g =
-        ap (λ (b : Bool). cond b (cond (eqb (bit_and k m) 0) c.low (cond (eqb (bit_and k m) m) c.high exchanged)) (record { own = one_over c.e; other = zeros })) (eq-eqb (bit_and k held) held f)
+        ap (λ (b : Bool). cond b (cond (eqb (bit_and k m) 0) c.low (cond (eqb (bit_and k m) m) c.high exchanged)) (kept_row c.e)) (eq-eqb (bit_and k held) held f)
         ∙ by_class c.low c.high exchanged (eqb (bit_and k m) 0) (eqb (bit_and k m) m)
         ∙ ap (of_class c.low c.high exchanged) g
 
@@ -95,9 +95,9 @@ module _ {held m : ℕ} (a : MasksApart held m) (c : Core) {r : ℕ} (hm : m < 3
 
   -- known rows are mixed
   module _ {x y : Row} (are : Are x y) (b : List ℤ) (p q d : ℕ) where
-    pub mixing_by : Mixing b (number_of (row_in R r).own) (number_of (row_in R r).other) p (number_of (row_in R s).own) (number_of (row_in R s).other) q d → Mixing b (number_of x.own) (number_of x.other) p (number_of y.own) (number_of y.other) q d
+    pub mixing_by : Mixing b (number_of (R.row r).own) (number_of (R.row r).other) p (number_of (R.row s).own) (number_of (R.row s).other) q d → Mixing b (number_of x.own) (number_of x.other) p (number_of y.own) (number_of y.other) q d
     mixing_by = transport (λ i. Mixing b (number_of (are.0 i).own) (number_of (are.0 i).other) p (number_of (are.1 i).own) (number_of (are.1 i).other) q d)
 
     pub mixed_by : {w : List ℤ} → w ≡ mixed b (number_of x.own) (number_of x.other) p (number_of y.own) (number_of y.other) q d
-        → w ≡ mixed b (number_of (row_in R r).own) (number_of (row_in R r).other) p (number_of (row_in R s).own) (number_of (row_in R s).other) q d
+        → w ≡ mixed b (number_of (R.row r).own) (number_of (R.row r).other) p (number_of (R.row s).own) (number_of (R.row s).other) q d
     mixed_by g = g ∙ sym (λ i. mixed b (number_of (are.0 i).own) (number_of (are.0 i).other) p (number_of (are.1 i).own) (number_of (are.1 i).other) q d)

@@ -17,18 +17,17 @@ use Rattle.exact.specs.Inner.Sizes.{Coords}
 use Rattle.gate.specs.Gate.{Gate, elem, measure, reset, splits, bit_of}
 use Rattle.gate.specs.Operators.{operators}
 use Rattle.gate.specs.Inner.Entries.{flips, controls, core_of, partner, row_entry}
-use Rattle.gate.specs.declared.rows.Rows.{Rows}
-use Rattle.gate.specs.Inner.Rows.{entry_in, Represents}
+use Rattle.gate.specs.Inner.Rows.{Form, entry_in, Represents}
 use Rattle.gate.specs.declared.tables.Core.{Core}
-use Rattle.gate.specs.Inner.Tables.{is_core, are_unmixed}
+use Rattle.gate.specs.Inner.Tables.{is_core, rows_by}
 use Rattle.gate.proofs.Masks.{masks-apart}
 use Rattle.gate.proofs.Partner.{row-two}
-use Rattle.gate.proofs.Represented.{represented, sized, core-small, gate-represented}
+use Rattle.gate.proofs.Represented.{represented, sized, gate-represented}
 use Rattle.kraus.proofs.Counting.{operators-length}
 use Rattle.branches.specs.declared.bank.Bank.{Bank}
 use Rattle.branches.specs.Inner.Store.{no_bit, outcome_bit}
 use Rattle.branches.specs.Inner.Bank.{branch_size}
-use Rattle.branches.specs.Inner.Step.{Step, StepInPlace, MasksApart, unmixed, rows_by, operator_in, product_words, step_words, turned}
+use Rattle.branches.specs.Inner.Step.{Step, StepInPlace, MasksApart, operator_in, product_words, step_words, turned}
 use Rattle.branches.specs.Inner.Run.{gate_stepped, place_after, GateStep}
 use Rattle.branches.proofs.Products.{partner_lt, product_same}
 use Rattle.branches.proofs.Steps.{none_is}
@@ -72,7 +71,7 @@ pub bit_is : (g : Gate) → unwrap_or (bit_of g) no_bit ≡ outcome_bit g
 bit_is g = elim (eqb g.kind measure) as (λ (b : Bool). unwrap_or (cond b (Some g.b) None) no_bit ≡ cond b g.b no_bit) [ true ↦ refl | false ↦ refl ]
 
 -- ---- one gate, read from its words, and the rows of its k operators
-module _ {l : List ℤ} {g read : Gate} {n d from to count : ℕ} (p : GateStep l g n d from to count) (e : read ≡ g) {first second : Rows} {m k : ℕ} (m_is : m ≡ flips n read) (k_is : length (operators read) ≡ k)
+module _ {l : List ℤ} {g read : Gate} {n d from to count : ℕ} (p : GateStep l g n d from to count) (e : read ≡ g) {first second : Form} {m k : ℕ} (m_is : m ≡ flips n read) (k_is : length (operators read) ≡ k)
     (one : Represents first (2 ^ n * 2) (row_entry n read 0)) (other : 1 < k → Represents second (2 ^ n * 2) (row_entry n read 1)) where
   abbrev ops : ℕ
   ops = length (operators g)
@@ -84,7 +83,7 @@ module _ {l : List ℤ} {g read : Gate} {n d from to count : ℕ} (p : GateStep 
   masks = m_is ∙ ap (flips n) e
 
   -- the operator with a number
-  abbrev R : ℕ → Rows
+  abbrev R : ℕ → Form
   R = operator_in first second
 
   partner-lt : (r : ℕ) → r < d → partner n g r < d
@@ -152,18 +151,13 @@ module _ {l : List ℤ} {g read : Gate} {n d from to count : ℕ} (p : GateStep 
       digit = v ∙ ap (λ (k : ℕ). λ (j : ℕ). j % k) (sym ops_are)
 
 -- ---- a gate that splits nothing, by its two-by-two matrix c
-unmixed-tested : (e : ℕ) → e ≤ 1 → are_unmixed (unmixed e) e ≡ true
-unmixed-tested zero h = refl
-unmixed-tested (suc zero) h = refl
-unmixed-tested (suc (suc e)) h = absurd (omega arith)
-
 module _ {l : List ℤ} {g : Gate} {n d from to count : ℕ} (p : GateStep l g n d from to count) (none : splits g ≡ 0) (c : Core) (tested : is_core c (core_of g 0) ≡ true) {m held : ℕ}
     (m_is : m ≡ flips n g) (held_is : held ≡ controls n g) where
-  abbrev by_core : Rows
+  abbrev by_core : Form
   by_core = rows_by held m c
 
   rows_are : Represents by_core (2 ^ n * 2) (row_entry n g 0)
-  rows_are = gate-represented p.ready c tested p.few m_is held_is (unmixed-tested c.e (core-small p.ready c tested))
+  rows_are = gate-represented p.ready c tested p.few m_is held_is
 
   pub turning_asked : MasksApart held m × StepInPlace l m (operator_in by_core by_core) 0 from d count
   turning_asked = (

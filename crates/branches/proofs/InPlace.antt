@@ -11,8 +11,7 @@ use lib.Seq.{sets}
 use lib.IntN.{ℤ, pos}
 use Rattle.algebra.proofs.Blocks.{Writing, begin, again, rest, Same, same_trans, part, append_block}
 use Rattle.exact.specs.Exact.{Exact}
-use Rattle.gate.specs.declared.rows.Rows.{Rows}
-use Rattle.gate.specs.Inner.Rows.{entry_in}
+use Rattle.gate.specs.Inner.Rows.{Form, entry_in}
 use Rattle.share.proofs.Numbers.{sets_there}
 use Rattle.rows.specs.Inner.Rows.{held_words}
 use Rattle.rows.proofs.Held.{length_shared}
@@ -22,7 +21,7 @@ use Rattle.branches.specs.Inner.Step.{row_sum, Turning, operator_number, product
 use Rattle.branches.proofs.Numerators.{sums_same}
 use Rattle.branches.proofs.Steps.{length-product, apart_kept, still_turning}
 
-module _ {l : List ℤ} {f : ℕ} {R : ℕ → Rows} {mask at d count : ℕ} (p : StepInPlace l f R mask at d count) (shift : ℕ) where
+module _ {l : List ℤ} {f : ℕ} {R : ℕ → Form} {mask at d count : ℕ} (p : StepInPlace l f R mask at d count) (shift : ℕ) where
   abbrev number : ℕ → ℕ
   number = operator_number shift mask
 
@@ -33,7 +32,7 @@ module _ {l : List ℤ} {f : ℕ} {R : ℕ → Rows} {mask at d count : ℕ} (p 
   none_turned = begin (λ j. le_of_eq (length-product l f (entry_in (R (number j))) (at + j / 1 * branch_size d) d no_bit (number j)))
 
   -- turn j, where code counts s words for a branch
-  module _ {j : ℕ} (h : j < count) {s : ℕ} (es : s ≡ branch_size d) {b : List ℤ} (w : Writing (branch_size d) l at count products b j) {Q : Rows} (eq : Q ≡ R (number j)) where
+  module _ {j : ℕ} (h : j < count) {s : ℕ} (es : s ≡ branch_size d) {b : List ℤ} (w : Writing (branch_size d) l at count products b j) {Q : Form} (eq : Q ≡ R (number j)) where
     abbrev place : ℕ
     place = at + j * branch_size d
 

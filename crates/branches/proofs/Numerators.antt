@@ -23,8 +23,7 @@ use Rattle.exact.specs.Inner.Sizes.{Within}
 use Rattle.exact.proofs.Exact.{exact_halving}
 use Rattle.exact.proofs.Align.{widen}
 use Rattle.gate.specs.declared.rows.Row.{Row}
-use Rattle.gate.specs.declared.rows.Rows.{Rows}
-use Rattle.gate.specs.Inner.Rows.{row_in, numerators_in, entry_in, Sized}
+use Rattle.gate.specs.Inner.Rows.{Form, numerators_in, entry_in, Sized}
 use Rattle.share.specs.Share.{number_in}
 use Rattle.share.proofs.Numbers.{number_same}
 use Rattle.rows.specs.Inner.Rows.{held_words, exponent_in, Factors, combined_row}
@@ -52,7 +51,7 @@ pub row-place : (old d s c : ℕ) → old + s * d * 4 + c * 4 ≡ old + (s * d +
 row-place old d s c = omega arith
 
 -- the numerators of a row over both powers of two are the row
-pub numerators_value : (l : List ℤ) (m : ℕ) (R : Rows) (old d r c : ℕ) → lowest (row_numerators l m R old d r c) (exponent_in l old (d * d) + R.exponent) ≡ row_sum l m (entry_in R) old d r c
+pub numerators_value : (l : List ℤ) (m : ℕ) (R : Form) (old d r c : ℕ) → lowest (row_numerators l m R old d r c) (exponent_in l old (d * d) + R.exponent) ≡ row_sum l m (entry_in R) old d r c
 numerators_value l m R old d r c = sym (value-add ℤ√2i exact_halving (e + R.exponent) _ _) ∙ ap₂ exact.◌⊕◌ (one (r * 2) r) (one (r * 2 + 1) (bit_xor r m))
   where
     e : ℕ
@@ -66,18 +65,18 @@ numerators_value l m R old d r c = sym (value-add ℤ√2i exact_halving (e + R.
 
 -- ---- sizes
 -- the numerators of an operator
-module _ (R : Rows) (r : ℕ) where
-  pub own_is : number_of (row_in R r).own ≡ numerators_in R (r * 2)
-  own_is = sym (own_at (λ (k : ℕ) (b : Bool). let w : Row = row_in R k in number_of (cond b w.own w.other)) r)
+module _ (R : Form) (r : ℕ) where
+  pub own_is : number_of (R.row r).own ≡ numerators_in R (r * 2)
+  own_is = sym (own_at (λ (k : ℕ) (b : Bool). let w : Row = R.row k in number_of (cond b w.own w.other)) r)
 
-  pub other-is : number_of (row_in R r).other ≡ numerators_in R (r * 2 + 1)
-  other-is = sym (other_at (λ (k : ℕ) (b : Bool). let w : Row = row_in R k in number_of (cond b w.own w.other)) r)
+  pub other-is : number_of (R.row r).other ≡ numerators_in R (r * 2 + 1)
+  other-is = sym (other_at (λ (k : ℕ) (b : Bool). let w : Row = R.row k in number_of (cond b w.own w.other)) r)
 
-pub entry-narrow : {R : Rows} {m : ℕ} → Sized R m → (i : ℕ) → i < m → Within narrow_numerator (numerators_in R i)
+pub entry-narrow : {R : Form} {m : ℕ} → Sized R m → (i : ℕ) → i < m → Within narrow_numerator (numerators_in R i)
 entry-narrow {R} h i q = widen (2 ^ R.exponent) narrow_numerator (numerators_in R i) (pow_mono h.small) (h.sizes i q)
 
 -- a row as the code reads it
-module _ {R : Rows} {d : ℕ} (sized : Sized R (d * 2)) {r : ℕ} (h : r < d) {x : Row} (e : x ≡ row_in R r) where
+module _ {R : Form} {d : ℕ} (sized : Sized R (d * 2)) {r : ℕ} (h : r < d) {x : Row} (e : x ≡ R.row r) where
   pub own_narrow : Within narrow_numerator (number_of x.own)
   own_narrow = subst (Within narrow_numerator) (sym (own_is R r) ∙ ap (λ (x : Row). number_of x.own) (sym e)) (entry-narrow sized (r * 2) (omega arith))
 
@@ -85,7 +84,7 @@ module _ {R : Rows} {d : ℕ} (sized : Sized R (d * 2)) {r : ℕ} (h : r < d) {x
   other_narrow = subst (Within narrow_numerator) (sym (other-is R r) ∙ ap (λ (x : Row). number_of x.other) (sym e)) (entry-narrow sized (r * 2 + 1) (omega arith))
 
 -- and what it makes of two rows of numbers that are as they were
-pub row_made : (l b : List ℤ) (m : ℕ) (R : Rows) (old d r c : ℕ) {x : Row} → x ≡ row_in R r → number_in b (old + r * d * 4 + c * 4) ≡ number_in l (old + r * d * 4 + c * 4)
+pub row_made : (l b : List ℤ) (m : ℕ) (R : Form) (old d r c : ℕ) {x : Row} → x ≡ R.row r → number_in b (old + r * d * 4 + c * 4) ≡ number_in l (old + r * d * 4 + c * 4)
     → number_in b (old + bit_xor r m * d * 4 + c * 4) ≡ number_in l (old + bit_xor r m * d * 4 + c * 4)
     → combined_row b (number_of x.own) (old + r * d * 4) (number_of x.other) (old + bit_xor r m * d * 4) c ≡ row_numerators l m R old d r c
 row_made l b m R old d r c e own other =

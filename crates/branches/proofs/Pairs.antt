@@ -18,9 +18,8 @@ use Rattle.algebra.proofs.Blocks.{length-blocks, block_in_lem, length-joined, bl
 use Rattle.algebra.proofs.Squares.{row_lt, column_lt}
 use Rattle.exact.specs.Exact.{Number, list_of, narrow_numerator, number_of}
 use Rattle.exact.specs.Inner.Sizes.{Within}
-use Rattle.gate.specs.declared.rows.Rows.{Rows}
 use Rattle.gate.specs.declared.rows.Row.{Row}
-use Rattle.gate.specs.Inner.Rows.{row_in}
+use Rattle.gate.specs.Inner.Rows.{Form}
 use Rattle.share.specs.Share.{number_in, with_numerators}
 use Rattle.share.proofs.Numbers.{number-filled, numbers-there}
 use Rattle.rows.specs.Inner.Rows.{combined_row, Mixing, mixed}
@@ -97,7 +96,7 @@ module _ (l : List ℤ) (at d : ℕ) (room : at + d * d * 4 ≤ length l) where
 
 -- ---- rows and their partners
 -- number c of row k, once the pairs are made whose first row is below n
-abbrev pub paired : List ℤ → ℕ → Rows → ℕ → ℕ → ℕ → ℕ → ℕ → Number
+abbrev pub paired : List ℤ → ℕ → Form → ℕ → ℕ → ℕ → ℕ → ℕ → Number
 paired l m R at d n k c = cond (ltb (min k (bit_xor k m)) n) (row_numerators l m R at d k c) (number_in l (at + k * d * 4 + c * 4))
 
 xor_back : (r m : ℕ) → bit_xor (bit_xor r m) m ≡ r
@@ -122,7 +121,7 @@ ltb_more a n e = go (dec_lt a n)
     go (yes h) = lt-ltb a n h ∙ sym (lt-ltb a (n + 1) (omega arith))
     go (no h) = le-ltb a n (omega arith) ∙ sym (le-ltb a (n + 1) (omega arith))
 
-module _ {l : List ℤ} {m : ℕ} {R : Rows} {at d : ℕ} (p : Turning l m R at d) where
+module _ {l : List ℤ} {m : ℕ} {R : Form} {at d : ℕ} (p : Turning l m R at d) where
   square_room : at + d * d * 4 ≤ length l
   square_room = omega (arith, p.factors.room)
 
@@ -165,7 +164,7 @@ module _ {l : List ℤ} {m : ℕ} {R : Rows} {at d : ℕ} (p : Turning l m R at 
     narrow_row : (k : ℕ) → k < d → ((c : ℕ) → c < d → number_in b (at + k * d * 4 + c * 4) ≡ number_in l (at + k * d * 4 + c * 4)) → (c : ℕ) → c < d → Within narrow_numerator (number_in b (at + k * d * 4 + c * 4))
     narrow_row k hk e c hc = subst (Within narrow_numerator) (sym (e c hc ∙ ap (number_in l) (row-place at d k c))) (factor_narrow p.factors (k * d + c) (digits_lt hk hc))
 
-    pub mixing : {x y : Row} → r < s → x ≡ row_in R r → y ≡ row_in R s → Mixing b (number_of x.own) (number_of x.other) (at + r * d * 4) (number_of y.own) (number_of y.other) (at + s * d * 4) d
+    pub mixing : {x y : Row} → r < s → x ≡ R.row r → y ≡ R.row s → Mixing b (number_of x.own) (number_of x.other) (at + r * d * 4) (number_of y.own) (number_of y.other) (at + s * d * 4) d
     mixing h ex ey = record {
       own = own_narrow p.sized hr ex;
       other = other_narrow p.sized hr ex;
@@ -178,7 +177,7 @@ module _ {l : List ℤ} {m : ℕ} {R : Rows} {at d : ℕ} (p : Turning l m R at 
       apart = inl (omega (arith, block_in_lem h d));
     }
 
-    pub folding : {x : Row} → r ≡ s → x ≡ row_in R r
+    pub folding : {x : Row} → r ≡ s → x ≡ R.row r
         → Within narrow_numerator (number_of x.own) × (Within narrow_numerator (number_of x.other) × ((at + r * d * 4 + d * 4 ≤ length b) × ((c : ℕ) → c < d → Within narrow_numerator (number_in b (at + r * d * 4 + c * 4)))))
     folding e ex = (own_narrow p.sized hr ex, (other_narrow p.sized hr ex, (omega (arith, square_room, length-b, block_in_lem hr d), narrow_row r hr (own_was (omega arith)))))
 
@@ -186,7 +185,7 @@ module _ {l : List ℤ} {m : ℕ} {R : Rows} {at d : ℕ} (p : Turning l m R at 
     now_made : (k c : ℕ) → min k (bit_xor k m) ≤ r → row_numerators l m R at d k c ≡ after_rows (r + 1) k c
     now_made k c h = sym (by_test (r + 1) k c (lt-ltb (min k (bit_xor k m)) (r + 1) (omega arith)))
 
-    own_made : {x : Row} → x ≡ row_in R r → r ≤ s → (c : ℕ) → c < d → combined_row b (number_of x.own) (at + r * d * 4) (number_of x.other) (at + s * d * 4) c ≡ after_rows (r + 1) r c
+    own_made : {x : Row} → x ≡ R.row r → r ≤ s → (c : ℕ) → c < d → combined_row b (number_of x.own) (at + r * d * 4) (number_of x.other) (at + s * d * 4) c ≡ after_rows (r + 1) r c
     own_made ex h c hc = row_made l b m R at d r c ex (own_was h c hc) (partner_was h c hc) ∙ now_made r c (omega arith)
 
     -- other rows are as they were
@@ -198,7 +197,7 @@ module _ {l : List ℤ} {m : ℕ} {R : Rows} {at d : ℕ} (p : Turning l m R at 
         go (inr e) = g e
 
     -- rows r and s are written
-    pub mixed_more : {x y : Row} {q : List ℤ} → r < s → x ≡ row_in R r → y ≡ row_in R s
+    pub mixed_more : {x y : Row} {q : List ℤ} → r < s → x ≡ R.row r → y ≡ R.row s
         → q ≡ mixed b (number_of x.own) (number_of x.other) (at + r * d * 4) (number_of y.own) (number_of y.other) (at + s * d * 4) d → q ≡ square l at d (after_rows (r + 1))
     mixed_more {x} {y} h ex ey eq =
         row_over l at d square_room half (after_rows (r + 1)) (row_over l at d square_room (after_rows r) half eb hr refl own there) hs eq partner (λ k c hk hc e. chosen k c (ne_eqb k s e))
@@ -226,7 +225,7 @@ module _ {l : List ℤ} {m : ℕ} {R : Rows} {at d : ℕ} (p : Turning l m R at 
             ∙ now_made s c (omega (arith, xor_back r m))
 
     -- row r, which is its own partner, is written
-    pub folded_more : {x : Row} {q : List ℤ} → r ≡ s → x ≡ row_in R r
+    pub folded_more : {x : Row} {q : List ℤ} → r ≡ s → x ≡ R.row r
         → q ≡ with_numerators b (at + r * d * 4) d (combined_row b (number_of x.own) (at + r * d * 4) (number_of x.other) (at + r * d * 4)) → q ≡ square l at d (after_rows (r + 1))
     folded_more {x} e ex eq =
         row_over l at d square_room (after_rows r) (after_rows (r + 1)) eb hr eq

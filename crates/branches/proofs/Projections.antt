@@ -1,12 +1,10 @@
--- A projection: which rows it keeps, one row more of its product, and the whole product.
+-- A projection: one row more of its product, and the whole product.
 use mathlib.Core.Path.{◌≡◌, refl, sym, ap, ◌∙◌, subst}
 use mathlib.Core.Bool.{Bool, true, false, cond, not, ◌&&◌}
 use mathlib.Core.List.{List}
 use Prim.Native.Nat.{ℕ, ◌+◌, ◌*◌, ◌/◌, ◌%◌, ◌≤◌, ◌<◌}
 use native.Mathlib.Nat.{add-zero}
-use native.Mathlib.Decide.{ℕ_discrete}
-use native.Mathlib.Omega.{arith}
-use lib.Bits.{bit_and, bit_xor, and_zero_r, xor_zero_r}
+use lib.Bits.{bit_and, bit_xor, xor_zero_r}
 use lib.Dec.{eqb}
 use lib.ListN.{length, set}
 use lib.Seq.{sets}
@@ -14,59 +12,33 @@ use lib.IntN.{ℤ, pos}
 use borrow.Author.Tests.{eq-eqb, ne_eqb}
 use Rattle.algebra.specs.Dyadic.{frac}
 use Rattle.exact.specs.Exact.{numbers, number_of, lowest}
-use Rattle.gate.specs.declared.rows.Rows.{Rows}
-use Rattle.gate.specs.Inner.Rows.{row_in, entry_in}
+use Rattle.gate.specs.Inner.Rows.{Form, entry_in}
 use Rattle.channel.specs.Forms.{Alike}
 use Rattle.share.specs.Share.{number_in, shared_from, with_numerators}
 use Rattle.share.proofs.Laws.{stands, over_one}
 use Rattle.rows.specs.Inner.Rows.{exponent_in, held_words, scaled_row, combined_row, Scaling}
 use Rattle.rows.proofs.Held.{shared_sets}
 use Rattle.rows.proofs.Rows.{left-row, right-row}
-use Rattle.branches.specs.Inner.Step.{zeros, unmixed, row_numerators, row_sum}
-use Rattle.branches.specs.Inner.Project.{part, projection, split_in, OneBit, Projecting}
+use Rattle.gate.specs.Inner.Tables.{zeros}
+use Rattle.branches.specs.Inner.Step.{Applying, row_numerators, row_sum}
+use Rattle.branches.specs.Inner.Project.{part, projection, split_in}
 use Rattle.branches.proofs.Applied.{Applied, own-scaling, other_scaling, applied_more, applied_shared}
-
--- ---- the rows
-module _ (m : ℕ) (high moved : Bool) (r : ℕ) where
-  by_bits : row_in (projection m high moved) r ≡ cond (eqb (bit_and r m) 0) (part moved (not high)) (cond (eqb (bit_and r m) m) (part moved high) (unmixed 0).exchanged)
-  by_bits = ap (λ (b : Bool). cond b (cond (eqb (bit_and r m) 0) (part moved (not high)) (cond (eqb (bit_and r m) m) (part moved high) (unmixed 0).exchanged)) (unmixed 0).kept) (eq-eqb (bit_and r 0) 0 (and_zero_r r))
-
-  low_row : bit_and r m ≡ 0 → row_in (projection m high moved) r ≡ part moved (not high)
-  low_row e = by_bits ∙ ap (λ (b : Bool). cond b (part moved (not high)) (cond (eqb (bit_and r m) m) (part moved high) (unmixed 0).exchanged)) (eq-eqb (bit_and r m) 0 e)
-
-  high_row : 0 < m → bit_and r m ≡ m → row_in (projection m high moved) r ≡ part moved high
-  high_row some e =
-      by_bits
-      ∙ ap (λ (b : Bool). cond b (part moved (not high)) (cond (eqb (bit_and r m) m) (part moved high) (unmixed 0).exchanged)) (ne_eqb (bit_and r m) 0 (λ z. omega (arith, some, e, z)))
-      ∙ ap (λ (b : Bool). cond b (part moved high) (unmixed 0).exchanged) (eq-eqb (bit_and r m) m e)
-
-module _ {m d : ℕ} (o : OneBit m d) {r : ℕ} (h : r < d) where
-  kept_row : (high moved : Bool) → bit_and r m ≡ cond high m 0 → part moved true ≡ row_in (projection m high moved) r
-  kept_row true moved e = sym (high_row m true moved r o.some e)
-  kept_row false moved e = sym (low_row m false moved r e)
-
-  empty_row : (high moved : Bool) → (bit_and r m ≡ cond high m 0 → ⊥) → part moved false ≡ row_in (projection m high moved) r
-  empty_row true moved n = go (ℕ_discrete (bit_and r m) 0)
-    where
-      go : Dec (bit_and r m ≡ 0) → part moved false ≡ row_in (projection m true moved) r
-      go (yes e) = sym (low_row m true moved r e)
-      go (no q) = absurd (n (o.whole r h q))
-  empty_row false moved n = sym (high_row m false moved r o.some (o.whole r h n))
 
 -- the operator with a number
 pub numbered_is : (m : ℕ) (resets : Bool) (v : ℕ) → projection m (not (eqb v 0) && not resets) (not (eqb v 0) && resets) ≡ split_in m resets v
 numbered_is m resets v = go (eqb v 0)
   where
-    go : (t : Bool) → ◌≡◌ {A = Rows} (projection m (not t && not resets) (not t && resets)) (cond t (projection m false false) (projection m (not resets) resets))
+    go : (t : Bool) → ◌≡◌ {A = Form} (projection m (not t && not resets) (not t && resets)) (cond t (projection m false false) (projection m (not resets) resets))
     go true = refl
     go false = refl
 
 -- ---- one row more
-module _ {l : List ℤ} {m : ℕ} {high moved : Bool} {old new d : ℕ} (p : Projecting l m high moved old new d) {r : ℕ} (hr : r < d) {b : List ℤ} (w : Applied l m (projection m high moved) old new d b r) where
+module _ (high moved : Bool) {l : List ℤ} {m old new d : ℕ} (p : Applying l m (projection m high moved) old new d) {r : ℕ} (hr : r < d) {b : List ℤ} (w : Applied l m (projection m high moved) old new d b r)
+    {keep : ℕ} (ek : keep ≡ cond high m 0) where
   -- one that is kept, read where it lies or from its partner's place
-  module _ {keep flip : ℕ} (ek : keep ≡ cond high m 0) (ef : flip ≡ cond moved m 0) (e : bit_and r m ≡ keep) where
-    kept : part moved true ≡ row_in (projection m high moved) r
-    kept = kept_row p.bit hr high moved (e ∙ ek)
+  module _ {flip : ℕ} (ef : flip ≡ cond moved m 0) (e : bit_and r m ≡ keep) where
+    kept : part moved true ≡ part moved (eqb (bit_and r m) (cond high m 0))
+    kept = ap (part moved) (sym (eq-eqb (bit_and r m) (cond high m 0) (e ∙ ek)))
 
     still : flip ≡ 0 → r ≡ bit_xor r flip
     still z = sym (ap (bit_xor r) z ∙ xor_zero_r r)
@@ -74,12 +46,12 @@ module _ {l : List ℤ} {m : ℕ} {high moved : Bool} {old new d : ℕ} (p : Pro
     pub copying : Scaling b numbers.𝟙 (old + bit_xor r flip * d * 4) (new + r * d * 4) d
     copying = go moved ef kept
       where
-        go : (t : Bool) → flip ≡ cond t m 0 → part t true ≡ row_in (projection m high moved) r → Scaling b numbers.𝟙 (old + bit_xor r flip * d * 4) (new + r * d * 4) d
-        go true z k = subst (λ (s : ℕ). Scaling b numbers.𝟙 (old + s * d * 4) (new + r * d * 4) d) (sym (ap (bit_xor r) z)) (other_scaling p.applying hr w k)
-        go false z k = subst (λ (s : ℕ). Scaling b numbers.𝟙 (old + s * d * 4) (new + r * d * 4) d) (still z) (own-scaling p.applying hr w k)
+        go : (t : Bool) → flip ≡ cond t m 0 → part t true ≡ part moved (eqb (bit_and r m) (cond high m 0)) → Scaling b numbers.𝟙 (old + bit_xor r flip * d * 4) (new + r * d * 4) d
+        go true z k = subst (λ (s : ℕ). Scaling b numbers.𝟙 (old + s * d * 4) (new + r * d * 4) d) (sym (ap (bit_xor r) z)) (other_scaling p hr w k)
+        go false z k = subst (λ (s : ℕ). Scaling b numbers.𝟙 (old + s * d * 4) (new + r * d * 4) d) (still z) (own-scaling p hr w k)
 
     pub copied_more : {q : List ℤ} → q ≡ with_numerators b (new + r * d * 4) d (scaled_row b numbers.𝟙 (old + bit_xor r flip * d * 4)) → Applied l m (projection m high moved) old new d q (r + 1)
-    copied_more {q} f = applied_more p.applying hr w kept (go moved ef)
+    copied_more {q} f = applied_more p hr w kept (go moved ef)
       where
         from : (s : ℕ) → bit_xor r flip ≡ s → q ≡ with_numerators b (new + r * d * 4) d (scaled_row b numbers.𝟙 (old + s * d * 4))
         from s z = f ∙ ap (λ (s : ℕ). with_numerators b (new + r * d * 4) d (scaled_row b numbers.𝟙 (old + s * d * 4))) z
@@ -89,15 +61,15 @@ module _ {l : List ℤ} {m : ℕ} {high moved : Bool} {old new d : ℕ} (p : Pro
         go false z = left-row b numbers.𝟙 (old + r * d * 4) (number_of zeros) (old + bit_xor r m * d * 4) (new + r * d * 4) d refl (from r (sym (still z)))
 
   -- any other
-  module _ {keep : ℕ} (ek : keep ≡ cond high m 0) (n : bit_and r m ≡ keep → ⊥) where
-    empty : part moved false ≡ row_in (projection m high moved) r
-    empty = empty_row p.bit hr high moved (λ e. n (e ∙ sym ek))
+  module _ (n : bit_and r m ≡ keep → ⊥) where
+    empty : part moved false ≡ part moved (eqb (bit_and r m) (cond high m 0))
+    empty = ap (part moved) (sym (ne_eqb (bit_and r m) (cond high m 0) (λ e. n (e ∙ sym ek))))
 
     pub clearing : Scaling b (number_of zeros) (old + r * d * 4) (new + r * d * 4) d
-    clearing = own-scaling p.applying hr w empty
+    clearing = own-scaling p hr w empty
 
     pub cleared_more : {q : List ℤ} → q ≡ with_numerators b (new + r * d * 4) d (scaled_row b (number_of zeros) (old + r * d * 4)) → Applied l m (projection m high moved) old new d q (r + 1)
-    cleared_more f = applied_more p.applying hr w empty (left-row b (number_of zeros) (old + r * d * 4) (number_of zeros) (old + bit_xor r m * d * 4) (new + r * d * 4) d refl f)
+    cleared_more f = applied_more p hr w empty (left-row b (number_of zeros) (old + r * d * 4) (number_of zeros) (old + bit_xor r m * d * 4) (new + r * d * 4) d refl f)
 
 -- ---- the whole product, in its shared form
 -- numerators over 1 are in it, and 0 is written behind them

@@ -14,8 +14,7 @@ use Rattle.algebra.specs.Inner.Apart.{Apart}
 use Rattle.algebra.proofs.Blocks.{Writing, begin, again, kept, sets_below, sets_above, Same, same_trans, part, cut, narrow, block_in_lem, append_block}
 use Rattle.exact.specs.Exact.{Number, Exact, narrow_exponent}
 use Rattle.exact.specs.Inner.Sizes.{Within}
-use Rattle.gate.specs.declared.rows.Rows.{Rows}
-use Rattle.gate.specs.Inner.Rows.{entry_in}
+use Rattle.gate.specs.Inner.Rows.{Form, entry_in}
 use Rattle.share.proofs.Numbers.{number_same}
 use Rattle.rows.specs.Inner.Rows.{held_words, Factors}
 use Rattle.rows.proofs.Held.{length_shared}
@@ -65,12 +64,12 @@ pub bit_is : (shift : ℕ) → operator_number shift 1 ≡ (λ (j : ℕ). j / 2 
 bit_is shift = fun_ext (λ j. and_mask (j / 2 ^ shift) 1)
 
 -- ---- a branch that is as it was may be turned
-pub still_turning : {l : List ℤ} {f : ℕ} {R : ℕ → Rows} {mask at d count : ℕ} → StepInPlace l f R mask at d count → {i v : ℕ} → i < count → v ≤ mask
+pub still_turning : {l : List ℤ} {f : ℕ} {R : ℕ → Form} {mask at d count : ℕ} → StepInPlace l f R mask at d count → {i v : ℕ} → i < count → v ≤ mask
     → {b : List ℤ} → Same b l (at + i * branch_size d) (matrix_size d) → Turning b f (R v) (at + i * branch_size d) d
 still_turning p {i} {v} h hv matrix = record { dim = p.dim; below = p.below; sized = p.sized v hv; factors = factors_same matrix (p.factors i h) }
 
 -- ---- a step that splits branches
-module _ {l : List ℤ} {f : ℕ} {R : ℕ → Rows} {from to d count : ℕ} (p : Step l f R from to d count) where
+module _ {l : List ℤ} {f : ℕ} {R : ℕ → Form} {from to d count : ℕ} (p : Step l f R from to d count) where
   abbrev products : ℕ → ℕ → List ℤ
   products = step_words l f (λ (v : ℕ). entry_in (R v)) (λ (j : ℕ). j % 2) 2 from d
 
@@ -104,7 +103,7 @@ module _ {l : List ℤ} {f : ℕ} {R : ℕ → Rows} {from to d count : ℕ} (p 
     pub new_end : to + j * (s + 2) + (s + 2) ≤ length l
     new_end = transport⁻¹ (λ i. to + j * (es i + 2) + (es i + 2) ≤ length l) (omega (arith, new_in, p.to_room))
 
-    module _ (bit : ℕ) {b : List ℤ} (w : Writing (branch_size d) l to (count * 2) (products bit) b j) {Q : Rows} (eq : Q ≡ R (j % 2)) where
+    module _ (bit : ℕ) {b : List ℤ} (w : Writing (branch_size d) l to (count * 2) (products bit) b j) {Q : Form} (eq : Q ≡ R (j % 2)) where
       branch : Same b l old size
       branch = part (kept w from (count * size) p.from_apart) old size (omega arith) (omega (arith, old_in))
 

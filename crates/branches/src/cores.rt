@@ -7,14 +7,13 @@ ghost use Rattle.std.specs.Prelude.{◌≡◌, ◌+◌, ◌*◌, ◌/◌, ◌%�
 ghost use Rattle.std.specs.Int.Bits.{bit_xor};
 ghost use Rattle.std.proofs.lemmas.List.Edits.{sets};
 ghost use Rattle.exact.specs.Exact.{number_of, narrow_exponent};
-ghost use Rattle.gate.specs.Inner.Rows.{row_in, entry_in};
-ghost use Rattle.gate.specs.Inner.Tables.{core_at, phase_core};
+ghost use Rattle.gate.specs.Inner.Rows.{entry_in};
+ghost use Rattle.gate.specs.Inner.Tables.{core_at, phase_core, one_over, rows_by};
 ghost use Rattle.share.specs.Share.{with_numerators};
 ghost use Rattle.rows.specs.Inner.Rows.{held_words, Mixing, mixed};
-ghost use Rattle.branches.specs.Inner.Step.{Turning, StepInPlace, MasksApart, one_over, rows_by, row_numerators, row_sum, operator_in, turned};
+ghost use Rattle.branches.specs.Inner.Step.{Turning, StepInPlace, MasksApart, row_numerators, row_sum, operator_in, turned};
 
-use super::apply::share_matrix;
-use super::bank::{Bank, branch_size};
+use super::bank::{Bank, branch_size, share_matrix};
 use channel::layout::ENTRY;
 use gate::tables::{Core, H, SX, X, Y, phase_core};
 use rows::mix_constants;
@@ -41,8 +40,8 @@ fn turn_pair(
     d: usize,
 )
     requires masks { MasksApart held m × ((m < 32) × ((r < 32) × ((r < bit_xor r m) × (core.e ≤ narrow_exponent)))) }
-    requires mixing { let R = rows_by held m core in let x = row_in R r in let y = row_in R (bit_xor r m) in Mixing work.old (number_of x.own) (number_of x.other) p (number_of y.own) (number_of y.other) q d }
-    ensures { let R = rows_by held m core in let x = row_in R r in let y = row_in R (bit_xor r m) in work.new ≡ mixed work.old (number_of x.own) (number_of x.other) p (number_of y.own) (number_of y.other) q d }
+    requires mixing { let R = rows_by held m core in let x = R.row r in let y = R.row (bit_xor r m) in Mixing work.old (number_of x.own) (number_of x.other) p (number_of y.own) (number_of y.other) q d }
+    ensures { let R = rows_by held m core in let x = R.row r in let y = R.row (bit_xor r m) in work.new ≡ mixed work.old (number_of x.own) (number_of x.other) p (number_of y.own) (number_of y.other) q d }
 {
     let one = one_over(core.e);
     if r & held != held {

@@ -1,7 +1,6 @@
 // Circuits run on branches in lent words.
 #![tactic(auto)]
 
-pub mod apply;
 pub mod bank;
 pub mod cores;
 pub mod outcome;

@@ -9,11 +9,10 @@ ghost use Rattle.share.specs.Share.{with_numerators};
 ghost use Rattle.rows.specs.Inner.Rows.{held_words};
 ghost use Rattle.branches.specs.Inner.Store.{no_bit};
 ghost use Rattle.branches.specs.Inner.Bank.{branch_size};
-ghost use Rattle.branches.specs.Inner.Step.{row_numerators, row_sum, step_words};
-ghost use Rattle.branches.specs.Inner.Project.{projection, split_in, Projecting, Splitting};
+ghost use Rattle.branches.specs.Inner.Step.{Applying, Step, row_numerators, row_sum, step_words};
+ghost use Rattle.branches.specs.Inner.Project.{projection, split_in};
 
-use super::apply::share_matrix;
-use super::bank::{Bank, matrix_size};
+use super::bank::{Bank, matrix_size, share_matrix};
 use super::outcome::write_store;
 use channel::layout::ENTRY;
 use rows::{copy_row, multiply_row};
@@ -38,7 +37,7 @@ fn project_rows(
     new: usize,
     d: usize,
 )
-    requires { Projecting work.old m high moved old new d }
+    requires { Applying work.old m (projection m high moved) old new d }
     ensures { work.new ≡ with_numerators work.old new (d * d) (λ i. row_numerators work.old m (projection m high moved) old d (i / d) (i % d)) }
 {
     let keep = masked(high, m);
@@ -57,7 +56,7 @@ fn project_rows(
 // Write a projection of the matrix at `old` to `new`. Numerators over 1 are in their shared form.
 #[inline(always)]
 fn project(work: &mut [i64], m: usize, high: bool, moved: bool, old: usize, new: usize, d: usize)
-    requires { Projecting work.old m high moved old new d }
+    requires { Applying work.old m (projection m high moved) old new d }
     ensures { work.new ≡ sets work.old new (held_words (d * d) (λ i. row_sum work.old m (entry_in (projection m high moved)) old d (i / d) (i % d))) }
 {
     let n = d * d;
@@ -73,7 +72,7 @@ fn project(work: &mut [i64], m: usize, high: bool, moved: bool, old: usize, new:
 // Send each branch of a bank to its products with both operators of a measure or a reset of the qubit with mask m, a bank at `to`, and write the operator's number to the store's bit `bit`, if there is one.
 #[inline(always)]
 pub fn split(work: &mut [i64], m: usize, resets: bool, from: Bank, to: usize, bit: Option<u32>)
-    requires { Splitting work.old m resets from.at to from.d from.count }
+    requires { Step work.old m (split_in m resets) from.at to from.d from.count }
     ensures { work.new ≡ blocks (branch_size from.d) work.old to (from.count * 2) (step_words work.old m (λ v. entry_in (split_in m resets v)) (λ j. j % 2) 2 from.at from.d (unwrap_or bit no_bit)) }
 {
     let d = from.d;

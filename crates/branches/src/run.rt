@@ -21,7 +21,7 @@ fn turn_gate(work: &mut [i64], g: GateWords, n: u32, bank: Bank, to: usize)
     ensures { work.new ≡ gate_stepped work.old n bank.d bank.at bank.at bank.count (gate_of g) }
 {
     let m = flips(g, n);
-    let held = controls(g, n, 0);
+    let held = controls(g, n);
     match phase_at(g) {
         Some(k) => turn_phase(work, m, held, k, bank),
         None => turn_listed(work, m, held, place_at(g), bank),

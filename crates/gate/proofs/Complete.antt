@@ -1,24 +1,25 @@
 -- Completeness of a gate: Σ M†M = I over its operators, for the small matrices by trial of every kind, and so for the embedded ones.
 use mathlib.Core.Path.{◌≡◌, refl, sym, ap, ap₂, ◌∙◌}
-use mathlib.Core.Bool.{Bool, true, false, cond, not, ◌&&◌, ◌||◌, true≢false}
+use mathlib.Core.Bool.{Bool, true, cond, ◌&&◌}
 use mathlib.Core.List.{List, [], ◌∷◌, ◌++◌, map}
 use Prim.Native.Nat.{ℕ, zero, suc, ◌<◌}
 use native.Mathlib.Omega.{arith}
-use lib.Dec.{eqb, leb}
+use lib.Dec.{leb}
 use lib.ListN.{length, length-take}
-use borrow.Author.Tests.{eqb-true, leb-true}
+use borrow.Author.Tests.{leb-true}
 use Rattle.algebra.specs.Sum.{list_sum}
-use Rattle.algebra.specs.Lists.{all_below, every}
-use Rattle.algebra.proofs.Tests.{and_split, all-at}
+use Rattle.algebra.specs.Lists.{every}
+use Rattle.algebra.proofs.Tests.{and_split}
 use Rattle.algebra.proofs.Adjoint.{Star}
 use Rattle.exact.specs.Exact.{exact, conj, equal}
 use Rattle.exact.proofs.Equal.{equal-true}
 use Rattle.exact.proofs.Exact.{exacts, conj-plus, conj-by, conj-𝟘, one-by, mul-lowest}
-use Rattle.gate.specs.Gate.{Gate, gate, last_kind, rz, arity, qubits, unused, supported}
+use Rattle.gate.specs.Gate.{Gate, arity, qubits}
 use Rattle.gate.specs.Operators.{Operator, operators, one, none, same_bits}
 use Rattle.gate.specs.Embedding.{adjoint, basis, product, Complete}
 use Rattle.gate.specs.Inner.Entries.{valid}
 use Rattle.gate.proofs.Gate.{valid-split, valid-fits, valid-distinct}
+use Rattle.gate.proofs.Trials.{plain, at-gate, all_supported, at-supported}
 use Rattle.gate.proofs.Bits.{Word}
 use Rattle.gate.proofs.Isometry.{Isometry, embed_isometry}
 
@@ -70,51 +71,22 @@ module _ (m : ℕ) (os : List Operator) where
   isometry : complete ≡ true → Isometry exacts conjugation m (λ (o : Operator). o.small) os
   isometry e y z v w = equal-true _ _ (basis-at m (entry_is y) (basis-at m (λ (y : List ℕ). every (entry_is y) (basis m)) e y v) z w)
 
--- ---- a test of all kinds, and of all k of rz
-abbrev pub plain : ℕ → ℕ → Gate
-plain kind k = gate kind 0 0 0 k
-
-abbrev pub all_kinds : (ℕ → ℕ → Bool) → Bool
-all_kinds p = all_below (suc last_kind) (λ (kind : ℕ). all_below (cond (eqb kind rz) 9 1) (p kind))
-
-module _ (n m : ℕ) (g : Gate) (ok : valid n m g ≡ true) where
-  words : (leb g.kind last_kind ≡ true) × (cond (eqb g.kind rz) (leb g.k 8) (eqb g.k 0) ≡ true)
-  words =
-      let rest = every (λ (w : ℕ). eqb w 0) (unused g) in
-      let (a, b) = and_split (leb g.kind last_kind) (cond (eqb g.kind rz) (leb g.k 8) (eqb g.k 0) && rest) (valid-split n m g ok).form in
-      (a, (and_split (cond (eqb g.kind rz) (leb g.k 8) (eqb g.k 0)) rest b).0)
-
-  pub kind_below : g.kind < suc last_kind
-  kind_below = omega (arith, leb-true g.kind last_kind words.0)
-
-  k_below : g.k < cond (eqb g.kind rz) 9 1
-  k_below = go (eqb g.kind rz) words.1
-    where
-      go : (b : Bool) → cond b (leb g.k 8) (eqb g.k 0) ≡ true → g.k < cond b 9 1
-      go true e = omega (arith, leb-true g.k 8 e)
-      go false e = omega (arith, eqb-true g.k 0 e)
-
-  pub at-gate : (p : ℕ → ℕ → Bool) → all_kinds p ≡ true → p g.kind g.k ≡ true
-  at-gate p e = all-at (cond (eqb g.kind rz) 9 1) (p g.kind) (all-at (suc last_kind) (λ (kind : ℕ). all_below (cond (eqb kind rz) 9 1) (p kind)) e g.kind kind_below) g.k k_below
-
+-- ---- of every gate
 abbrev trial : ℕ → ℕ → Bool
-trial kind k = not (supported (plain kind k)) || complete (arity kind) (operators (plain kind k))
+trial kind k = complete (arity kind) (operators (plain kind k))
 
-tried : all_kinds trial ≡ true
+tried : all_supported trial ≡ true
 tried = refl
 
 module _ (n m : ℕ) (g : Gate) (ok : valid n m g ≡ true) where
   pub qubits-length : length (qubits g) ≡ arity g.kind
   qubits-length = length-take (arity g.kind) (g.a ∷ g.b ∷ g.c ∷ [])
-      ∙ omega (arith, leb-true (arity g.kind) 3 (at-gate n m g ok (λ (kind k : ℕ). leb (arity kind) 3) refl))
+      ∙ omega (arith, leb-true (arity g.kind) 3 (at-gate g (valid-split n m g ok).form (λ (kind k : ℕ). leb (arity kind) 3) refl))
 
   pub gate_isometry : Isometry exacts conjugation (length (qubits g)) (λ (o : Operator). o.small) (operators g)
-  gate_isometry = isometry (length (qubits g)) (operators g)
-      (ap (λ (a : ℕ). complete a (operators g)) qubits-length ∙ so (supported g) (complete (arity g.kind) (operators g)) (at-gate n m g ok trial tried) (valid-split n m g ok).support)
-    where
-      so : (a b : Bool) → not a || b ≡ true → a ≡ true → b ≡ true
-      so true b e f = e
-      so false b e f = absurd (true≢false (sym f))
+  gate_isometry =
+      let v = valid-split n m g ok in
+      isometry (length (qubits g)) (operators g) (ap (λ (a : ℕ). complete a (operators g)) qubits-length ∙ at-supported g v.form v.support trial tried)
 
 pub gate-complete : Complete
 gate-complete n m g ok = embed_isometry exacts conjugation n (qubits g) (valid-fits n m g ok) (valid-distinct n m g ok) (λ (o : Operator). o.small) (operators g) (gate_isometry n m g ok)

@@ -4,6 +4,7 @@ pub mod Bits
 pub mod Local
 pub mod Embed
 pub mod Isometry
+pub mod Trials
 pub mod Complete
 pub mod Embedding
 pub mod Listed

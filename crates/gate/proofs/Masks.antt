@@ -17,12 +17,11 @@ use Rattle.algebra.specs.Lists.{all_below}
 use Rattle.algebra.proofs.Tests.{exhaust, equal2, or_no}
 use Rattle.exact.specs.Exact.{Exact, exact}
 use Rattle.scalar.specs.Calls.{value}
-use Rattle.gate.specs.declared.rows.Pair.{Pair}
 use Rattle.gate.specs.Gate.{Gate, gate, arity, elem}
 use Rattle.gate.specs.Inner.Kinds.{one_qubit, controlled_once, controlled_twice, swap, cswap}
 use Rattle.gate.specs.Operators.{Small, one, none, operators, controlled, swapped, identity}
 use Rattle.gate.specs.Embed.{bit, embed, gate_entry}
-use Rattle.gate.specs.Inner.Entries.{Table, table_of, small_of, core_of, flips, partner, row_entry, controls, pair_of, kept, exchanged, side, row_pair, Ready, Apart2, Apart3}
+use Rattle.gate.specs.Inner.Entries.{Table, Pair, table_of, small_of, core_of, flips, partner, row_entry, controls, pair_of, kept, exchanged, side, row_pair, Ready, Apart2, Apart3}
 use Rattle.gate.proofs.Gate.{elem_in}
 use Rattle.gate.proofs.Embedding.{respects_identity}
 use Rattle.gate.proofs.Placed.{embed-controlled, embed-swap}

@@ -75,7 +75,7 @@ fn are_below(used: usize, words: [u32; 3], bound: u32) -> bool
     ensures { result ≡ list_all (λ (w : ℕ). ltb w bound) (take used words) }
 {
     let [a, b, c] = words;
-    (used < 1 || a < bound) & (used < 2 || b < bound) & (used < 3 || c < bound)
+    ((used < 1) | (a < bound)) & ((used < 2) | (b < bound)) & ((used < 3) | (c < bound))
 }
 
 // Whether the first `used` of three words are all different.
@@ -83,7 +83,7 @@ fn are_distinct(used: usize, words: [u32; 3]) -> bool
     ensures { result ≡ distinct (take used words) }
 {
     let [a, b, c] = words;
-    (used < 2 || a != b) & (used < 3 || (a != c && b != c))
+    ((used < 2) | (a != b)) & ((used < 3) | ((a != c) & (b != c)))
 }
 
 // Whether the words behind the first `used` of three are 0.
@@ -91,7 +91,7 @@ fn are_zero(used: usize, words: [u32; 3]) -> bool
     ensures { result ≡ list_all (λ (w : ℕ). eqb w 0) (drop used words) }
 {
     let [a, b, c] = words;
-    (0 < used || a == 0) & (1 < used || b == 0) & (2 < used || c == 0)
+    ((0 < used) | (a == 0)) & ((1 < used) | (b == 0)) & ((2 < used) | (c == 0))
 }
 
 impl GateWords {
@@ -215,17 +215,17 @@ impl GateWords {
                 | Kind::Tdg
                 | Kind::Y
                 | Kind::Sx,
-            ) => self.k == 0 && self.names_qubits(1, n),
-            Some(Kind::Rz) => self.k < 8 && self.names_qubits(1, n),
-            Some(Kind::Cnot | Kind::Cz | Kind::Swap | Kind::Cy | Kind::Ch) => self.k == 0
-                && self.names_qubits(2, n),
-            Some(Kind::Ccx | Kind::Ccz | Kind::Cswap) => self.k == 0 && self.names_qubits(3, n),
+            ) => (self.k == 0) & self.names_qubits(1, n),
+            Some(Kind::Rz) => (self.k < 8) & self.names_qubits(1, n),
+            Some(Kind::Cnot | Kind::Cz | Kind::Swap | Kind::Cy | Kind::Ch) => (self.k == 0)
+                & self.names_qubits(2, n),
+            Some(Kind::Ccx | Kind::Ccz | Kind::Cswap) => (self.k == 0) & self.names_qubits(3, n),
             Some(Kind::Measure) => may_split
-                && self.k == 0
-                && self.c == 0
-                && self.a < n
-                && self.b < bits,
-            Some(Kind::Reset) => may_split && self.k == 0 && self.names_qubits(1, n),
+                & (self.k == 0)
+                & (self.c == 0)
+                & (self.a < n)
+                & (self.b < bits),
+            Some(Kind::Reset) => may_split & (self.k == 0) & self.names_qubits(1, n),
             _ => false,
         }
     }

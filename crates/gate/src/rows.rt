@@ -5,19 +5,9 @@
 ghost use Rattle.std.specs.Prelude.{◌≡◌, ◌-◌, ◌^◌, ◌≤◌, ◌<◌};
 ghost use Rattle.gate.specs.Inner.Words.{gate_of};
 ghost use Rattle.gate.specs.Inner.Entries.{Ready, flips, controls};
-ghost use Rattle.gate.specs.Inner.Rows.{is_even, row_in};
 
 use super::judge::GateWords;
 use super::kinds::Kind;
-use super::tables::Unmixed;
-use scalar::Scalar;
-
-// The entries of a row in its own column and in its partner's, as scalars in lowest form.
-#[derive(Clone, Copy)]
-pub struct Pair {
-    pub own: Scalar,
-    pub other: Scalar,
-}
 
 // Kept: `weight_of` of pauli_words is its twin in a byte; one public function of both would be cast there, for one line.
 // The weight of qubit q in a row or column number.
@@ -46,8 +36,8 @@ pub fn flips(g: GateWords, n: u32) -> usize
 }
 
 // The bits of a row number that are a gate's controls.
-pub fn controls(g: GateWords, n: u32, j: usize) -> usize
-    requires { (n ≤ 5) × Ready n (gate_of g) j }
+pub fn controls(g: GateWords, n: u32) -> usize
+    requires { (n ≤ 5) × Ready n (gate_of g) 0 }
     ensures { result ≡ controls n (gate_of g) }
 {
     let Some(kind) = g.known_kind() else {
@@ -65,59 +55,4 @@ pub fn controls(g: GateWords, n: u32, j: usize) -> usize
 pub struct Row {
     pub own: [i64; 4],
     pub other: [i64; 4],
-}
-
-// By which bits of its number a row is chosen.
-#[derive(Clone, Copy)]
-pub enum Choice {
-    // Of a gate with these controls that may change these bits: the kept row where some control is 0; else `low` where the bits are all 0, `high` where they are all 1, and the exchanged row where they differ.
-    Controls(usize, usize, &'static Unmixed),
-    // Of an axis that signs and flips these bits: `low` where the row's partner has an even number of the signed bits, and `high` where it has an odd one.
-    Signs(usize, usize),
-}
-
-// An operator by its rows, of which `choice` says which is low and which is high.
-#[derive(Clone, Copy)]
-pub struct Rows {
-    pub choice: Choice,
-    pub low: Row,
-    pub high: Row,
-    // The power of two that all entries are over.
-    pub exponent: u32,
-}
-
-// Whether a row's number has an even number of the bits `signs`.
-fn is_even(signs: usize, r: usize) -> bool
-    ensures { result ≡ is_even signs r }
-{
-    (signs & r).count_ones() % 2 == 0
-}
-
-impl Rows {
-    // Row r.
-    pub fn row(&self, r: usize) -> &Row
-        ensures { result.now ≡ row_in self.now r }
-    {
-        match self.choice {
-            Choice::Controls(held, m, unmixed) => {
-                if r & held != held {
-                    return &unmixed.kept;
-                }
-                let x = r & m;
-                if x == 0 {
-                    return &self.low;
-                }
-                if x == m {
-                    return &self.high;
-                }
-                &unmixed.exchanged
-            }
-            Choice::Signs(signs, flips) => {
-                if is_even(signs, r ^ flips) {
-                    return &self.low;
-                }
-                &self.high
-            }
-        }
-    }
 }

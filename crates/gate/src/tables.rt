@@ -20,13 +20,6 @@ pub struct Core {
     pub e: u32,
 }
 
-// The row that a gate leaves as it is, and that in which the bits of two qubits that change places differ.
-#[derive(Clone, Copy)]
-pub struct Unmixed {
-    pub kept: Row,
-    pub exchanged: Row,
-}
-
 // h: 1/√2 (1 1; 1 −1)
 pub const H: Core = Core {
     low: Row {
@@ -114,19 +107,16 @@ fn phase_of(kind: Kind, k: u32) -> Option<u32>
     }
 }
 
-// Where the matrix of operator j of another kind stands. The kinds that are not supported are not asked.
-fn place(kind: Kind, j: usize) -> usize
-    requires { j < 2 }
-    ensures value { result ≡ place (number_of kind) j }
-    ensures inside { result < 7 }
+// Where the matrix of another kind stands: of h, x, y or sx. The kinds that split branches or are not supported are not asked.
+fn place(kind: Kind) -> usize
+    ensures value { result ≡ place (number_of kind) }
+    ensures inside { result < 4 }
 {
     match kind {
         Kind::H | Kind::Ch => 0,
         Kind::X | Kind::Cnot | Kind::Ccx => 1,
         Kind::Y | Kind::Cy => 2,
-        Kind::Sx => 3,
-        Kind::Reset => 4 + 2 * j,
-        _ => 4 + j,
+        _ => 3,
     }
 }
 
@@ -142,14 +132,15 @@ pub fn phase_at(g: GateWords) -> Option<u32>
     phase_of(kind, g.k)
 }
 
-// Where the matrix of another gate's first operator stands.
+// Where the matrix of another gate stands.
 #[inline(always)]
 pub fn place_at(g: GateWords) -> usize
     requires { formed (gate_of g) ≡ true }
-    ensures { result ≡ place g.kind 0 }
+    ensures value { result ≡ place g.kind }
+    ensures inside { result < 4 }
 {
     let Some(kind) = g.known_kind() else {
         unreachable!()
     };
-    place(kind, 0)
+    place(kind)
 }

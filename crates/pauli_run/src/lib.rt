@@ -1,5 +1,5 @@
 // Pauli programs, run on branches in lent words.
 #![tactic(auto)]
 
-pub mod operators;
+pub mod measures;
 pub mod run;

@@ -9,10 +9,12 @@ ghost use Rattle.pauli_words.specs.Inner.Code.{operation_in};
 ghost use Rattle.pauli_run.specs.Inner.Operators.{place_after, stepped};
 ghost use Rattle.pauli_run.specs.Inner.Run.{Operating, Runs, RanAll};
 
-use super::operators::operator_rows;
-use branches::bank::{Bank, Operators, branch_size, start_branch, step, turn};
+use super::measures::measure;
+use branches::bank::{Bank, branch_size, start_branch};
 use gate::GATE;
 use gate::judge::read_gate;
+use pauli_steps::rows::Axis;
+use pauli_turns::turn;
 use pauli_words::Program;
 use pauli_words::masks::{Mask, referred};
 use pauli_words::operations::Operation;
@@ -30,40 +32,21 @@ fn step_operation(
     ensures bank { let o = operation_in operation in result ≡ record from { at = place_after o from.at to; count = from.count * 2 ^ splits o } }
     ensures words { let o = operation_in operation in work.new ≡ stepped work.old from.d (ref_mask masks.now (axis o)) made from.at (place_after o from.at to) from.count o }
 {
-    let m = referred(masks, operation.axis());
-    let flips = m.flips();
-    let first = operator_rows(operation, m, 0);
+    let axis = Axis::from(referred(masks, operation.axis()));
     match operation {
-        Operation::Rotate { .. } => {
-            let operators = Operators {
-                first: &first,
-                second: &first,
-                shift: 0,
-                mask: 1,
-            };
-            turn(work, flips, operators, from);
+        Operation::Rotate { eighths, .. } => {
+            turn(work, axis, eighths, None, from);
             from
         }
-        Operation::RotateIf { outcome, .. } => {
-            let second = operator_rows(operation, m, 1);
-            let operators = Operators {
-                first: &first,
-                second: &second,
-                shift: made - 1 - outcome,
-                mask: 1,
-            };
-            turn(work, flips, operators, from);
+        Operation::RotateIf {
+            eighths,
+            outcome,
+            ..
+        } => {
+            turn(work, axis, eighths, Some(made - 1 - outcome), from);
             from
         }
-        Operation::Measure { bit, .. } => {
-            let second = operator_rows(operation, m, 1);
-            step(work, flips, &first, &second, from, to, bit);
-            Bank {
-                at: to,
-                d: from.d,
-                count: from.count * 2,
-            }
-        }
+        Operation::Measure { bit, .. } => measure(work, axis, from, to, bit),
     }
 }
 

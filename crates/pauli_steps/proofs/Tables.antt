@@ -5,9 +5,7 @@ use mathlib.Core.List.{List, [], ◌∷◌, map}
 use Prim.Native.Nat.{ℕ, zero, suc, ◌+◌, ◌-◌, ◌*◌, ◌/◌, ◌%◌, ◌^◌, ◌≤◌, ◌<◌}
 use native.Mathlib.Nat.{mod-lt, le_refl, le_trans}
 use native.Mathlib.Omega.{arith}
-use lib.Bits.{bit_and, bit_xor}
-use lib.Count.{ones}
-use lib.Dec.{eqb}
+use lib.Dec.{eqb, lit≤}
 use lib.IntN.{ℤ, pos, neg_ℤ, nat_abs}
 use lib.ListN.{get_or, get_or-map}
 use borrow.Author.Tests.{eqb-true}
@@ -19,25 +17,23 @@ use Rattle.algebra.proofs.Quadratic.{ℤ√2i}
 use Rattle.algebra.proofs.Dyadic.{low_exp}
 use Rattle.algebra.proofs.Solver.{Expr, con, var, ⊟, look, ⟦◌⟧, eqn}
 use Rattle.algebra.proofs.Bound.{bnd, bounded, Within as Bounded}
-use Rattle.exact.specs.Exact.{Exact, Number, number, numbers, exact, half, imaginary, number_of, list_of, lowest, narrow_exponent, power_of}
-use Rattle.exact.specs.Inner.Sizes.{Within, Coords}
+use Rattle.exact.specs.Exact.{Exact, Number, number, numbers, exact, half, imaginary, number_of, list_of, lowest, narrow_exponent, narrow_numerator, power_of}
+use Rattle.exact.specs.Inner.Sizes.{Within, Coords, room_numerator}
 use Rattle.exact.proofs.Coordinates.{formulas, x, xy, eight}
 use Rattle.exact.proofs.Exact.{exact_halving}
-use Rattle.exact.proofs.Align.{scaled-none}
+use Rattle.exact.proofs.Align.{scaled-none, widen, factor_within}
 use Rattle.exact.proofs.Overflow.{lowest-coords}
 use Rattle.scalar.specs.Calls.{value, scalar_of}
-use Rattle.gate.specs.declared.rows.Pair.{Pair}
-use Rattle.gate.specs.declared.rows.Row.{Row}
-use Rattle.gate.specs.declared.rows.Choice.TheVariants.{Signs}
 use Rattle.gate.specs.Operators.{one}
+use Rattle.gate.specs.Inner.Entries.{Pair as Entries}
 use Rattle.gate.specs.Inner.Rows.{over, Represents}
 use Rattle.gate.proofs.Represented.{is_coords, coords_is, over_lowest, Stands, rows_stand}
 use Rattle.pauli_nodes.specs.Nodes.{turned}
-use Rattle.pauli_nodes.specs.Inner.Masks.{Mask, parity}
-use Rattle.pauli_words.proofs.Parity.{ones_masked}
+use Rattle.pauli_nodes.specs.Inner.Masks.{Mask}
 use Rattle.pauli_program.specs.Operators.{Coefficients, turn_by, onto}
 use Rattle.pauli_program.proofs.Steps.{table, entry, table_is}
-use Rattle.pauli_steps.specs.Inner.Rows.{pair_of, axis_entry, axis_row, Level}
+use Rattle.pauli_steps.specs.declared.coefficients.Pair.{Pair}
+use Rattle.pauli_steps.specs.Inner.Rows.{pair_of, turns_in, axis_entry, axis_row, Level, row_about, rows_about}
 
 -- the pair of a number of eighths
 pub pair-at : (k : ℕ) (z : Pair) → k < 8 → get_or (map pair_of table) k z ≡ pair_of (turn_by k)
@@ -104,6 +100,10 @@ opposite z t l = sym (mul_neg ℤ√2i z (turned t).num) ∙ ap (numbers.◌⊗�
     go (suc (suc (suc zero))) l = refl
     go (suc (suc (suc (suc t)))) l = absurd (omega arith)
 
+-- a number from −1 to 1 may be turned
+pub roomy_factor : {x : Exact} → Coords 1 narrow_exponent x → Within room_numerator x.num
+roomy_factor {x} h = widen narrow_numerator room_numerator x.num (lit≤ tt) (factor_within x h)
+
 -- ---- coefficients
 pub record Small (f : Coefficients) : Type 0 where
   pub own : Coords 1 narrow_exponent f.own
@@ -139,48 +139,31 @@ row-small {f} h m i = go (eqb (i % 2) 0)
   where
     go : (b : Bool) → Coords 1 narrow_exponent (cond b f.own (exact.◌⊗◌ f.other (axis_entry m (i / 2))))
     go true = h.own
-    go false = turned-small f.other (m.turns + 2 * parity (bit_and m.z (bit_xor (i / 2) m.x))) h.other
+    go false = turned-small f.other (turns_in m (i / 2)) h.other
 
--- the rows where the partner has an even number of the signed bits, and where it has an odd one
-module _ (m : Mask) (pair : Pair) (h : Level pair) (plus minus : List ℤ) (few : m.turns < 4)
-    (ep : number_of plus ≡ numbers.◌⊗◌ (number_of pair.other.n) (turned m.turns).num) (em : minus ≡ list_of (numbers.neg (number_of plus))) where
-  abbrev with : ℕ → Pair
-  with s = record { own = pair.own; other = scalar_of (exact.◌⊗◌ (value pair.other) (turned (m.turns + 2 * s))) }
+-- a row by the quarter turns of the axis's entry
+pub row_turned : (m : Mask) (p : Pair) (r t : ℕ) → turned t ≡ axis_entry m r → row_about p t ≡ (rows_about m p).row r
+row_turned m p r t e = ap (λ (y : Exact). record { own = p.own.n; other = list_of (numbers.◌⊗◌ (number_of p.other.n) y.num) }) e
 
-  abbrev row : ℕ → Row
-  row s = record { own = pair.own.n; other = cond (eqb s 0) plus minus }
+-- what rows stand for
+pub axis_represented : (m : Mask) (pair : Pair) → Level pair → (d : ℕ) → Represents (rows_about m pair) d (axis_row m (value pair.own) (value pair.other))
+axis_represented m pair h d = rows_stand with h.own.exponent stands (λ i u. entry-of (i / 2) (eqb (i % 2) 0))
+  where
+    with : ℕ → Entries
+    with r = record { own = pair.own; other = scalar_of (exact.◌⊗◌ (value pair.other) (axis_entry m r)) }
 
-  numerators : (s : ℕ) → s < 2 → number_of (row s).other ≡ numbers.◌⊗◌ (number_of pair.other.n) (turned (m.turns + 2 * s)).num
-  numerators zero l = let g : m.turns ≡ m.turns + 2 * 0 = omega arith in ep ∙ ap (λ (k : ℕ). numbers.◌⊗◌ (number_of pair.other.n) (turned k).num) g
-  numerators (suc zero) l = ap number_of em ∙ ap numbers.neg ep ∙ opposite (number_of pair.other.n) m.turns few
-  numerators (suc (suc s)) l = absurd (omega arith)
+    stands : (r : ℕ) → Stands (row_about pair (turns_in m r)) (with r) pair.own.e
+    stands r =
+        let x : Exact = value pair.other in
+        let y : Number = numbers.◌⊗◌ x.num (axis_entry m r).num in
+        let e : exact.◌⊗◌ x (axis_entry m r) ≡ lowest y pair.own.e = turned_is x (turns_in m r) ∙ ap (lowest y) (sym h.level) in
+        record {
+          own_reached = le_refl pair.own.e;
+          other_reached = subst (λ (x : Exact). x.exp ≤ pair.own.e) (sym e) (low_exp ℤ√2i exact_halving y pair.own.e);
+          own = sym (scaled-none (number_of pair.own.n) (pair.own.e - pair.own.e) (omega arith));
+          other = sym (ap (over pair.own.e) e ∙ over_lowest pair.own.e y);
+        }
 
-  stands : (s : ℕ) → s < 2 → Stands (row s) (with s) pair.own.e
-  stands s l =
-      let x : Exact = value pair.other in
-      let y : Number = numbers.◌⊗◌ x.num (turned (m.turns + 2 * s)).num in
-      let e : exact.◌⊗◌ x (turned (m.turns + 2 * s)) ≡ lowest y pair.own.e = turned_is x (m.turns + 2 * s) ∙ ap (lowest y) (sym h.level) in
-      record {
-        own_reached = le_refl pair.own.e;
-        other_reached = subst (λ (x : Exact). x.exp ≤ pair.own.e) (sym e) (low_exp ℤ√2i exact_halving y pair.own.e);
-        own = sym (scaled-none (number_of pair.own.n) (pair.own.e - pair.own.e) (omega arith));
-        other = numerators s l ∙ sym (ap (over pair.own.e) e ∙ over_lowest pair.own.e y);
-      }
-
-  pub axis_represented : m.z < 32 → (d : ℕ) → Represents (record { choice = Signs m.z m.x; low = row 0; high = row 1; exponent = pair.own.e }) d (axis_row m (value pair.own) (value pair.other))
-  axis_represented small d =
-      rows_stand (λ (r : ℕ). with (odd r)) h.own.exponent
-      (λ r. rows (odd r) (mod-lt (ones (bit_and m.z (bit_xor r m.x))) (omega arith)))
-      (λ i u. entry-of (i / 2) (eqb (i % 2) 0))
-    where
-      odd : ℕ → ℕ
-      odd r = ones (bit_and m.z (bit_xor r m.x)) % 2
-
-      rows : (s : ℕ) → s < 2 → Stands (cond (eqb s 0) (row 0) (row 1)) (with s) pair.own.e
-      rows zero l = stands 0 l
-      rows (suc zero) l = stands 1 l
-      rows (suc (suc s)) l = absurd (omega arith)
-
-      entry-of : (r : ℕ) (b : Bool) → value (cond b (with (odd r)).own (with (odd r)).other) ≡ cond b (value pair.own) (exact.◌⊗◌ (value pair.other) (axis_entry m r))
-      entry-of r true = refl
-      entry-of r false = ap (λ (s : ℕ). exact.◌⊗◌ (value pair.other) (turned (m.turns + 2 * s))) (ones_masked m.z (bit_xor r m.x) small)
+    entry-of : (r : ℕ) (b : Bool) → value (cond b (with r).own (with r).other) ≡ cond b (value pair.own) (exact.◌⊗◌ (value pair.other) (axis_entry m r))
+    entry-of r true = refl
+    entry-of r false = refl

@@ -3,8 +3,14 @@ ghost use Rattle.std.specs.Prelude.{◌≡◌, ◌<◌};
 ghost use Rattle.pauli_program.specs.Operators.{turn_by, onto};
 ghost use Rattle.pauli_steps.specs.Inner.Rows.{pair_of};
 
-use gate::rows::Pair;
 use scalar::{ONE, Scalar, ZERO};
+
+// The numbers before 1 and before an axis, as scalars in lowest form.
+#[derive(Clone, Copy)]
+pub struct Pair {
+    pub own: Scalar,
+    pub other: Scalar,
+}
 
 const HALF: Scalar = Scalar {
     n: [1, 0, 0, 0],
@@ -98,7 +104,9 @@ static PROJECTINGS: [Pair; 2] = [
     },
 ];
 
+// Kept: inlined, so that a caller's constant k gives it constants.
 // Of a rotation by k eighths.
+#[inline(always)]
 pub fn turning(k: u32) -> &'static Pair
     requires { k < 8 }
     ensures { result.now ≡ pair_of (turn_by k) }

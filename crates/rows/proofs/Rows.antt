@@ -1,16 +1,14 @@
 -- Rows of numerators multiplied and added: their sizes, what a loop that writes them still reads, rows of which one is multiplied by zero or that are the same, and factors that are equal or opposite.
-use mathlib.Core.Path.{◌≡◌, sym, ap, ◌∙◌, subst}
+use mathlib.Core.Path.{◌≡◌, sym, ap, ◌∙◌}
 use mathlib.Core.Bool.{true}
 use mathlib.Core.List.{List}
 use mathlib.Core.Logic.{◌⊎◌, inl, inr}
 use Prim.Native.Nat.{ℕ, ◌+◌, ◌*◌, ◌<◌}
 use native.Mathlib.Nat.{le_of_eq}
-use native.Mathlib.Omega.{arith}
 use lib.Dec.{lit≤}
 use lib.IntN.{ℤ}
 use Rattle.algebra.proofs.Semi.{zero-mul, add-mul}
-use Rattle.algebra.proofs.Parts.{abs_neg}
-use Rattle.algebra.proofs.Ring.{semi, add-zero, neg_neg, sub-zero}
+use Rattle.algebra.proofs.Ring.{semi, add-zero}
 use Rattle.algebra.proofs.Quadratic.{ℤ√2i}
 use Rattle.algebra.specs.Inner.Apart.{Apart}
 use Rattle.algebra.proofs.Blocks.{Writing, Same, kept, rest, cut, block_in_lem, blocks-same}
@@ -26,21 +24,13 @@ use Rattle.rows.specs.Inner.Rows.{scaled_row, combined_row}
 pub number_read : {l m v : List ℤ} {at : ℕ} → Same l m at 4 → v ≡ list_of (number_in l at) → number_of v ≡ number_in m at
 number_read s e = ap number_of e ∙ number_same s
 
--- a product with it
-pub product_read : (x : Number) {z w : Number} {v : List ℤ} → v ≡ list_of (numbers.◌⊗◌ x z) → z ≡ w → number_of v ≡ numbers.◌⊗◌ x w
-product_read x e f = ap number_of e ∙ ap (numbers.◌⊗◌ x) f
-
--- a sum of two products
-pub sum_read : {x y s t : Number} {v : List ℤ} → v ≡ list_of (numbers.◌⊕◌ s t) → s ≡ x → t ≡ y → list_of (number_of v) ≡ list_of (numbers.◌⊕◌ x y)
-sum_read e f g = ap (λ (v : List ℤ). list_of (number_of v)) e ∙ (λ i. list_of (numbers.◌⊕◌ (f i) (g i)))
-
 product_fits : (x y : Number) → Within narrow_numerator x → Within narrow_numerator y → Within max_numerator (numbers.◌⊗◌ x y)
 product_fits x y h k = widen (6 * (narrow_numerator * narrow_numerator)) max_numerator (numbers.◌⊗◌ x y) (lit≤ tt) (mul-within narrow_numerator narrow_numerator x y h k)
 
 -- two products may be added
-pub sum_fits : (x y : Number) {z w s t : Number} → Within narrow_numerator x → Within narrow_numerator y → Within narrow_numerator z → Within narrow_numerator w → s ≡ numbers.◌⊗◌ x z → t ≡ numbers.◌⊗◌ y w
-    → Within room_numerator s × Within max_numerator t
-sum_fits x y {z} {w} hx hy hz hw e f = (subst (Within room_numerator) (sym e) (roomy _ (product_fits x z hx hz)), subst (Within max_numerator) (sym f) (product_fits y w hy hw))
+pub sum_fits : (x y z w : Number) → Within narrow_numerator x → Within narrow_numerator y → Within narrow_numerator z → Within narrow_numerator w
+    → Within room_numerator (numbers.◌⊗◌ x y) × Within max_numerator (numbers.◌⊗◌ z w)
+sum_fits x y z w hx hy hz hw = (roomy _ (product_fits x y hx hy), product_fits z w hz hw)
 
 zero-times : (x y : Number) → is_zero x ≡ true → numbers.◌⊗◌ x y ≡ numbers.𝟘
 zero-times x y z = ap (λ (v : Number). numbers.◌⊗◌ v y) (zero_is x z) ∙ zero-mul (semi ℤ√2i) y
@@ -71,20 +61,3 @@ times_one l x p d e = sym (numbers-there l p d (scaled_row l x p) (λ c h. ap (�
 -- its own multiple and another of it are its multiple by their sum
 pub folded : (l : List ℤ) (x y : Number) (p d : ℕ) {b : List ℤ} → b ≡ with_numerators l p d (scaled_row l (numbers.◌⊕◌ x y) p) → b ≡ with_numerators l p d (combined_row l x p y p)
 folded l x y p d e = e ∙ blocks-same 4 l p d _ _ (λ c h. ap list_of (add-mul (semi ℤ√2i) x y (number_in l (p + c * 4))))
-
--- ---- two numbers whose difference or sum is zero
-opposite : (a b : Number) → numbers.◌⊕◌ a b ≡ numbers.𝟘 → b ≡ numbers.neg a
-opposite a b e = sub-zero ℤ√2i b (numbers.neg a) (ap (numbers.◌⊕◌ b) (neg_neg ℤ√2i a) ∙ ℤ√2i.add_comm b a ∙ e)
-
-pub opposite_number : (a b : Number) {s : List ℤ} → s ≡ list_of (numbers.◌⊕◌ a b) → is_zero (number_of s) ≡ true → numbers.neg a ≡ b
-opposite_number a b e z = sym (opposite a b (sym (ap number_of e) ∙ zero_is _ z))
-
-pub same_number : (a b : Number) {n s : List ℤ} → n ≡ list_of (numbers.neg a) → s ≡ list_of (numbers.◌⊕◌ (number_of n) b) → is_zero (number_of s) ≡ true → a ≡ b
-same_number a b e f z = sym (neg_neg ℤ√2i a) ∙ ap (λ (n : List ℤ). numbers.neg (number_of n)) (sym e) ∙ opposite_number _ b f z
-
-negated : {m : ℕ} (z : Number) → Within m z → Within m (numbers.neg z)
-negated z h = record { w0 = omega (arith, abs_neg z.re.re, h.w0); w1 = omega (arith, abs_neg z.re.im, h.w1); w2 = omega (arith, abs_neg z.im.re, h.w2); w3 = omega (arith, abs_neg z.im.im, h.w3) }
-
-pub difference_fits : (a b : Number) {n : List ℤ} → Within narrow_numerator a → Within narrow_numerator b → n ≡ list_of (numbers.neg a) → Within room_numerator (number_of n) × Within max_numerator b
-difference_fits a b h k e =
-    (subst (Within room_numerator) (sym (ap number_of e)) (widen narrow_numerator room_numerator (numbers.neg a) (lit≤ tt) (negated a h)), widen narrow_numerator max_numerator b (lit≤ tt) k)

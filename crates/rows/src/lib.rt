@@ -13,7 +13,7 @@ ghost use Rattle.rows.specs.Inner.Rows.{Scaling, scaled_row, combined_row, Mixin
 use cells::{numerators_at, write_numerators};
 use channel::layout::ENTRY;
 use exact::NARROW_NUMERATOR;
-use exact::numerators::{neg4, product, sum4};
+use exact::numerators::{product, sum4};
 use exact::ranges::{all_zero, are_within};
 
 // The least numbers of a row that is copied as a slice.
@@ -65,26 +65,14 @@ pub fn copy_row(buf: &mut [i64], from: usize, to: usize, d: usize)
     p[to..to + n].copy_from_slice(&q[..n]);
 }
 
-// Write a row times x to `to`: a copy, sums or differences where x is one of the frequent factors, and half of the products where it has no √2 part or only such parts.
-fn scale_row(buf: &mut [i64], x: &[i64; 4], from: usize, to: usize, d: usize)
-    requires { Scaling buf.old (number_of x.now) from to d }
-    ensures { buf.new ≡ with_numerators buf.old to d (scaled_row buf.old (number_of x.now) from) }
+// Kept: inlined, as `multiply_row`.
+// x times s plus y times t.
+#[inline(always)]
+fn sum_of_products(x: [i64; 4], s: [i64; 4], y: [i64; 4], t: [i64; 4]) -> [i64; 4]
+    requires { (Within narrow_numerator (number_of x) × Within narrow_numerator (number_of s)) × (Within narrow_numerator (number_of y) × Within narrow_numerator (number_of t)) }
+    ensures { number_of result ≡ numbers.◌⊕◌ (numbers.◌⊗◌ (number_of x) (number_of s)) (numbers.◌⊗◌ (number_of y) (number_of t)) }
 {
-    match *x {
-        [1, 0, 0, 0] => copy_row(buf, from, to, d),
-        [2, 0, 0, 0] => multiply_row(buf, [2, 0, 0, 0], from, to, d),
-        [0, 0, 1, 0] => multiply_row(buf, [0, 0, 1, 0], from, to, d),
-        [-1, 0, 0, 0] => multiply_row(buf, [-1, 0, 0, 0], from, to, d),
-        [0, 0, -1, 0] => multiply_row(buf, [0, 0, -1, 0], from, to, d),
-        [0, 0, 0, 0] => multiply_row(buf, [0, 0, 0, 0], from, to, d),
-        [0, 1, 0, 1] => multiply_row(buf, [0, 1, 0, 1], from, to, d),
-        [0, 1, 0, -1] => multiply_row(buf, [0, 1, 0, -1], from, to, d),
-        [0, -1, 0, 1] => multiply_row(buf, [0, -1, 0, 1], from, to, d),
-        [0, -1, 0, -1] => multiply_row(buf, [0, -1, 0, -1], from, to, d),
-        [a, 0, b, 0] => multiply_row(buf, [a, 0, b, 0], from, to, d),
-        [0, a, 0, b] => multiply_row(buf, [0, a, 0, b], from, to, d),
-        _ => multiply_row(buf, *x, from, to, d),
-    }
+    sum4(product(x, s), product(y, t))
 }
 
 // Kept: inlined, as `multiply_row`.
@@ -95,29 +83,13 @@ fn add_rows(buf: &mut [i64], x: [i64; 4], p: usize, y: [i64; 4], q: usize, to: u
     ensures { buf.new ≡ with_numerators buf.old to d (combined_row buf.old (number_of x) p (number_of y) q) }
 {
     for c in 0..d {
-        let u = product(x, numerators_at(buf, p + c * ENTRY));
-        let v = product(y, numerators_at(buf, q + c * ENTRY));
-        write_numerators(buf, to + c * ENTRY, sum4(u, v));
+        let s = numerators_at(buf, p + c * ENTRY);
+        let t = numerators_at(buf, q + c * ENTRY);
+        write_numerators(buf, to + c * ENTRY, sum_of_products(x, s, y, t));
     }
 }
 
-// The same, by sums and differences where x is 1 and y is 1, −1, i or −i.
-fn sum_rows(buf: &mut [i64], x: &[i64; 4], p: usize, y: &[i64; 4], q: usize, to: usize, d: usize)
-    requires { Scaling buf.old (number_of x.now) p to d × Scaling buf.old (number_of y.now) q to d }
-    ensures { buf.new ≡ with_numerators buf.old to d (combined_row buf.old (number_of x.now) p (number_of y.now) q) }
-{
-    match (*x, *y) {
-        ([1, 0, 0, 0], [1, 0, 0, 0]) => add_rows(buf, [1, 0, 0, 0], p, [1, 0, 0, 0], q, to, d),
-        ([1, 0, 0, 0], [-1, 0, 0, 0]) => add_rows(buf, [1, 0, 0, 0], p, [-1, 0, 0, 0], q, to, d),
-        ([1, 0, 0, 0], [0, 0, 1, 0]) => add_rows(buf, [1, 0, 0, 0], p, [0, 0, 1, 0], q, to, d),
-        ([1, 0, 0, 0], [0, 0, -1, 0]) => add_rows(buf, [1, 0, 0, 0], p, [0, 0, -1, 0], q, to, d),
-        _ => add_rows(buf, *x, p, *y, q, to, d),
-    }
-}
-
-// Kept: inlined, so that a caller's loop over rows makes no call for it.
-// Write x times the row at p plus y times the row at q to `to`, d numbers each. Where one factor alone is zero, its row is not read.
-#[inline(always)]
+// The same, by sums and differences where x is 1 and y is 1, −1, i or −i, as of projections.
 pub fn combine_rows(
     buf: &mut [i64],
     x: &[i64; 4],
@@ -130,27 +102,12 @@ pub fn combine_rows(
     requires { Scaling buf.old (number_of x.now) p to d × Scaling buf.old (number_of y.now) q to d }
     ensures { buf.new ≡ with_numerators buf.old to d (combined_row buf.old (number_of x.now) p (number_of y.now) q) }
 {
-    if all_zero(*y) {
-        scale_row(buf, x, p, to, d);
-        return;
-    }
-    if all_zero(*x) {
-        scale_row(buf, y, q, to, d);
-        return;
-    }
-    sum_rows(buf, x, p, y, q, to, d);
-}
-
-// Kept: inlined, so that a caller's loop over rows makes no call where the row stays.
-// Make the row at p x times itself; d numbers.
-#[inline(always)]
-fn scale_in_place(buf: &mut [i64], x: &[i64; 4], p: usize, d: usize)
-    requires { Scaling buf.old (number_of x.now) p p d }
-    ensures { buf.new ≡ with_numerators buf.old p d (scaled_row buf.old (number_of x.now) p) }
-{
-    match *x {
-        [1, 0, 0, 0] => {}
-        _ => scale_row(buf, x, p, p, d),
+    match (*x, *y) {
+        ([1, 0, 0, 0], [1, 0, 0, 0]) => add_rows(buf, [1, 0, 0, 0], p, [1, 0, 0, 0], q, to, d),
+        ([1, 0, 0, 0], [-1, 0, 0, 0]) => add_rows(buf, [1, 0, 0, 0], p, [-1, 0, 0, 0], q, to, d),
+        ([1, 0, 0, 0], [0, 0, 1, 0]) => add_rows(buf, [1, 0, 0, 0], p, [0, 0, 1, 0], q, to, d),
+        ([1, 0, 0, 0], [0, 0, -1, 0]) => add_rows(buf, [1, 0, 0, 0], p, [0, 0, -1, 0], q, to, d),
+        _ => add_rows(buf, *x, p, *y, q, to, d),
     }
 }
 
@@ -173,8 +130,8 @@ fn mix_by(
     for c in 0..d {
         let s = numerators_at(buf, p + c * ENTRY);
         let t = numerators_at(buf, q + c * ENTRY);
-        let first = sum4(product(x, s), product(y, t));
-        let second = sum4(product(v, t), product(u, s));
+        let first = sum_of_products(x, s, y, t);
+        let second = sum_of_products(v, t, u, s);
         write_numerators(buf, p + c * ENTRY, first);
         write_numerators(buf, q + c * ENTRY, second);
     }
@@ -217,262 +174,15 @@ pub fn mix_constants(
     mix_by(buf, x, y, p, v, u, q, d);
 }
 
-// Kept: never inlined, so that what calls it holds no more than its own frequent ways.
-// The same, by half of the products where no factor has a √2 part.
-#[inline(never)]
-fn mix_any(
-    buf: &mut [i64],
-    x: &[i64; 4],
-    y: &[i64; 4],
-    p: usize,
-    v: &[i64; 4],
-    u: &[i64; 4],
-    q: usize,
-    d: usize,
-)
-    requires { Mixing buf.old (number_of x.now) (number_of y.now) p (number_of v.now) (number_of u.now) q d }
-    ensures { buf.new ≡ mixed buf.old (number_of x.now) (number_of y.now) p (number_of v.now) (number_of u.now) q d }
-{
-    match (*x, *y, *v, *u) {
-        ([a, 0, b, 0], [e, 0, f, 0], [g, 0, h, 0], [i, 0, j, 0]) => mix_by(
-            buf,
-            [a, 0, b, 0],
-            [e, 0, f, 0],
-            p,
-            [g, 0, h, 0],
-            [i, 0, j, 0],
-            q,
-            d,
-        ),
-        _ => mix_by(buf, *x, *y, p, *v, *u, q, d),
-    }
-}
-
-// Kept: inlined, as `mix_by`.
-// The same, where both rows have the own factor x: by the constants where y and u are both m, both −m, n and −n, or −n and n.
-#[inline(always)]
-fn turn_by(
-    buf: &mut [i64],
-    x: [i64; 4],
-    m: [i64; 4],
-    n: [i64; 4],
-    y: &[i64; 4],
-    p: usize,
-    u: &[i64; 4],
-    q: usize,
-    d: usize,
-)
-    requires mixing { Mixing buf.old (number_of x) (number_of y.now) p (number_of x) (number_of u.now) q d }
-    requires sizes { Within narrow_numerator (number_of m) × Within narrow_numerator (number_of n) }
-    ensures { buf.new ≡ mixed buf.old (number_of x) (number_of y.now) p (number_of x) (number_of u.now) q d }
-{
-    if all_zero(sum4(neg4(*y), *u)) {
-        if all_zero(sum4(neg4(m), *y)) {
-            mix_by(buf, x, m, p, x, m, q, d);
-            return;
-        }
-        if all_zero(sum4(m, *y)) {
-            let o = neg4(m);
-            mix_by(buf, x, o, p, x, o, q, d);
-            return;
-        }
-    }
-    if all_zero(sum4(*y, *u)) {
-        if all_zero(sum4(neg4(n), *y)) {
-            mix_by(buf, x, n, p, x, neg4(n), q, d);
-            return;
-        }
-        if all_zero(sum4(n, *y)) {
-            mix_by(buf, x, neg4(n), p, x, n, q, d);
-            return;
-        }
-    }
-    mix_any(buf, &x, y, p, &x, u, q, d);
-}
-
-// The same, where both rows have the own factor x, by sums and differences where they are turned about an axis by quarters or by odd eighths.
-fn turn_rows(
-    buf: &mut [i64],
-    x: &[i64; 4],
-    y: &[i64; 4],
-    p: usize,
-    u: &[i64; 4],
-    q: usize,
-    d: usize,
-)
-    requires { Mixing buf.old (number_of x.now) (number_of y.now) p (number_of x.now) (number_of u.now) q d }
-    ensures { buf.new ≡ mixed buf.old (number_of x.now) (number_of y.now) p (number_of x.now) (number_of u.now) q d }
-{
-    match *x {
-        [0, 0, 0, 0] => turn_by(buf, [0, 0, 0, 0], [1, 0, 0, 0], [0, 0, 1, 0], y, p, u, q, d),
-        [1, 0, 1, 0] => turn_by(
-            buf,
-            [1, 0, 1, 0],
-            [1, 0, -1, 0],
-            [1, 0, 1, 0],
-            y,
-            p,
-            u,
-            q,
-            d,
-        ),
-        [1, 0, -1, 0] => turn_by(
-            buf,
-            [1, 0, -1, 0],
-            [1, 0, 1, 0],
-            [-1, 0, 1, 0],
-            y,
-            p,
-            u,
-            q,
-            d,
-        ),
-        [2, 1, 0, 1] => turn_by(
-            buf,
-            [2, 1, 0, 1],
-            [2, -1, 0, -1],
-            [0, 1, 2, -1],
-            y,
-            p,
-            u,
-            q,
-            d,
-        ),
-        [2, -1, 0, 1] => turn_by(
-            buf,
-            [2, -1, 0, 1],
-            [2, 1, 0, -1],
-            [0, 1, 2, 1],
-            y,
-            p,
-            u,
-            q,
-            d,
-        ),
-        [2, -1, 0, -1] => turn_by(
-            buf,
-            [2, -1, 0, -1],
-            [2, 1, 0, 1],
-            [0, -1, 2, 1],
-            y,
-            p,
-            u,
-            q,
-            d,
-        ),
-        [2, 1, 0, -1] => turn_by(
-            buf,
-            [2, 1, 0, -1],
-            [2, -1, 0, 1],
-            [0, -1, 2, -1],
-            y,
-            p,
-            u,
-            q,
-            d,
-        ),
-        _ => mix_any(buf, x, y, p, x, u, q, d),
-    }
-}
-
-// Kept: never inlined, as `mix_any`.
-// The same, with the rows seen that have one own factor.
-#[inline(never)]
-fn mix_others(
-    buf: &mut [i64],
-    x: &[i64; 4],
-    y: &[i64; 4],
-    p: usize,
-    v: &[i64; 4],
-    u: &[i64; 4],
-    q: usize,
-    d: usize,
-)
-    requires { Mixing buf.old (number_of x.now) (number_of y.now) p (number_of v.now) (number_of u.now) q d }
-    ensures { buf.new ≡ mixed buf.old (number_of x.now) (number_of y.now) p (number_of v.now) (number_of u.now) q d }
-{
-    if all_zero(sum4(neg4(*x), *v)) {
-        turn_rows(buf, x, y, p, u, q, d);
-        return;
-    }
-    mix_any(buf, x, y, p, v, u, q, d);
-}
-
-// Kept: never inlined, as `mix_any`.
-// The same, by sums and differences where the factors are √2, √2, −√2 and √2.
-#[inline(never)]
-fn mix_both(
-    buf: &mut [i64],
-    x: &[i64; 4],
-    y: &[i64; 4],
-    p: usize,
-    v: &[i64; 4],
-    u: &[i64; 4],
-    q: usize,
-    d: usize,
-)
-    requires { Mixing buf.old (number_of x.now) (number_of y.now) p (number_of v.now) (number_of u.now) q d }
-    ensures { buf.new ≡ mixed buf.old (number_of x.now) (number_of y.now) p (number_of v.now) (number_of u.now) q d }
-{
-    match (*x, *y, *v, *u) {
-        ([0, 1, 0, 0], [0, 1, 0, 0], [0, -1, 0, 0], [0, 1, 0, 0]) => mix_by(
-            buf,
-            [0, 1, 0, 0],
-            [0, 1, 0, 0],
-            p,
-            [0, -1, 0, 0],
-            [0, 1, 0, 0],
-            q,
-            d,
-        ),
-        _ => mix_others(buf, x, y, p, v, u, q, d),
-    }
-}
-
-// Kept: inlined, as `scale_in_place`.
-// The same: each row alone where neither has a part of the other, and words exchanged where each row is the other.
-#[inline(always)]
-pub fn mix_rows(
-    buf: &mut [i64],
-    x: &[i64; 4],
-    y: &[i64; 4],
-    p: usize,
-    v: &[i64; 4],
-    u: &[i64; 4],
-    q: usize,
-    d: usize,
-)
-    requires { Mixing buf.old (number_of x.now) (number_of y.now) p (number_of v.now) (number_of u.now) q d }
-    ensures { buf.new ≡ mixed buf.old (number_of x.now) (number_of y.now) p (number_of v.now) (number_of u.now) q d }
-{
-    if all_zero(*y) & all_zero(*u) {
-        scale_in_place(buf, x, p, d);
-        scale_in_place(buf, v, q, d);
-        return;
-    }
-    match (*x, *y, *v, *u) {
-        ([0, 0, 0, 0], [1, 0, 0, 0], [0, 0, 0, 0], [1, 0, 0, 0]) => mix_by(
-            buf,
-            [0, 0, 0, 0],
-            [1, 0, 0, 0],
-            p,
-            [0, 0, 0, 0],
-            [1, 0, 0, 0],
-            q,
-            d,
-        ),
-        _ => mix_both(buf, x, y, p, v, u, q, d),
-    }
-}
-
 // Make the row at p x times itself plus y times itself; d numbers. Where the sum of the two is narrow, as of unitaries' factors, the row is multiplied by it.
+#[inline(always)]
 pub fn fold_row(buf: &mut [i64], x: &[i64; 4], y: &[i64; 4], p: usize, d: usize)
     requires { Within narrow_numerator (number_of x.now) × (Within narrow_numerator (number_of y.now) × ((p + d * 4 ≤ length buf.old) × ((c : ℕ) → c < d → Within narrow_numerator (number_in buf.old (p + c * 4))))) }
     ensures { buf.new ≡ with_numerators buf.old p d (combined_row buf.old (number_of x.now) p (number_of y.now) p) }
 {
     let z = sum4(*x, *y);
     if are_within(z, NARROW_NUMERATOR) {
-        scale_in_place(buf, &z, p, d);
+        scale_by(buf, z, p, d);
         return;
     }
     combine_rows(buf, x, p, y, p, p, d);

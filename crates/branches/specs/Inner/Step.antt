@@ -1,5 +1,5 @@
 -- One step of all branches of a bank, as words.
-use Rattle.std.specs.Prelude.{◌≡◌, cond, List, [], ◌∷◌, ◌++◌, ℕ, ◌+◌, ◌*◌, ◌/◌, ◌%◌, ◌^◌, ◌<◌, ◌≤◌, eqb, length, ℤ, pos}
+use Rattle.std.specs.Prelude.{◌≡◌, cond, List, ◌++◌, ℕ, ◌+◌, ◌*◌, ◌/◌, ◌%◌, ◌^◌, ◌<◌, ◌≤◌, eqb, length, ℤ}
 use Rattle.std.specs.Int.Bits.{bit_and, bit_xor}
 use Rattle.algebra.specs.Sum.{times}
 use Rattle.algebra.specs.Words.{blocks}
@@ -7,11 +7,7 @@ use Rattle.algebra.specs.Inner.Apart.{Apart}
 use Rattle.exact.specs.Exact.{Number, Exact, exact}
 use Rattle.gate.specs.Gate.{Gate}
 use Rattle.gate.specs.Embed.{gate_entry}
-use Rattle.gate.specs.declared.rows.Rows.{Rows}
-use Rattle.gate.specs.declared.rows.Choice.TheVariants.{Controls}
-use Rattle.gate.specs.declared.tables.Core.{Core}
-use Rattle.gate.specs.declared.tables.Unmixed.{Unmixed}
-use Rattle.gate.specs.Inner.Rows.{numerators_in, entry_in, Sized}
+use Rattle.gate.specs.Inner.Rows.{Form, numerators_in, entry_in, Sized}
 use Rattle.rows.specs.Inner.Rows.{held_words, held_in, Factors, combined_row}
 use Rattle.store.specs.Inner.Held.{StoreAt}
 use Rattle.branches.specs.Inner.Store.{no_bit, outcome_words}
@@ -27,36 +23,23 @@ abbrev pub row_sum : List ℤ → ℕ → (ℕ → Exact) → ℕ → ℕ → �
 row_sum l m E old d r c = exact.◌⊕◌ (exact.◌⊗◌ (E (r * 2)) (entry_at l old d r c)) (exact.◌⊗◌ (E (r * 2 + 1)) (entry_at l old d (bit_xor r m) c))
 
 -- the numerators of that row
-abbrev pub row_numerators : List ℤ → ℕ → Rows → ℕ → ℕ → ℕ → ℕ → Number
+abbrev pub row_numerators : List ℤ → ℕ → Form → ℕ → ℕ → ℕ → ℕ → Number
 row_numerators l m R old d r = combined_row l (numerators_in R (r * 2)) (old + r * d * 4) (numerators_in R (r * 2 + 1)) (old + bit_xor r m * d * 4)
 
 -- what it asks: an operator's rows, whose partners come in pairs, and a matrix of factors
-pub record Turning (l : List ℤ) (m : ℕ) (R : Rows) (at d : ℕ) : Type 0 where
+pub record Turning (l : List ℤ) (m : ℕ) (R : Form) (at d : ℕ) : Type 0 where
   pub dim : d ≤ 32
   pub below : (r : ℕ) → r < d → bit_xor r m < d
   pub sized : Sized R (d * 2)
   pub factors : Factors l at (d * d)
 
 -- and where the product does not take the matrix's place: another, apart from it
-pub record Applying (l : List ℤ) (m : ℕ) (R : Rows) (old new d : ℕ) : Type 0 where
+pub record Applying (l : List ℤ) (m : ℕ) (R : Form) (old new d : ℕ) : Type 0 where
   pub turning : Turning l m R old d
   pub new_room : new + matrix_size d ≤ length l
   pub apart : Apart old (matrix_size d) new (matrix_size d)
 
 -- ---- one operator of a gate
--- its rows, by the controls, the bits that it may change and its two-by-two matrix c; no code makes the reference
-abbrev pub one_over : ℕ → List ℤ
-one_over e = pos (2 ^ e) ∷ pos 0 ∷ pos 0 ∷ pos 0 ∷ []
-
-abbrev pub zeros : List ℤ
-zeros = pos 0 ∷ pos 0 ∷ pos 0 ∷ pos 0 ∷ []
-
-abbrev pub unmixed : ℕ → Unmixed
-unmixed e = record { kept = record { own = one_over e; other = zeros }; exchanged = record { own = zeros; other = one_over e } }
-
-abbrev pub rows_by : ℕ → ℕ → Core → Rows
-rows_by held m c = record { choice = Controls held m (record { ref_ptr = (0, 0); now = unmixed c.e }); low = c.low; high = c.high; exponent = c.e }
-
 -- what is asked of the controls and the bits that it may change
 pub record MasksApart (held m : ℕ) : Type 0 where
   pub some : 0 < m
@@ -72,7 +55,7 @@ abbrev pub product_words : List ℤ → ℕ → (ℕ → Exact) → ℕ → ℕ 
 product_words l m E old d bit v = held_words (d * d) (λ (i : ℕ). row_sum l m E old d (i / d) (i % d)) ++ outcome_words l (old + matrix_size d) bit v
 
 -- one of two operators
-abbrev pub operator_in : Rows → Rows → ℕ → Rows
+abbrev pub operator_in : Form → Form → ℕ → Form
 operator_in first second v = cond (eqb v 0) first second
 
 -- the number of the operator of product j: of j's bits from `shift` on those that `mask` has
@@ -84,7 +67,7 @@ abbrev pub step_words : List ℤ → ℕ → (ℕ → ℕ → Exact) → (ℕ �
 step_words l m E v ops from d bit j = product_words l m (E (v j)) (from + j / ops * branch_size d) d bit (v j)
 
 -- what a step asks that splits no branch: operators up to number `mask`, and `count` branches, whose products take their places
-pub record StepInPlace (l : List ℤ) (m : ℕ) (R : ℕ → Rows) (mask at d count : ℕ) : Type 0 where
+pub record StepInPlace (l : List ℤ) (m : ℕ) (R : ℕ → Form) (mask at d count : ℕ) : Type 0 where
   pub dim : d ≤ 32
   pub below : (r : ℕ) → r < d → bit_xor r m < d
   pub sized : (v : ℕ) → v ≤ mask → Sized (R v) (d * 2)
@@ -92,12 +75,12 @@ pub record StepInPlace (l : List ℤ) (m : ℕ) (R : ℕ → Rows) (mask at d co
   pub factors : (b : ℕ) → b < count → Factors l (at + b * branch_size d) (d * d)
 
 -- and one that splits each in two: a bank for the products, apart from that of the branches
-pub record Step (l : List ℤ) (m : ℕ) (R : ℕ → Rows) (from to d count : ℕ) : Type 0 where
+pub record Step (l : List ℤ) (m : ℕ) (R : ℕ → Form) (from to d count : ℕ) : Type 0 where
   pub branches : StepInPlace l m R 1 from d count
   pub to_room : to + count * 2 * branch_size d ≤ length l
   pub from_apart : Apart from (count * branch_size d) to (count * 2 * branch_size d)
   pub stores : (b : ℕ) → b < count → StoreAt l (from + b * branch_size d + matrix_size d)
 
 -- `count` branches, each times the one operator R
-abbrev pub turned : List ℤ → ℕ → Rows → ℕ → ℕ → ℕ → List ℤ
+abbrev pub turned : List ℤ → ℕ → Form → ℕ → ℕ → ℕ → List ℤ
 turned l m R at d count = blocks (branch_size d) l at count (step_words l m (λ (v : ℕ). entry_in (operator_in R R v)) (operator_number 0 0) 1 at d no_bit)

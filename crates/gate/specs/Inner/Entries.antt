@@ -4,7 +4,6 @@ use Rattle.std.specs.Int.Bits.{bit_and, bit_xor}
 use Rattle.exact.specs.Exact.{Exact}
 use Rattle.scalar.specs.declared.Scalar.{Scalar}
 use Rattle.scalar.specs.Calls.{value, scalar_of}
-use Rattle.gate.specs.declared.rows.Pair.{Pair}
 use Rattle.gate.specs.Gate.{Gate, gate, arity, elem, formed, placed, supported}
 use Rattle.gate.specs.Questions.{on_qubits}
 use Rattle.gate.specs.Operators.{Small, operators, operator_at, unitaries, no_unitary, one, none, identity}
@@ -61,7 +60,12 @@ controls n g =
     cond (eqb (arity g.kind) 1 || eqb g.kind swap) 0
     (cond (eqb (arity g.kind) 2 || eqb g.kind cswap) (2 ^ (n - 1 - g.a)) (2 ^ (n - 1 - g.a) + 2 ^ (n - 1 - g.b)))
 
--- the entries of a row in its own column and in its partner's: where the target's bit is x
+-- the entries of a row in its own column and in its partner's
+pub record Pair : Type 0 where
+  pub own : Scalar
+  pub other : Scalar
+
+-- where the target's bit is x
 abbrev pub pair_of : Table → ℕ → Pair
 pair_of t x = record { own = pick t x x; other = pick t x (1 - x) }
 

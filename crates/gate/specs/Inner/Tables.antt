@@ -1,18 +1,16 @@
--- The matrices of the kinds: phases by the powers of ω, all others by where they stand in a table; the tables of rows, and the tests of them.
-use Rattle.std.specs.Prelude.{Bool, cond, not, ◌&&◌, ◌||◌, List, [], ◌∷◌, ℕ, suc, ℤ, pos, negsuc, ◌+◌, ◌*◌, ◌^◌, eqb, leb, get_or, Option, Some, None, is_some}
+-- The matrices of the kinds: phases by the powers of ω, all others by where they stand in a table; the tests of them; and the rows of a gate.
+use Rattle.std.specs.Prelude.{Bool, cond, ◌&&◌, List, [], ◌∷◌, ℕ, ℤ, pos, negsuc, ◌^◌, eqb, leb, get_or, Option, Some, None}
+use Rattle.std.specs.Int.Bits.{bit_and}
 use Rattle.algebra.specs.Dyadic.{frac}
-use Rattle.algebra.specs.Lists.{all_below}
 use Rattle.exact.specs.Exact.{number_of, equal, omega}
 use Rattle.scalar.specs.declared.Scalar.{Scalar}
 use Rattle.scalar.specs.Calls.{value, scalar_of}
-use Rattle.gate.specs.declared.rows.Pair.{Pair}
 use Rattle.gate.specs.declared.rows.Row.{Row}
 use Rattle.gate.specs.declared.tables.Core.{Core}
-use Rattle.gate.specs.declared.tables.Unmixed.{Unmixed}
-use Rattle.gate.specs.Gate.{gate, elem, last_kind, rz, reset, supported}
+use Rattle.gate.specs.Gate.{elem, rz}
 use Rattle.gate.specs.Inner.Kinds.{swapping}
-use Rattle.gate.specs.Inner.Entries.{Table, core_of, pair_of, kept, exchanged}
-use Rattle.gate.specs.Inner.Rows.{over}
+use Rattle.gate.specs.Inner.Entries.{Table, Pair, pair_of}
+use Rattle.gate.specs.Inner.Rows.{Form, over}
 
 -- the k of a kind that is the phase diag(1, ω^k); rz is given its own
 abbrev pub phase_of : ℕ → ℕ → Option ℕ
@@ -20,24 +18,26 @@ phase_of kind k =
     cond (elem kind (2 ∷ 9 ∷ 11 ∷ [])) (Some 4) (cond (eqb kind 3) (Some 2) (cond (eqb kind 4) (Some 6) (cond (eqb kind 5) (Some 1) (cond (eqb kind 6) (Some 7)
     (cond (eqb kind rz) (Some k) (cond (elem kind swapping) (Some 0) None))))))
 
-abbrev zeros : List ℤ
+abbrev pub zeros : List ℤ
 zeros = pos 0 ∷ pos 0 ∷ pos 0 ∷ pos 0 ∷ []
+
+-- 1 over 2^e
+abbrev pub one_over : ℕ → List ℤ
+one_over e = pos (2 ^ e) ∷ pos 0 ∷ pos 0 ∷ pos 0 ∷ []
 
 -- that phase, by the power of ω
 abbrev pub phase_core : ℕ → Core
 phase_core k =
     let w = scalar_of (omega k) in
     record {
-      low = record { own = pos (2 ^ w.e) ∷ pos 0 ∷ pos 0 ∷ pos 0 ∷ []; other = zeros };
+      low = record { own = one_over w.e; other = zeros };
       high = record { own = w.n; other = zeros };
       e = w.e;
     }
 
--- where operator j of another kind stands
-abbrev pub place : ℕ → ℕ → ℕ
-place kind j =
-    cond (elem kind (0 ∷ 25 ∷ [])) 0 (cond (elem kind (1 ∷ 8 ∷ 10 ∷ [])) 1 (cond (elem kind (15 ∷ 20 ∷ [])) 2
-    (cond (eqb kind 16) 3 (cond (eqb kind reset) (4 + 2 * j) (4 + j)))))
+-- where another kind stands
+abbrev pub place : ℕ → ℕ
+place kind = cond (elem kind (0 ∷ 25 ∷ [])) 0 (cond (elem kind (1 ∷ 8 ∷ 10 ∷ [])) 1 (cond (elem kind (15 ∷ 20 ∷ [])) 2 3))
 
 -- the numerators are those of a number over 2^k, or of a pair of numbers
 abbrev pub is_over : ℕ → List ℤ → Scalar → Bool
@@ -56,23 +56,9 @@ no_row = record { own = []; other = [] }
 abbrev pub no_core : Core
 no_core = record { low = no_row; high = no_row; e = 0 }
 
-abbrev pub takes : ℕ → ℕ → Bool
-takes kind k = cond (eqb kind rz) (leb k 8) (eqb k 0)
-
--- a test of both operators of each kind, with each word k that it takes
-abbrev pub each_of : (ℕ → ℕ → ℕ → Bool) → ℕ → ℕ → Bool
-each_of p kind k = not (takes kind k && supported (gate kind 0 0 0 k)) || all_below 2 (p kind k)
-
-abbrev pub each_operator : (ℕ → ℕ → ℕ → Bool) → Bool
-each_operator p = all_below (suc last_kind) (λ (kind : ℕ). all_below 9 (each_of p kind))
-
--- the two rows over 2^k
-abbrev pub are_unmixed : Unmixed → ℕ → Bool
-are_unmixed u k = is_row k u.kept kept && is_row k u.exchanged exchanged
-
--- the first four of the table: those of h, x, y and sx
-abbrev pub first_cores : List Core
-first_cores =
+-- the table: of h, x, y and sx
+abbrev pub cores : List Core
+cores =
     record { low = record { own = pos 0 ∷ pos 1 ∷ pos 0 ∷ pos 0 ∷ []; other = pos 0 ∷ pos 1 ∷ pos 0 ∷ pos 0 ∷ [] }; high = record { own = pos 0 ∷ negsuc 0 ∷ pos 0 ∷ pos 0 ∷ []; other = pos 0 ∷ pos 1 ∷ pos 0 ∷ pos 0 ∷ [] }; e = 1 }
     ∷ record { low = record { own = pos 0 ∷ pos 0 ∷ pos 0 ∷ pos 0 ∷ []; other = pos 1 ∷ pos 0 ∷ pos 0 ∷ pos 0 ∷ [] }; high = record { own = pos 0 ∷ pos 0 ∷ pos 0 ∷ pos 0 ∷ []; other = pos 1 ∷ pos 0 ∷ pos 0 ∷ pos 0 ∷ [] }; e = 0 }
     ∷ record { low = record { own = pos 0 ∷ pos 0 ∷ pos 0 ∷ pos 0 ∷ []; other = pos 0 ∷ pos 0 ∷ negsuc 0 ∷ pos 0 ∷ [] }; high = record { own = pos 0 ∷ pos 0 ∷ pos 0 ∷ pos 0 ∷ []; other = pos 0 ∷ pos 0 ∷ pos 1 ∷ pos 0 ∷ [] }; e = 0 }
@@ -80,4 +66,19 @@ first_cores =
     ∷ []
 
 abbrev pub core_at : ℕ → Core
-core_at p = get_or first_cores p no_core
+core_at p = get_or cores p no_core
+
+-- ---- the rows of a gate, over 2^e
+-- one that it leaves as it is, and one in which the bits of two qubits that change places differ
+abbrev pub kept_row : ℕ → Row
+kept_row e = record { own = one_over e; other = zeros }
+
+abbrev pub exchanged_row : ℕ → Row
+exchanged_row e = record { own = zeros; other = one_over e }
+
+-- by its two-by-two matrix c: `held` are the controls, and m the bits that the gate may change
+abbrev pub rows_by : ℕ → ℕ → Core → Form
+rows_by held m c = record {
+  row = λ r. cond (eqb (bit_and r held) held) (cond (eqb (bit_and r m) 0) c.low (cond (eqb (bit_and r m) m) c.high (exchanged_row c.e))) (kept_row c.e);
+  exponent = c.e;
+}

@@ -2,6 +2,7 @@
 use Rattle.std.specs.Prelude.{cond, List, ℕ, ◌*◌, ◌-◌, ◌/◌, ◌%◌, ◌^◌, ◌<◌, eqb, get_or, ℤ}
 use Rattle.algebra.specs.Words.{blocks}
 use Rattle.exact.specs.Exact.{Exact}
+use Rattle.gate.specs.Inner.Rows.{Form, entry_in}
 use Rattle.kraus.specs.Branch.{KrausOperator, write}
 use Rattle.branches.specs.Inner.Store.{no_bit}
 use Rattle.branches.specs.Inner.Bank.{branch_size}
@@ -10,7 +11,7 @@ use Rattle.pauli_nodes.specs.Nodes.{Node, axis_matrix}
 use Rattle.pauli_nodes.specs.Operations.{Operation, rotate, rotate_if, measure, axis, bits, splits}
 use Rattle.pauli_nodes.specs.Inner.Masks.{Mask}
 use Rattle.pauli_program.specs.Operators.{Coefficients, mixed, turn_by, onto}
-use Rattle.pauli_steps.specs.Inner.Rows.{axis_row}
+use Rattle.pauli_steps.specs.Inner.Rows.{pair_of, axis_row, rows_about}
 
 abbrev pub coefficients_of : Operation → ℕ → Coefficients
 coefficients_of (rotate a k) v = turn_by k
@@ -45,6 +46,10 @@ bit_of o = get_or (bits o) 0 no_bit
 abbrev pub rows_entry : Mask → Operation → ℕ → ℕ → Exact
 rows_entry m o v = axis_row m (coefficients_of o v).own (coefficients_of o v).other
 
+-- the projectors of a measure by their rows
+abbrev pub projector_in : Mask → ℕ → Form
+projector_in m v = rows_about m (pair_of (onto v))
+
 -- where the products of the branches at `from` lie: in their places, or at `to` where the operation splits them
 abbrev pub place_after : Operation → ℕ → ℕ → ℕ
 place_after o from to = cond (eqb (splits o) 0) from to
@@ -53,3 +58,7 @@ place_after o from to = cond (eqb (splits o) 0) from to
 abbrev pub stepped : List ℤ → ℕ → Mask → ℕ → ℕ → ℕ → ℕ → Operation → List ℤ
 stepped l d m made from to count o =
     blocks (branch_size d) l to (count * 2 ^ splits o) (step_words l m.x (rows_entry m o) (chosen (shift_of made o)) (2 ^ splits o) from d (bit_of o))
+
+-- of a measure
+abbrev pub measured : List ℤ → Mask → ℕ → ℕ → ℕ → ℕ → ℕ → List ℤ
+measured l m from to d count bit = blocks (branch_size d) l to (count * 2) (step_words l m.x (λ (v : ℕ). entry_in (projector_in m v)) (λ (j : ℕ). j % 2) 2 from d bit)

@@ -24,8 +24,8 @@ sum4-z-requires c =
     let a = c.args in
     (widen narrow_numerator room_numerator (number_of a.x.now) (lit≤ tt) c.requires.0, widen narrow_numerator max_numerator (number_of a.y.now) (lit≤ tt) c.requires.1.0)
 
-pub scale_in_place-requires : goal.scale_in_place-requires
-scale_in_place-requires c =
+pub scale_by-requires : goal.scale_by-requires
+scale_by-requires c =
     let r = c.requires.1.1 in
     in_place r.0 r.1 (within_of narrow_numerator (number_of c.sum4-z.result) (sym c.are_within.ensures ∙ c.if-are_within.true))
 
@@ -36,4 +36,4 @@ pub returns-then-are_within : goal.returns-then-are_within
 returns-then-are_within c =
     let a = c.args in
     folded a.buf.now (number_of a.x.now) (number_of a.y.now) a.p a.d
-    (c.scale_in_place.ensures ∙ ap (λ (z : List ℤ). with_numerators a.buf.now a.p a.d (scaled_row a.buf.now (number_of z) a.p)) c.sum4-z.ensures)
+    (c.scale_by.ensures ∙ ap (λ (z : List ℤ). with_numerators a.buf.now a.p a.d (scaled_row a.buf.now (number_of z) a.p)) c.sum4-z.ensures)

@@ -3,13 +3,14 @@ use mathlib.Core.Path.{◌≡◌, refl}
 use mathlib.Core.Bool.{Bool, true, false, cond}
 use lib.Dec.{eqb}
 use Rattle.algebra.proofs.Blocks.{done}
-use Rattle.gate.specs.declared.rows.Rows.{Rows}
-use Rattle.branches.specs.Inner.Step.{rows_by, operator_number}
+use Rattle.gate.specs.Inner.Rows.{Form}
+use Rattle.gate.specs.Inner.Tables.{rows_by}
+use Rattle.branches.specs.Inner.Step.{operator_number}
 use Rattle.branches.proofs.InPlace.{none_turned, turning, turned_more}
 use Rattle.branches.proofs.cores.turn_by.Goals as goal
 
 -- both operators are one
-either : (R : Rows) (b : Bool) → R ≡ cond b R R
+either : (R : Form) (b : Bool) → R ≡ cond b R R
 either R true = refl
 either R false = refl
 

@@ -4,7 +4,8 @@ use Rattle.algebra.proofs.Blocks.{Writing}
 use Rattle.gate.specs.Inner.Rows.{entry_in}
 use Rattle.branches.specs.Inner.Store.{no_bit}
 use Rattle.branches.specs.Inner.Bank.{branch_size}
-use Rattle.branches.specs.Inner.Step.{rows_by, operator_in, operator_number, step_words}
+use Rattle.gate.specs.Inner.Tables.{rows_by}
+use Rattle.branches.specs.Inner.Step.{operator_in, operator_number, step_words}
 use Rattle.branches.proofs.cores.turn_by.Given as goal
 
 abbrev pub invariant-loop-j : goal.invariant-loop-j

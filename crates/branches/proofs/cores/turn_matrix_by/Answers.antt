@@ -3,7 +3,8 @@ use mathlib.Core.Path.{◌≡◌, sym}
 use Prim.Native.Nat.{ℕ, ◌+◌, ◌*◌, ◌/◌, ◌%◌}
 use native.Mathlib.Omega.{arith}
 use Rattle.rows.specs.Inner.Rows.{exponent_in}
-use Rattle.branches.specs.Inner.Step.{rows_by, row_numerators}
+use Rattle.gate.specs.Inner.Tables.{rows_by}
+use Rattle.branches.specs.Inner.Step.{row_numerators}
 use Rattle.branches.proofs.Numerators.{exponent_read}
 use Rattle.branches.proofs.Applied.{applied_shared, shared_there}
 use Rattle.branches.proofs.cores.turn_matrix_by.Goals as goal

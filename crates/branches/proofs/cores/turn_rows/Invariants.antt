@@ -1,6 +1,6 @@
 -- `turn_rows` meets its contract.
 use mathlib.Core.Path.{◌≡◌}
-use Rattle.branches.specs.Inner.Step.{rows_by}
+use Rattle.gate.specs.Inner.Tables.{rows_by}
 use Rattle.branches.proofs.Pairs.{square, paired}
 use Rattle.branches.proofs.cores.turn_rows.Given as goal
 

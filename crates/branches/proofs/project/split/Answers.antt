@@ -1,32 +1,52 @@
 -- `split` meets its contract.
-use Prim.Native.Nat.{◌%◌}
+use Prim.Native.Nat.{◌*◌, ◌%◌, ◌≤◌}
+use native.Mathlib.Nat.{le_refl, mul-le-mul}
 use native.Mathlib.Omega.{arith}
 use Rattle.std.specs.Prelude.{unwrap_or}
+use Rattle.algebra.proofs.Blocks.{done}
 use Rattle.branches.specs.Inner.Store.{no_bit}
+use Rattle.branches.specs.Inner.Bank.{branch_size}
 use Rattle.branches.proofs.Steps.{none_stepped, old_end, new_end, turn_applying, turn-store, turn-room, turn_more}
 use Rattle.branches.proofs.Projections.{numbered_is}
 use Rattle.branches.proofs.project.split.Goals as goal
 
 pub loop-j-init : goal.loop-j-init
-loop-j-init c = none_stepped c.requires.step (unwrap_or c.args.bit no_bit)
+loop-j-init c = none_stepped c.requires (unwrap_or c.args.bit no_bit)
 
 pub overflow_add-old : goal.overflow_add-old
-overflow_add-old c = omega (arith, old_end c.requires.step c.loop-j-test.true c.matrix_size-matrix.ensures)
+overflow_add-old c = omega (arith, old_end c.requires c.loop-j-test.true c.matrix_size-matrix.ensures)
 
 pub overflow_add-old-in-loop-j : goal.overflow_add-old-in-loop-j
-overflow_add-old-in-loop-j c = omega (arith, old_end c.requires.step c.loop-j-test.true c.matrix_size-matrix.ensures)
+overflow_add-old-in-loop-j c = omega (arith, old_end c.requires c.loop-j-test.true c.matrix_size-matrix.ensures)
 
 pub overflow_add-new-in-loop-j : goal.overflow_add-new-in-loop-j
-overflow_add-new-in-loop-j c = omega (arith, new_end c.requires.step c.loop-j-test.true c.matrix_size-matrix.ensures)
+overflow_add-new-in-loop-j c = omega (arith, new_end c.requires c.loop-j-test.true c.matrix_size-matrix.ensures)
+
+pub overflow_mul-j-end : goal.overflow_mul-j-end
+overflow_mul-j-end c =
+    let b = c.args.from in
+    let some : 1 ≤ branch_size b.d = omega arith in
+    omega (arith, c.requires.to_room, mul-le-mul (le_refl (b.count * 2)) some)
+
+pub overflow_mul-old : goal.overflow_mul-old
+overflow_mul-old c = omega (arith, old_end c.requires c.loop-j-test.true c.matrix_size-matrix.ensures)
+
+pub overflow_mul-new : goal.overflow_mul-new
+overflow_mul-new c = omega (arith, new_end c.requires c.loop-j-test.true c.matrix_size-matrix.ensures)
+
+pub overflow_add-new : goal.overflow_add-new
+overflow_add-new c = omega (arith, new_end c.requires c.loop-j-test.true c.matrix_size-matrix.ensures)
+
+pub returns : goal.returns
+returns c = done c.loop-j.invariant c.loop-j-test.false
 
 pub project-requires : goal.project-requires
 project-requires c =
-    let p = c.requires in
-    record { applying = turn_applying p.step c.loop-j-test.true c.matrix_size-matrix.ensures (unwrap_or c.args.bit no_bit) c.loop-j.invariant (numbered_is c.args.m c.args.resets (c.loop-j.j % 2)); bit = p.bit }
+    turn_applying c.requires c.loop-j-test.true c.matrix_size-matrix.ensures (unwrap_or c.args.bit no_bit) c.loop-j.invariant (numbered_is c.args.m c.args.resets (c.loop-j.j % 2))
 
 pub write_store-requires : goal.write_store-requires
 write_store-requires c =
-    let p = c.requires.step in
+    let p = c.requires in
     let h = c.loop-j-test.true in
     let s = c.matrix_size-matrix.ensures in
     let bit = unwrap_or c.args.bit no_bit in
@@ -37,4 +57,4 @@ write_store-requires c =
 
 pub loop-j-preserved : goal.loop-j-preserved
 loop-j-preserved c =
-    turn_more c.requires.step c.loop-j-test.true c.matrix_size-matrix.ensures (unwrap_or c.args.bit no_bit) c.loop-j.invariant (numbered_is c.args.m c.args.resets (c.loop-j.j % 2)) c.project.ensures c.write_store.ensures
+    turn_more c.requires c.loop-j-test.true c.matrix_size-matrix.ensures (unwrap_or c.args.bit no_bit) c.loop-j.invariant (numbered_is c.args.m c.args.resets (c.loop-j.j % 2)) c.project.ensures c.write_store.ensures

@@ -1,5 +1,5 @@
 -- `split_gate` meets its contract.
-use mathlib.Core.Path.{refl, sym, ap, ◌∙◌, subst}
+use mathlib.Core.Path.{refl, sym, ap, ◌∙◌}
 use Prim.Native.Nat.{ℕ, ◌*◌}
 use lib.ListN.{length}
 use Rattle.std.specs.Prelude.{Option, is_some, unwrap_or}
@@ -7,7 +7,6 @@ use Rattle.gate.specs.Operators.{operators}
 use Rattle.gate.specs.Inner.Words.{gate_of}
 use Rattle.branches.specs.Inner.Store.{no_bit}
 use Rattle.branches.specs.Inner.Run.{gate_stepped}
-use Rattle.branches.specs.Inner.Project.{OneBit}
 use Rattle.branches.specs.declared.bank.Bank.{Bank}
 use Rattle.branches.proofs.Gates.{splits-some, place-other, bit_is, gate_splits, gate_done}
 use Rattle.branches.proofs.Splits.{halves}
@@ -18,7 +17,7 @@ split-requires c =
     let (some, p) = c.requires in
     let e = c.flips.ensures in
     let h = halves p.few p.ready some e c.is_none.result (ap is_some (sym c.bit-bit.ensures) ∙ c.is_none.ensures) in
-    record { step = gate_splits p refl e (splits-some (gate_of c.args.g) some) h.first (λ _. h.second) refl; bit = subst (OneBit c.flips.result) (sym p.dim) h.bit }
+    gate_splits p refl e (splits-some (gate_of c.args.g) some) h.first (λ _. h.second) refl
 
 pub returns : goal.returns
 returns c =

@@ -1,0 +1,2 @@
+-- What inner functions ask and proofs need.
+pub mod Turns
