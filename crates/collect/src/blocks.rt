@@ -1,6 +1,6 @@
 // The block of one store: integer products over one power of two, summed on and above the diagonal, and then brought to their shared form and mirrored; of a bank of one branch with few different entries, a row for each of these and its copies.
 // Kept (facts): that a branch is the first to survive with its store is found before its block is written; as a ghost of Source it would be shown for each branch of which it is asked.
-// Kept (buffers): a place in the result. The contracts say what all of it becomes, record by record; a cut slice would tell of its own part alone.
+// Kept (buffers, together): a place in the result, and the exponent of what is written there. The contracts say what all of it becomes, record by record; a cut slice would tell of its own part alone.
 ghost use Rattle.std.specs.Prelude.{◌≡◌, true, ◌+◌, ◌*◌, ◌<◌, ◌≤◌, length};
 ghost use Rattle.std.proofs.lemmas.List.Edits.{sets};
 ghost use Rattle.share.specs.Share.{with_numerators};

@@ -84,9 +84,6 @@ module _ {n m : ℕ} {σ ns os : List ℕ} {r w : List ℤ} (a : Accepted n m σ
   pub few-nodes : number_of n (length ns / gate_size) ≤ max_nodes
   few-nodes = omega (arith, listed.few, known.qubit_count)
 
-  pub nodes-accepted : is_ok (first_no (nodes_questions n 0 (gates_of ns))) ≡ true
-  nodes-accepted = listed.nodes_yes
-
   -- ---- d rows and k branches, as they are handed over
   module _ {d k : ℕ} (e : d ≡ 2 ^ n) (f : k ≡ 2 ^ total splits (operations_of os)) where
     run_room : banks_size d k ≤ worked n m os

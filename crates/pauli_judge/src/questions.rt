@@ -1,12 +1,13 @@
 // The questions of pauli_channel, in order.
 // Kept (together): the limits and the lengths of the two buffers, as in circuit::questions.
-ghost use Rattle.std.specs.Prelude.{◌≡◌, true, ◌&&◌, ◌++◌, ◌/◌, ◌≤◌, length};
+ghost use Rattle.std.specs.Prelude.{◌≡◌, true, ◌&&◌, ◌++◌, ◌/◌, ◌≤◌, length, take, is_ok};
 ghost use Rattle.verdict.specs.Questions.{first_no, granted};
 ghost use Rattle.gate.specs.Gate.{gate_size, gates_of};
 ghost use Rattle.circuit.specs.Limits.{matrix_ceilings, branch_ceilings};
 ghost use Rattle.circuit.specs.Inner.Small.{max_qubits, max_gates};
+ghost use Rattle.pauli_nodes.specs.Inner.Masks.{node_masks};
 ghost use Rattle.pauli_words.specs.Words.{nodes_of, operations_of};
-ghost use Rattle.pauli_words.specs.Questions.{axis_fits, nodes_questions, operations_questions};
+ghost use Rattle.pauli_words.specs.Questions.{number_of, axis_fits, nodes_questions, operations_questions};
 ghost use Rattle.pauli_words.specs.Inner.Masks.{max_nodes};
 ghost use Rattle.pauli_judge.specs.Footprint.{program_footprint};
 ghost use Rattle.pauli_judge.specs.Questions.{max_listed, few_operations, program_word_questions, program_number_questions, pauli_questions, pauli_verdict};
@@ -24,13 +25,13 @@ use verdict::{Refusal, Verdict};
 
 const MAX_LISTED: usize = 1024;
 
-// The questions of the nodes, then of the operations.
-fn judge_lists(program: Program) -> Verdict
+// The questions of the nodes, then of the operations; where they are accepted, the mask form of each node is at its number.
+fn judge_lists(program: Program, masks: &mut [Mask; MAX_NODES]) -> Verdict
     requires { (program.qubits ≤ max_qubits) × (length program.nodes.now / gate_size ≤ max_listed) × (length program.operations.now / gate_size ≤ max_gates) }
-    ensures { let p = program.entry in result ≡ first_no (nodes_questions p.qubits 0 (gates_of p.nodes.now) ++ operations_questions (axis_fits p.qubits (nodes_of p.nodes.now)) p.bits 0 0 (gates_of p.operations.now)) }
+    ensures value { let p = program.entry in result ≡ first_no (nodes_questions p.qubits 0 (gates_of p.nodes.now) ++ operations_questions (axis_fits p.qubits (nodes_of p.nodes.now)) p.bits 0 0 (gates_of p.operations.now)) }
+    ensures forms { let p = program.entry in is_ok result ≡ true → take (number_of p.qubits (length p.nodes.now / gate_size)) masks.new ≡ node_masks p.qubits (nodes_of p.nodes.now) }
 {
-    let mut masks = [Mask::identity(); MAX_NODES];
-    judge_nodes(program.nodes, program.qubits, &mut masks)?;
+    judge_nodes(program.nodes, program.qubits, masks)?;
     judge_operations(
         program.operations,
         program.bits,
@@ -48,9 +49,10 @@ fn are_few(program: Program, l: Limits) -> bool
         & ((n as u64 <= MAX_QUBITS) & (program.nodes.len() / GATE <= MAX_LISTED))
 }
 
-// The questions of the words.
-fn judge_words(program: Program, l: Limits) -> Verdict
-    ensures { let p = program.entry in result ≡ first_no (program_word_questions p.qubits p.bits l p.nodes.now p.operations.now) }
+// The questions of the words, with the mask forms of accepted ones.
+fn judge_words(program: Program, l: Limits, masks: &mut [Mask; MAX_NODES]) -> Verdict
+    ensures value { let p = program.entry in result ≡ first_no (program_word_questions p.qubits p.bits l p.nodes.now p.operations.now) }
+    ensures forms { let p = program.entry in is_ok result ≡ true → take (number_of p.qubits (length p.nodes.now / gate_size)) masks.new ≡ node_masks p.qubits (nodes_of p.nodes.now) }
 {
     if !(l.are_matrix_limits_low() && l.are_branch_limits_low()) {
         return Err(Refusal::OverCeiling);
@@ -64,7 +66,7 @@ fn judge_words(program: Program, l: Limits) -> Verdict
     if !are_few(program, l) {
         return Err(Refusal::OverLimit);
     }
-    judge_lists(program)
+    judge_lists(program, masks)
 }
 
 // Questions 7 to 10, of limits that are low and of words that are within them.
@@ -77,16 +79,18 @@ fn judge_numbers(f: ProgramFootprint, program: Program, l: Limits, res: u64, wor
     judge_sizes(&ProgramSizes { nodes, sizes }, f.counts, l, res, work)
 }
 
-// All questions, and what a program that passes asks for; `res` and `work` are the lengths of the buffers.
+// All questions, and what a program that passes asks for; `res` and `work` are the lengths of the buffers. The mask forms of its nodes are then in `masks`.
 pub fn judge_runnable(
     program: Program,
     l: Limits,
     res: u64,
     work: u64,
+    masks: &mut [Mask; MAX_NODES],
 ) -> Result<ProgramFootprint, Refusal>
-    ensures { let p = program.entry in result ≡ granted (program_footprint p.qubits p.bits (operations_of p.operations.now)) (pauli_questions p.qubits p.bits p.store.now l p.nodes.now p.operations.now res work) }
+    ensures value { let p = program.entry in result ≡ granted (program_footprint p.qubits p.bits (operations_of p.operations.now)) (pauli_questions p.qubits p.bits p.store.now l p.nodes.now p.operations.now res work) }
+    ensures forms { let p = program.entry in is_ok result ≡ true → take (number_of p.qubits (length p.nodes.now / gate_size)) masks.new ≡ node_masks p.qubits (nodes_of p.nodes.now) }
 {
-    judge_words(program, l)?;
+    judge_words(program, l, masks)?;
     let f = ProgramFootprint::of(program);
     judge_numbers(f, program, l, res, work)?;
     Ok(f)
@@ -96,6 +100,7 @@ pub fn judge_runnable(
 pub fn judge_pauli(program: Program, l: Limits, res: u64, work: u64) -> Verdict
     ensures { let p = program.entry in result ≡ pauli_verdict p.qubits p.bits p.store.now l p.nodes.now p.operations.now res work }
 {
-    judge_runnable(program, l, res, work)?;
+    let mut masks = [Mask::identity(); MAX_NODES];
+    judge_runnable(program, l, res, work, &mut masks)?;
     Ok(())
 }

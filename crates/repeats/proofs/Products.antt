@@ -3,6 +3,7 @@ use mathlib.Core.Path.{◌≡◌, refl, sym, ap, ◌∙◌}
 use mathlib.Core.Bool.{Bool, true, false, cond, not, ◌&&◌}
 use mathlib.Core.List.{List}
 use Prim.Native.Nat.{ℕ, ◌+◌, ◌*◌, ◌-◌, ◌/◌, ◌%◌, ◌^◌, min, ◌≤◌, ◌<◌}
+use native.Mathlib.Decide.{dec_lt}
 use native.Mathlib.Omega.{arith}
 use lib.Arith.{digits_lt, digits_div, digits_mod}
 use lib.Count.{count_trailing_zeros}
@@ -24,7 +25,7 @@ use Rattle.exact.proofs.IsZero.{zero_is}
 use Rattle.exact.proofs.Zeros.{shifted}
 use Rattle.channel.specs.Forms.{Alike}
 use Rattle.channel.specs.Shared.{all_halves}
-use Rattle.channel.proofs.Zeros.{by-zeros}
+use Rattle.channel.proofs.Zeros.{by_shift, by-zeros}
 use Rattle.share.specs.Share.{number_in, with_numerators}
 use Rattle.share.proofs.Numbers.{number-filled}
 use Rattle.hermitian.proofs.Shifts.{shift-zero}
@@ -80,9 +81,13 @@ module _ {f : List ℕ} {m : List ℤ} {k w : ℕ} (firsts : Firsts f m k w) whe
             go r false q = refl
 
   -- shifted by the count of the zeros that end those bits, but by e at most
-  pub products-alike : (e t u : ℕ) → ((j : ℕ) → j < 63 → eqb (u / 2 ^ j % 2) 0 ≡ all_below w (row_clear m k f w j)) → e ≤ 63 → t ≡ count_trailing_zeros 64 (u % 2 ^ 63)
+  pub products-alike : (e t u : ℕ) → (0 < e → (j : ℕ) → j < 63 → eqb (u / 2 ^ j % 2) 0 ≡ all_below w (row_clear m k f w j)) → e ≤ 63 → t ≡ count_trailing_zeros 64 (u % 2 ^ 63)
       → Alike (w * w) (frac (λ (i : ℕ). shifted (product m k w i) (min t e)) (e - min t e)) (products_shared m k w e)
-  products-alike e t u bits small count = by-zeros (w * w) e t u (product m k w) (λ j h. bits j h ∙ all-clear j) small count
+  products-alike e t u bits small count = go (dec_lt 0 e)
+    where
+      go : Dec (0 < e) → Alike (w * w) (frac (λ (i : ℕ). shifted (product m k w i) (min t e)) (e - min t e)) (products_shared m k w e)
+      go (yes some) = by-zeros (w * w) e t u (product m k w) (λ j h. bits some j h ∙ all-clear j) small count
+      go (no none) = by_shift (w * w) e (min t e) (product m k w) (omega arith) (λ j h. absurd (omega arith)) (λ h. absurd (omega arith))
 
   -- ---- the block: b is l with the rows that are worked out, and o is b with all rows finished but those of zeros
   module _ (l : List ℤ) (out : ℕ) {b o : List ℤ} (t : ℕ) (room : out + w * w * 4 ≤ length l) (p : b ≡ with_numerators l out (w * w) (rows_written l out m k f w)) (q : o ≡ with_numerators b out (w * w) (rows_finished b out m k f w t)) where

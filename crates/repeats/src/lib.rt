@@ -1,5 +1,5 @@
 // The block of overlaps of numbers of which many are equal, in its shared form: a row is worked out for each different number, and the rows of equal numbers are copies of it.
-// Kept (buffers): a place in the result, as in overlaps. The contracts say what all of it becomes; a row is copied from one place of it to another.
+// Kept (buffers, together): a place in the result, as in overlaps, beside the exponent of what is written there. The contracts say what all of it becomes; a row is copied from one place of it to another.
 // Kept (facts): t ≤ 63, the bits of a word, is what a shift itself asks; that numerators are narrow, as in exact.
 #![tactic(auto)]
 
@@ -133,29 +133,33 @@ impl<'a> Repeats<'a> {
         }
     }
 
-    // Write row r of the block at `out` if it is worked out; the bits that g has or some word of it.
-    fn write_first(self, res: &mut [i64], out: usize, r: usize, g: i64) -> i64
+    // Kept: numbers over 1 are not asked for their bits. The words that were just written would be waited for.
+    // Write row r of the block at `out` if it is worked out; the bits that g has or some word of it, if the numbers are over 2^e for an e above 0.
+    fn write_first(self, res: &mut [i64], out: usize, r: usize, g: i64, e: u32) -> i64
         requires { Block res.old out self.w r }
         ensures words { let s = self.entry in res.new ≡ with_numerators res.old (out + r * s.w * 4) s.w (row_written res.old out s.work.now s.k s.firsts.now s.w r) }
-        ensures bits { let s = self.entry in (j : ℕ) → j < 63 → eqb (of_z w64 result / 2 ^ j % 2) 0 ≡ (eqb (of_z w64 g / 2 ^ j % 2) 0 && row_clear s.work.now s.k s.firsts.now s.w j r) }
+        ensures bits { let s = self.entry in 0 < e → (j : ℕ) → j < 63 → eqb (of_z w64 result / 2 ^ j % 2) 0 ≡ (eqb (of_z w64 g / 2 ^ j % 2) 0 && row_clear s.work.now s.k s.firsts.now s.w j r) }
     {
         if !self.is_worked(r) {
             return g;
         }
         let to = out + r * self.w * ENTRY;
         self.write_row(res, to, self.number(r));
+        if e == 0 {
+            return g;
+        }
         or_more(res, to, self.w * ENTRY, g)
     }
 
-    // Write the rows of the block at `out` that are worked out; the bits that some word of them has.
-    fn write_firsts(self, res: &mut [i64], out: usize) -> i64
+    // Write the rows of the block at `out` that are worked out; the bits that some word of them has, if the numbers are over 2^e for an e above 0.
+    fn write_firsts(self, res: &mut [i64], out: usize, e: u32) -> i64
         requires { out + self.w * self.w * 4 ≤ length res.old }
         ensures words { let s = self.entry in res.new ≡ with_numerators res.old out (s.w * s.w) (rows_written res.old out s.work.now s.k s.firsts.now s.w) }
-        ensures bits { let s = self.entry in (j : ℕ) → j < 63 → eqb (of_z w64 result / 2 ^ j % 2) 0 ≡ all_below s.w (row_clear s.work.now s.k s.firsts.now s.w j) }
+        ensures bits { let s = self.entry in 0 < e → (j : ℕ) → j < 63 → eqb (of_z w64 result / 2 ^ j % 2) 0 ≡ all_below s.w (row_clear s.work.now s.k s.firsts.now s.w j) }
     {
         let mut g = 0i64;
         for r in 0..self.w {
-            g = self.write_first(res, out, r, g);
+            g = self.write_first(res, out, r, g, e);
         }
         g
     }
@@ -210,7 +214,7 @@ impl<'a> Repeats<'a> {
         ensures exponent { let s = self.entry in result ≡ (products_shared s.work.now s.k s.w e).exp }
         ensures numerators { let s = self.entry in res.new ≡ with_numerators res.old out (s.w * s.w) (products_shared s.work.now s.k s.w e).num }
     {
-        let g = self.write_firsts(res, out);
+        let g = self.write_firsts(res, out, e);
         let t = common_zeros(g, 0, 0, 0).min(e);
         self.finish_rows(res, out, t);
         self.clear_zeros(res, out);

@@ -32,5 +32,5 @@ returns-clause-bits c =
     let room : to + s.w * 4 ≤ length c.args.res.now = omega (arith, c.requires.room, block_in_lem c.requires.inside s.w) in
     let row = c.write_row.ensures ∙ ap (λ (x : Number). with_numerators c.args.res.now to s.w (times x s.work.now s.k)) (ap number_of c.number.ensures) in
     let bits = back c.or_more.result (record { sfits = c.or_more.type_inv }) ∙ c.or_more.ensures.bits ∙ ap (λ (g : ℕ). or_words g c.write_row.new.res to (s.w * 4)) (back c.args.g c.ranges.g) in
-    λ j h. ap (λ (n : ℕ). eqb (n / 2 ^ j % 2) 0) bits
+    λ some j h. ap (λ (n : ℕ). eqb (n / 2 ^ j % 2) 0) bits
     ∙ bits-some c.args.res.now c.args.out s.work.now s.k s.firsts.now s.w c.args.r (sym c.is_worked.ensures ∙ c.if-not-is_worked.false) row room c.or_more.ensures.fit (of_z w64 c.args.g) j h

@@ -13,7 +13,7 @@ use Rattle.repeats.proofs.Rows.{back, write_more}
 use Rattle.repeats.proofs.Repeats.write_firsts.Goals as goal
 
 pub loop-r-init : goal.loop-r-init
-loop-r-init c = (omega arith, no_rows c.args.res.now c.args.out c.args.self.w _, λ j h. none-set j)
+loop-r-init c = (omega arith, no_rows c.args.res.now c.args.out c.args.self.w _, λ some j h. none-set j)
 
 pub write_first-g-requires : goal.write_first-g-requires
 write_first-g-requires c = record { inside = c.loop-r-test.true; room = rows-room c.loop-r-test.true c.loop-r.invariant.1 c.requires }
@@ -27,5 +27,6 @@ loop-r-preserved c =
     let bits = back c.write_first-g.result (record { sfits = c.write_first-g.type_inv }) in (
       omega arith,
       write_more s.work.now s.k s.firsts.now c.loop-r-test.true v.1 g.words,
-      λ j h. ap (λ (n : ℕ). eqb (n / 2 ^ j % 2) 0) bits ∙ g.bits j h ∙ ap (λ (b : Bool). b && row_clear s.work.now s.k s.firsts.now s.w j r) (v.2 j h) ∙ ap (λ (n : ℕ). all_below n (row_clear s.work.now s.k s.firsts.now s.w j)) (sym (add-one r)),
+      λ some j h. ap (λ (n : ℕ). eqb (n / 2 ^ j % 2) 0) bits ∙ g.bits some j h ∙ ap (λ (b : Bool). b && row_clear s.work.now s.k s.firsts.now s.w j r) (v.2 some j h)
+          ∙ ap (λ (n : ℕ). all_below n (row_clear s.work.now s.k s.firsts.now s.w j)) (sym (add-one r)),
     )

@@ -13,4 +13,4 @@ abbrev pub invariant-loop-r : goal.invariant-loop-r
 invariant-loop-r l =
     let s = l.self in
     (l.r ≤ s.w) × Rows l.initial.res l.out s.w (rows_written l.initial.res l.out s.work.now s.k s.firsts.now s.w) l.res l.r
-    × ((j : ℕ) → j < 63 → eqb (of_z w64 l.g / 2 ^ j % 2) 0 ≡ all_below l.r (row_clear s.work.now s.k s.firsts.now s.w j))
+    × (0 < l.e → (j : ℕ) → j < 63 → eqb (of_z w64 l.g / 2 ^ j % 2) 0 ≡ all_below l.r (row_clear s.work.now s.k s.firsts.now s.w j))
