@@ -2,7 +2,7 @@
 use Rattle.std.specs.Prelude.{◌≡◌, true, List, ℕ, ◌≤◌, length}
 use Rattle.scalar.specs.declared.Scalar.{Scalar}
 use Rattle.gate.specs.Gate.{gate_size}
-use Rattle.channel.specs.declared.compare.Place.{Place}
+use Rattle.compare.specs.declared.Place.{Place}
 use Rattle.qasm.specs.Claims.{small}
 use Rattle.answer_lines.specs.declared.Fault.{Fault}
 use Rattle.answer_lines.specs.declared.Which.{Which}

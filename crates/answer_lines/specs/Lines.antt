@@ -7,7 +7,7 @@ use Rattle.verdict.specs.Verdict.{verdict_number, verdict_index}
 use Rattle.scalar.specs.declared.Scalar.{Scalar}
 use Rattle.scalar.specs.Calls.{value}
 use Rattle.gate.specs.Gate.{gates_of}
-use Rattle.channel.specs.declared.compare.Place.{Place}
+use Rattle.compare.specs.declared.Place.{Place}
 use Rattle.text.specs.Decimal.{decimal}
 use Rattle.qasm.specs.Writing.{gate_text}
 use Rattle.answers.specs.Utf8.{utf8}

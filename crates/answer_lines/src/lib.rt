@@ -13,7 +13,7 @@ ghost use Rattle.answer_lines.specs.Lines.{same_text, dimensions_text, after_sto
 use answers::numbers::put_number;
 use answers::reasons::put_reason;
 use answers::states::{put_bra_ket, put_store};
-use channel::compare::Place;
+use compare::Place;
 use qasm_writer::printer::put_gates;
 use scalar::Scalar;
 use text::page::Writer;

@@ -4,13 +4,7 @@ pub mod Words
 pub mod Judging
 pub mod Chain
 pub mod Finding
-pub mod Scanning
-pub mod Merging
 pub mod Sorted
-pub mod First
-pub mod Stores
-pub mod Claims
-pub mod Alike
 pub mod Visits
 pub mod Least
 pub mod Restore

@@ -1,92 +1,24 @@
--- What is claimed of the comparison of two channels, of well-formed words, and of words that are written.
-use Rattle.std.specs.Prelude.{◌≡◌, Bool, true, false, cond, ◌&&◌, ◌||◌, List, [], ◌∷◌, ◌++◌, map, ℕ, zero, suc, ◌+◌, ◌*◌, ◌-◌, ◌/◌, ◌^◌, ◌<◌, ◌≤◌, eqb, ltb, ℤ, pos, nat_abs, Ok, is_ok}
-use Rattle.std.specs.Result.{result_map_both}
+-- What is claimed of well-formed words, and of words that are written.
+use Rattle.std.specs.Prelude.{◌≡◌, Bool, true, false, cond, ◌&&◌, List, [], ◌∷◌, ◌++◌, map, ℕ, zero, suc, ◌+◌, ◌*◌, ◌-◌, ◌/◌, ◌^◌, ◌<◌, ◌≤◌, eqb, ℤ, pos, nat_abs}
 use Rattle.algebra.specs.Lists.{total}
 use Rattle.exact.specs.Exact.{Number, Exact, exact, is_lowest, conj}
-use Rattle.scalar.specs.Calls.{scalar_of}
-use Rattle.verdict.specs.declared.Refusal.{Refusal}
-use Rattle.channel.specs.declared.compare.Comparison.{Comparison}
-use Rattle.channel.specs.declared.compare.Comparison.TheVariants.{Same, Dimensions, Differs}
-use Rattle.channel.specs.declared.compare.Difference.{Difference}
 use Rattle.store.specs.Store.{before}
 use Rattle.channel.specs.Shared.{shared, shared_fits}
-use Rattle.channel.specs.Layout.{Block, Form, header_size, entries, record_size, side, word, dim_at, bits_at, count_at, words, read_back_in, read_back}
-use Rattle.channel.specs.WellFormed.{is_dim, well_formed_in, well_formed, has_zero_block, form_verdict}
-use Rattle.channel.specs.Compare.{compare_of}
+use Rattle.channel.specs.Layout.{Block, Form, header_size, entries, record_size, word, dim_at, bits_at, count_at, words, read_back_in}
+use Rattle.channel.specs.WellFormed.{is_dim, well_formed_in, well_formed, has_zero_block}
 
 -- entry k of the block of the store s; a missing block is zero
 abbrev pub look : List Block → ℕ → ℕ → Exact
 look [] s k = exact.𝟘
 look (b ∷ bs) s k = cond (eqb s b.store) (b.entry k) (look bs s k)
 
-abbrev pub entry_of : List ℤ → ℕ → ℕ → Exact
-entry_of l = look (read_back l)
-
 -- a well-formed channel without a block of zeros
 pub record Sound (l : List ℤ) : Type 0 where
   pub right : well_formed l ≡ true
   pub full : has_zero_block l ≡ false
 
--- two such channels of one dimension and one bit count
-pub record Comparable (l r : List ℤ) : Type 0 where
-  pub left : Sound l
-  pub right : Sound r
-  pub dims : dim_at l ≡ dim_at r
-  pub bits : bits_at l ≡ bits_at r
-
--- the entries of a block of l
-abbrev pub size : List ℤ → ℕ
-size l = side (dim_at l) * side (dim_at l)
-
--- all entries of all stores are equal
-abbrev pub Agree : List ℤ → List ℤ → Type 0
-Agree l r = (s k : ℕ) → k < size l → entry_of l s k ≡ entry_of r s k
-
--- "same" exactly where they are
-abbrev pub SameExactly : Type 0
-SameExactly = (l r : List ℤ) → Comparable l r → (compare_of l r ≡ Ok Same → Agree l r) × (Agree l r → compare_of l r ≡ Ok Same)
-
 abbrev pub stores_of : List Block → List ℕ
 stores_of bs = map (λ (b : Block). b.store) bs
-
--- the same dimensions and bit counts, the same stores along the chain, and entries equal at every row and column
-pub record Alike (l r : List ℤ) : Type 0 where
-  pub dims : dim_at l ≡ dim_at r
-  pub bits : bits_at l ≡ bits_at r
-  pub stores : stores_of (read_back l) ≡ stores_of (read_back r)
-  pub entries : Agree l r
-
--- so "same" says that nothing that is read back differs
-abbrev pub AlikeExactly : Type 0
-AlikeExactly = (l r : List ℤ) → Sound l → Sound r → (compare_of l r ≡ Ok Same → Alike l r) × (Alike l r → compare_of l r ≡ Ok Same)
-
-abbrev pub swapped : Difference → Difference
-swapped d = record { place = d.place; left = d.right; right = d.left }
-
-abbrev pub turned : Comparison → Comparison
-turned Same = Same
-turned Dimensions = Dimensions
-turned (Differs d) = Differs (swapped d)
-
--- the other way round, unless both are refused: then the left one's refusal is told
-abbrev pub Symmetric : Type 0
-Symmetric = (l r : List ℤ) → (is_ok (form_verdict l) || is_ok (form_verdict r)) ≡ true → compare_of r l ≡ result_map_both turned (λ (r : Refusal). r) (compare_of l r)
-
--- entry j of the store s comes before entry k of the store t
-abbrev pub earlier : ℕ → ℕ → ℕ → ℕ → Bool
-earlier s j t k = before s t || (eqb s t && ltb j k)
-
--- d has the first place at which l and r differ, and its two entries
-pub record FirstAt (l r : List ℤ) (d : Difference) : Type 0 where
-  pub row : d.place.row < side (dim_at l)
-  pub col : d.place.col < side (dim_at l)
-  pub left : d.left ≡ scalar_of (entry_of l d.place.store (d.place.row * side (dim_at l) + d.place.col))
-  pub right : d.right ≡ scalar_of (entry_of r d.place.store (d.place.row * side (dim_at l) + d.place.col))
-  pub unequal : entry_of l d.place.store (d.place.row * side (dim_at l) + d.place.col) ≡ entry_of r d.place.store (d.place.row * side (dim_at l) + d.place.col) → ⊥
-  pub agree : (s k : ℕ) → k < size l → earlier s k d.place.store (d.place.row * side (dim_at l) + d.place.col) ≡ true → entry_of l s k ≡ entry_of r s k
-
-abbrev pub FirstEntry : Type 0
-FirstEntry = (l r : List ℤ) → Comparable l r → (d : Difference) → compare_of l r ≡ Ok (Differs d) → FirstAt l r d
 
 -- ---- the chain of well-formed words of a form visits each record once
 -- the places of n records along the chain from index `at` on

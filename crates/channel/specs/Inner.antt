@@ -1,4 +1,2 @@
 pub mod Kept
 pub mod Shapes
-pub mod Sides
-pub mod Walk

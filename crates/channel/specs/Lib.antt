@@ -2,7 +2,6 @@ pub mod Shared
 pub mod Layout
 pub mod WellFormed
 pub mod Lookup
-pub mod Compare
 pub mod Recast
 pub mod Inner
 pub mod Claims

@@ -1,5 +1,5 @@
 // The words of a channel: sizes, entries, stores, and the chain.
-// Kept (buffers): a record is named by its index in the whole words, which is what the chain's words hold: callers that walk the chain have the whole and an index. The blocks that compare holds are cut, and read at 0.
+// Kept (buffers): a record is named by its index in the whole words, which is what the chain's words hold: callers that walk the chain have the whole and an index. The blocks that are compared are cut, and read at 0.
 // Kept (facts): w ≤ 256 of a bare number: these two serve callers that hold the rows of a block and no form, and are where the form is made.
 ghost use Rattle.std.specs.Prelude.{◌≡◌, true, ◌+◌, ◌<◌, ◌≤◌, length, pos, nat_abs};
 ghost use Rattle.algebra.specs.Words.{up_to};
@@ -9,6 +9,7 @@ ghost use Rattle.channel.specs.Layout.{record_head, full, channels, block_size, 
 ghost use Rattle.channel.specs.Inner.Shapes.{Entries};
 
 use super::forms::{ALL, Form};
+use super::records::read_kept;
 use scalar::Scalar;
 use scalar::numerators::reduce;
 use store::store_from;
@@ -45,14 +46,9 @@ pub fn read_entry(s: &[i64], at: usize, k: usize) -> Scalar
     requires { Entries s.now at (k + 1) }
     ensures { result ≡ scalar_of (entry_at (channels (dim_at s.now)) s.now at k) }
 {
-    let p = at + RECORD_HEAD + k * ENTRY;
-    let n0 = s[p];
-    let n1 = s[p + 1];
-    let n2 = s[p + 2];
-    let n3 = s[p + 3];
-    let x = s[at + EXPONENT];
-    let e = x as u32;
-    reduce([n0, n1, n2, n3], e)
+    let numerators = read_kept(s, at + RECORD_HEAD + k * ENTRY, false);
+    let e = s[at + EXPONENT];
+    reduce(numerators, e as u32)
 }
 
 // Whether a word is a number from 0 to n.

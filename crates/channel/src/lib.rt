@@ -1,10 +1,9 @@
-// Channels as words: well-formedness, lookup by store, comparison.
+// Channels as words: their layout, well-formedness, lookup by store.
 #![tactic(auto)]
 
 ghost use Rattle.std.specs.Prelude.{◌≡◌, ◌*◌, ◌≤◌};
 ghost use Rattle.channel.specs.Layout.{form_of};
 
-pub mod compare;
 pub mod forms;
 pub mod layout;
 pub mod lookup;
@@ -14,7 +13,7 @@ pub mod well_formed;
 use forms::{Form, Parts};
 
 // The header of a channel.
-#[derive(Clone, Copy, PartialEq, Eq)]
+#[derive(Clone, Copy)]
 pub struct Shape {
     pub dim: usize,
     pub bits: u32,

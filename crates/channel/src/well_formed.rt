@@ -101,5 +101,5 @@ pub fn judge(s: &[i64]) -> Result<Shape, Refusal>
 pub fn well_formed(s: &[i64]) -> bool
     ensures { result ≡ well_formed s.now }
 {
-    judge(s) != Err(Refusal::Malformed)
+    !matches!(judge(s), Err(Refusal::Malformed))
 }

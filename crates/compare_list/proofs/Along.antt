@@ -17,7 +17,7 @@ use Rattle.verdict.specs.declared.Refusal.TheVariants.{MalformedAt}
 use Rattle.pair_list.specs.Pairs.{pair_words, pair_bytes, pair_at, framed, pairs_from, pairs_of, framing_from}
 use Rattle.pair_list.specs.Inner.Spots.{Framed}
 use Rattle.pair_list.proofs.Framing.{framed-room}
-use Rattle.channel.specs.declared.compare.Difference.{Difference}
+use Rattle.compare.specs.declared.Difference.{Difference}
 use Rattle.c_channels.specs.Channels.{place_words, scalar_words}
 use Rattle.work_list.specs.declared.Answer.{Answer}
 use Rattle.work_list.specs.Serving.{charge, Lent, answer_to, answers_from, answers_to}

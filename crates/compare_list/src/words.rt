@@ -6,7 +6,7 @@ ghost use Rattle.compare_list.specs.Words.{reply_number, cost_of, entry_of, refu
 
 use c_channels::{difference, finding_number, place_words, scalar_words};
 use c_words::replies::{LEFT_REFUSED, RIGHT_REFUSED};
-use channel::compare::Difference;
+use compare::Difference;
 use verdict::Refusal;
 use work_list::Answer;
 

@@ -24,16 +24,18 @@ use Rattle.kraus.specs.Branch.{Store, Branch}
 use Rattle.kraus.specs.Blocks.{having, overlap, stores, block}
 use Rattle.store.specs.Store.{bits}
 use Rattle.store.proofs.Bytes.{bits_back}
-use Rattle.channel.specs.declared.compare.Comparison.{Comparison}
-use Rattle.channel.specs.declared.compare.Comparison.TheVariants.{Same, Dimensions, Differs}
-use Rattle.channel.specs.declared.compare.Difference.{Difference}
+use Rattle.compare.specs.declared.Comparison.{Comparison}
+use Rattle.compare.specs.declared.Comparison.TheVariants.{Same, Dimensions, Differs}
+use Rattle.compare.specs.declared.Difference.{Difference}
 use Rattle.channel.specs.Layout.{Block, side, dim_at, bits_at, read_back}
 use Rattle.channel.specs.WellFormed.{verdict_by}
-use Rattle.channel.specs.Compare.{found, first, merge, compare_of}
-use Rattle.channel.specs.Claims.{look, entry_of, earlier, Sound, Comparable, FirstAt}
-use Rattle.channel.proofs.Claims.{same_exactly, first_entry}
-use Rattle.channel.proofs.Sorted.{sorted, merge_sorted}
-use Rattle.channel.proofs.First.{Compared, alike, differs, compared}
+use Rattle.compare.specs.Compare.{found, first, merge, compare_of}
+use Rattle.channel.specs.Claims.{look, Sound}
+use Rattle.compare.specs.Claims.{entry_of, earlier, Comparable, FirstAt}
+use Rattle.compare.proofs.Claims.{same_exactly, first_entry}
+use Rattle.channel.proofs.Sorted.{sorted}
+use Rattle.compare.proofs.Merged.{merge_sorted}
+use Rattle.compare.proofs.First.{Compared, alike, differs, compared}
 use Rattle.demands.specs.Demands.{IsChannel}
 use Rattle.demands.proofs.Stores.{some-stores}
 

@@ -15,17 +15,18 @@ use Rattle.algebra.specs.Lists.{All, filter_by}
 use Rattle.algebra.proofs.Lists.{all_imp, filter_keep}
 use Rattle.algebra.proofs.Trace.{nil, keep, swap, join, all_of, all_back, length-of, total_of}
 use Rattle.algebra.proofs.Perm.{Perm, perm_path, perm_sym, map_of, filter_of}
-use Rattle.channel.specs.declared.compare.Comparison.TheVariants.{Same}
+use Rattle.compare.specs.declared.Comparison.TheVariants.{Same}
 use Rattle.store.specs.Store.{before}
 use Rattle.channel.specs.Layout.{Block, Form, channels, side, word, dim_at, words, channel_words, read_back_in, read_back}
 use Rattle.channel.specs.WellFormed.{well_formed}
-use Rattle.channel.specs.Compare.{compare_of}
-use Rattle.channel.specs.Claims.{look, Comparable, places, visits, Writable, ReadsBack}
+use Rattle.compare.specs.Compare.{compare_of}
+use Rattle.channel.specs.Claims.{look, places, visits, Writable, ReadsBack}
+use Rattle.compare.specs.Claims.{Comparable}
 use Rattle.store.proofs.Order.{before_irrefl, before_trans, before_apart}
 use Rattle.channel.proofs.Sorted.{Above, Sorted, keys, sorted_in}
 use Rattle.channel.proofs.Judging.{in_channel}
 use Rattle.channel.proofs.Visits.{length-places}
-use Rattle.channel.proofs.Claims.{same_exactly}
+use Rattle.compare.proofs.Claims.{same_exactly}
 use Rattle.channel.proofs.RoundTrip.{round_trip}
 
 -- ---- blocks that agree: the same store, and the same entries in w rows and columns

@@ -25,9 +25,9 @@ use Rattle.circuit.specs.Footprint.{footprint_of}
 use Rattle.circuit.specs.Questions.{sizes_of, within_limits, room_for, word_questions, number_questions, channel_verdict}
 use Rattle.circuit.proofs.Answers.{channel_accepts}
 use Rattle.store.specs.Store.{store_fits}
-use Rattle.channel.specs.declared.compare.Comparison.{Comparison}
-use Rattle.channel.specs.declared.compare.Comparison.TheVariants.{Same}
-use Rattle.channel.specs.declared.compare.Difference.{Difference}
+use Rattle.compare.specs.declared.Comparison.{Comparison}
+use Rattle.compare.specs.declared.Comparison.TheVariants.{Same}
+use Rattle.compare.specs.declared.Difference.{Difference}
 use Rattle.collect.specs.Delivered.{overwritten}
 use Rattle.judge.specs.Call.{worked, verdict_of, accepts, result_after, work_after}
 use Rattle.judge.proofs.Accepted.{sound, store_words}

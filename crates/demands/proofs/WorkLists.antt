@@ -8,8 +8,8 @@ use lib.Dec.{leb}
 use lib.ListN.{length, get_or}
 use Rattle.verdict.specs.Questions.{Verdict}
 use Rattle.verdict.specs.declared.Refusal.{Refusal}
-use Rattle.channel.specs.declared.compare.Comparison.{Comparison}
-use Rattle.channel.specs.declared.compare.Difference.{Difference}
+use Rattle.compare.specs.declared.Comparison.{Comparison}
+use Rattle.compare.specs.declared.Difference.{Difference}
 use Rattle.judge.proofs.Accepted.{sound, store_words}
 use Rattle.pair_list.specs.Pairs.{Circuit, Pair}
 use Rattle.work_list.specs.declared.Answer.{Answer}

@@ -13,11 +13,11 @@ use Rattle.kraus.specs.Branch.{Store, Branch, branches}
 use Rattle.kraus.specs.Blocks.{survivors, stores, block, povm}
 use Rattle.verdict.specs.Questions.{Question, first_no, decided_by}
 use Rattle.circuit.specs.declared.limits.Limits.{Limits}
-use Rattle.channel.specs.declared.compare.Comparison.TheVariants.{Same}
+use Rattle.compare.specs.declared.Comparison.TheVariants.{Same}
 use Rattle.store.specs.Store.{bits}
 use Rattle.channel.specs.Layout.{Block, effects, side, effect_of, dim_at, bits_at, count_at, read_back_in, read_back}
 use Rattle.channel.specs.WellFormed.{well_formed, has_zero_block}
-use Rattle.channel.specs.Compare.{compare_of}
+use Rattle.compare.specs.Compare.{compare_of}
 use Rattle.effects.specs.Effects.{effects_verdict, result_of, povm_of}
 use Rattle.judge.specs.Delivered.{circuit_words}
 use Rattle.judge.specs.Call.{worked, asked, verdict_of, accepts, result_after, work_after}

@@ -12,11 +12,11 @@ use Rattle.circuit.specs.Footprint.{footprint_of}
 use Rattle.circuit.specs.Sizes.{result_words}
 use Rattle.circuit.specs.Questions.{sizes_of, channel_verdict}
 use Rattle.store.specs.Store as store
-use Rattle.channel.specs.declared.compare.Place.{Place}
-use Rattle.channel.specs.declared.compare.Comparison.{Comparison}
-use Rattle.channel.specs.declared.compare.Comparison.TheVariants.{Same, Dimensions, Differs}
+use Rattle.compare.specs.declared.Place.{Place}
+use Rattle.compare.specs.declared.Comparison.{Comparison}
+use Rattle.compare.specs.declared.Comparison.TheVariants.{Same, Dimensions, Differs}
 use Rattle.channel.specs.Layout.{side}
-use Rattle.channel.specs.Claims.{earlier}
+use Rattle.compare.specs.Claims.{earlier}
 use Rattle.judge.specs.Call.{worked}
 use Rattle.qasm.specs.Reading.{circuit, read_of}
 use Rattle.answer_lines.specs.Lines.{max_answer}

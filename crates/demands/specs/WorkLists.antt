@@ -8,11 +8,11 @@ use Rattle.kraus.specs.Branch.{branches}
 use Rattle.kraus.specs.Blocks.{survivors, block}
 use Rattle.verdict.specs.declared.Refusal.{Refusal}
 use Rattle.store.specs.Store as store
-use Rattle.channel.specs.declared.compare.Place.{Place}
-use Rattle.channel.specs.declared.compare.Comparison.{Comparison}
-use Rattle.channel.specs.declared.compare.Comparison.TheVariants.{Same, Dimensions, Differs}
+use Rattle.compare.specs.declared.Place.{Place}
+use Rattle.compare.specs.declared.Comparison.{Comparison}
+use Rattle.compare.specs.declared.Comparison.TheVariants.{Same, Dimensions, Differs}
 use Rattle.channel.specs.Layout.{side}
-use Rattle.channel.specs.Claims.{earlier}
+use Rattle.compare.specs.Claims.{earlier}
 use Rattle.pair_list.specs.Pairs.{Circuit, Pair}
 use Rattle.work_list.specs.declared.Answer.{Answer}
 use Rattle.work_list.specs.declared.Answer.TheVariants.{Compared}

@@ -2,9 +2,9 @@
 use Rattle.std.specs.Prelude.{cond, List, [], ℕ, leb, length, ℤ, Result, Ok, Err}
 use Rattle.verdict.specs.declared.Refusal.{Refusal}
 use Rattle.circuit.specs.declared.limits.Limits.{Limits}
-use Rattle.channel.specs.declared.compare.Comparison.{Comparison}
-use Rattle.channel.specs.declared.compare.Comparison.TheVariants.{Same, Dimensions, Differs}
-use Rattle.channel.specs.Compare.{compare_of}
+use Rattle.compare.specs.declared.Comparison.{Comparison}
+use Rattle.compare.specs.declared.Comparison.TheVariants.{Same, Dimensions, Differs}
+use Rattle.compare.specs.Compare.{compare_of}
 use Rattle.qasm.specs.declared.reader.Reading.{Reading}
 use Rattle.qasm.specs.Reading.{read_of, filled}
 use Rattle.answer_lines.specs.declared.Which as which

@@ -11,8 +11,8 @@ ghost use Rattle.judge_texts.specs.Call.{compared_text, answer_of, text_of, gate
 ghost use Rattle.judge_texts.specs.Inner.Behind.{judged_behind, text_behind};
 
 use answer_lines::{Fault, Which, put_different, put_dimensions, put_same};
-use channel::compare::{Comparison, compare};
 use circuit::limits::Limits;
+use compare::{Comparison, compare};
 use qasm::reader::Reading;
 use text::page::Writer;
 use text_channel::MAX_ANSWER;

@@ -13,8 +13,8 @@ use Rattle.verdict.specs.Questions.{Verdict, Question}
 use Rattle.verdict.proofs.Questions.{refused_alike, handed}
 use Rattle.circuit.specs.declared.limits.Limits.{Limits}
 use Rattle.circuit.specs.Questions.{channel_questions}
-use Rattle.channel.specs.declared.compare.Comparison.{Comparison}
-use Rattle.channel.specs.Compare.{compare_of}
+use Rattle.compare.specs.declared.Comparison.{Comparison}
+use Rattle.compare.specs.Compare.{compare_of}
 use Rattle.pair_list.specs.Pairs.{Pair}
 use Rattle.work_list.specs.declared.Answer.{Answer}
 use Rattle.work_list.specs.declared.Answer.TheVariants.{LeftRefused, RightRefused, PassedOver, Compared}

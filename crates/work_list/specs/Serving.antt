@@ -7,8 +7,8 @@ use Rattle.circuit.specs.declared.limits.Limits.{Limits}
 use Rattle.circuit.specs.Footprint.{footprint_of}
 use Rattle.circuit.specs.Sizes.{terms_needed}
 use Rattle.circuit.specs.Questions.{sizes_of, channel_verdict}
-use Rattle.channel.specs.declared.compare.Comparison.{Comparison}
-use Rattle.channel.specs.Compare.{compare_of}
+use Rattle.compare.specs.declared.Comparison.{Comparison}
+use Rattle.compare.specs.Compare.{compare_of}
 use Rattle.judge.specs.Call.{result_after}
 use Rattle.pair_list.specs.Pairs.{Circuit, Pair}
 use Rattle.work_list.specs.declared.Answer.{Answer}

@@ -6,7 +6,7 @@ pub mod serving;
 ghost use Rattle.std.specs.Prelude.{◌≡◌};
 ghost use Rattle.work_list.specs.Serving.{charge};
 
-use channel::compare::Comparison;
+use compare::Comparison;
 use verdict::Refusal;
 
 // The answer to a pair: the left circuit is refused, or the right one; the pair is passed over, at this cost; or both channels are compared.

@@ -2,17 +2,17 @@
 // Kept (together): the buffers are lent to be written; of a struct of such loans each clause would name the last values by their nesting, `lent.exit.1.1.0.now`, in place of `work.new`.
 ghost use Rattle.std.specs.Prelude.{◌≡◌, ◌≤◌, length, IfOk};
 ghost use Rattle.circuit.specs.Limits.{ceilings};
-ghost use Rattle.channel.specs.Compare.{compare_of};
+ghost use Rattle.compare.specs.Compare.{compare_of};
 ghost use Rattle.pair_list.specs.Inner.Spots.{circuit_in, pair_in};
 ghost use Rattle.work_list.specs.Serving.{lent, answer_to};
 ghost use Rattle.work_list.specs.Inner.Weighing.{Blank, delivers, weighed, Ready};
 
 use crate::Answer;
-use channel::compare::{Comparison, compare};
 use circuit::Circuit;
 use circuit::limits::Limits;
 use circuit::questions::judge_circuit;
 use circuit::sizes::{Branches, Rows, terms_needed};
+use compare::{Comparison, compare};
 use gate::GATE;
 use judge::call::circuit_channel;
 use pair_list::Pair;

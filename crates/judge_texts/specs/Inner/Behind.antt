@@ -2,8 +2,8 @@
 use Rattle.std.specs.Prelude.{List, ℕ, ℤ, Result}
 use Rattle.verdict.specs.declared.Refusal.{Refusal}
 use Rattle.circuit.specs.declared.limits.Limits.{Limits}
-use Rattle.channel.specs.declared.compare.Comparison.{Comparison}
-use Rattle.channel.specs.Compare.{compare_of}
+use Rattle.compare.specs.declared.Comparison.{Comparison}
+use Rattle.compare.specs.Compare.{compare_of}
 use Rattle.qasm.specs.declared.reader.Reading.{Reading}
 use Rattle.qasm.specs.Reading.{read_of, filled}
 use Rattle.answer_lines.specs.declared.Which as which

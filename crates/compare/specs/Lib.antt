@@ -1,0 +1,3 @@
+pub mod Compare
+pub mod Inner
+pub mod Claims
