@@ -39,11 +39,16 @@ pub const MEASURES: usize = 6;
 // The words of the counts.
 pub const HEAD: usize = 70;
 
+// Kept: a loop over all words without an early exit, which becomes vector code; `all` would leave at the first word that is none.
 // Whether each word is a number from 0 to top.
 fn each_up_to(words: &[i64], top: u64) -> bool
     ensures { result ≡ list_all (up_to top) words.now }
 {
-    words.iter().all(|&x| up_to(top, x))
+    let mut are = true;
+    for i in 0..words.len() {
+        are = are & up_to(top, words[i]);
+    }
+    are
 }
 
 // Whether n words from `at` on are numbers from 0 to top.
