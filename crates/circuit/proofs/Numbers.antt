@@ -3,25 +3,26 @@ use Rattle.std.specs.Prelude.{Ok, Err}
 use mathlib.Core.Path.{◌≡◌, refl, sym, ap, ◌∙◌}
 use mathlib.Core.Bool.{Bool, true, false, cond, ◌&&◌, and-false}
 use mathlib.Core.List.{List, [], ◌∷◌, ◌++◌}
-use Prim.Native.Nat.{ℕ, suc, ◌^◌, ◌≤◌}
+use Prim.Native.Nat.{ℕ, suc, ◌/◌, ◌%◌, ◌^◌, ◌≤◌}
 use native.Mathlib.Omega.{arith}
-use lib.Dec.{leb}
+use lib.Dec.{eqb, leb}
+use lib.ListN.{length}
 use lib.Pow.{pow_mono}
 use borrow.Author.Tests.{leb-true, leb-false, lt-leb}
 use Rattle.algebra.specs.Lists.{total}
 use Rattle.algebra.proofs.Tests.{and_split}
-use Rattle.verdict.specs.declared.Refusal.TheVariants.{OverLimit, BadStore, TooHeavy, ShortBuffer}
+use Rattle.verdict.specs.declared.Refusal.TheVariants.{OverLimit, BadStore, MalformedAt, OverCeiling, TooHeavy, ShortBuffer}
 use Rattle.verdict.specs.declared.Refusal.{Refusal}
 use Rattle.verdict.specs.Questions.{Verdict, Question, question, granted, first_no}
-use Rattle.verdict.proofs.Questions.{refused}
-use Rattle.gate.specs.Gate.{gates_of, weight, max_weight}
+use Rattle.verdict.proofs.Questions.{refused, passed, handed_value}
+use Rattle.gate.specs.Gate.{gate_size, gates_of, weight, max_weight}
 use Rattle.store.specs.Store.{store_fits}
 use Rattle.circuit.specs.declared.limits.Limits.{Limits}
 use Rattle.circuit.specs.declared.footprint.Footprint.{Footprint}
 use Rattle.circuit.specs.declared.sizes.Sizes.{Sizes}
 use Rattle.circuit.specs.Limits.{ceilings, matrix_ceilings, branch_ceilings}
 use Rattle.circuit.specs.Footprint.{footprint_of}
-use Rattle.circuit.specs.Questions.{sizes_of, unitary_room}
+use Rattle.circuit.specs.Questions.{sizes_of, unitary_within, unitary_room, matrix_questions, unitary_verdict}
 use Rattle.circuit.specs.Inner.Small.{max_splits, max_branches, max_qubits, max_gates}
 use Rattle.circuit.specs.Inner.Numbers.{count_questions, size_questions}
 
@@ -82,7 +83,16 @@ module _ (l : Limits) (f : Footprint) (n m : ℕ) (σ : List ℕ) (few_cells roo
   pub counts_refuse : {r : Refusal} → Err r ≡ granted (sizes_of f n) before → Err r ≡ first_no whole
   counts_refuse e = refused (sizes_of f n) tt before (of_sizes (sizes_of f n)) e ∙ two_parts
 
+  pub counts_pass : {s : Sizes} → Ok s ≡ granted (sizes_of f n) before → first_no (of_sizes s) ≡ first_no whole
+  counts_pass e = ap (λ (s : Sizes). first_no (of_sizes s)) (handed_value (sizes_of f n) before e) ∙ passed (sizes_of f n) tt before (of_sizes (sizes_of f n)) e ∙ two_parts
+
 -- ---- circuit_unitary
+-- the first three questions, by their answers
+module _ (n : ℕ) (l : Limits) (ws : List ℕ) (result work : ℕ) where
+  pub first_answers : {a b c : Bool} {v : Verdict} → a ≡ matrix_ceilings l → b ≡ eqb (length ws % gate_size) 0 → c ≡ unitary_within n (length ws / gate_size) l
+      → v ≡ first_no (matrix_questions n ws result work) → cond a (cond b (cond c v (Err OverLimit)) (Err (MalformedAt 0))) (Err OverCeiling) ≡ unitary_verdict n l ws result work
+  first_answers p q r w = λ i. cond (p i) (cond (q i) (cond (r i) (w i) (Err OverLimit)) (Err (MalformedAt 0))) (Err OverCeiling)
+
 -- the last two questions, by their answers
 module _ (n : ℕ) (ws : List ℕ) (result work : ℕ) where
   abbrev pub last_questions : List Question

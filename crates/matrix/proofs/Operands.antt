@@ -1,9 +1,10 @@
 -- The operands of the rule: conjugates and products of them, and the tests as code makes them.
 use Rattle.std.specs.Prelude.{Ok}
-use mathlib.Core.Path.{◌≡◌, refl, ◌∙◌}
+use mathlib.Core.Path.{◌≡◌, refl, sym, ◌∙◌, subst}
 use mathlib.Core.Bool.{Bool, true, false, ◌&&◌, ◌||◌}
 use mathlib.Core.List.{List}
-use Prim.Native.Nat.{ℕ, ◌*◌, ◌≤◌, ◌<◌}
+use Prim.Native.Nat.{ℕ, ◌+◌, ◌*◌, ◌≤◌, ◌<◌}
+use native.Mathlib.Omega.{arith}
 use lib.Dec.{leb}
 use lib.ListN.{length}
 use lib.IntN.{ℤ, nat_abs}
@@ -12,7 +13,8 @@ use Rattle.algebra.proofs.Tests.{and_split, all-at}
 use Rattle.algebra.proofs.Parts.{abs_neg}
 use Rattle.exact.specs.Exact.{Exact, conj, within, max_numerator, max_exponent, narrow_numerator, narrow_exponent, well_formed, narrow}
 use Rattle.exact.proofs.Exact.{conj-form}
-use Rattle.scalar.specs.Calls.{scalar_of, mul_answer, conj_answer}
+use Rattle.scalar.specs.declared.Scalar.{Scalar}
+use Rattle.scalar.specs.Calls.{Answer, value, scalar_of, mul_answer, conj_answer}
 use Rattle.scalar.proofs.Questions.{asked-yes, mul-yes}
 use Rattle.cells.specs.Cells.{exponent_at, well_formed_at, cell_size}
 use Rattle.matrix.specs.Phase.{◌·◌, entry_of}
@@ -35,6 +37,20 @@ mul_value {x} {y} p q = mul-yes x y (λ i. p.form i && q.form i) (λ i. p.small 
 
 pub conj_value : {x : Exact} → Operand x → conj_answer x ≡ Ok (scalar_of (conj x))
 conj_value {x} p = asked-yes x _ p.form
+
+-- what a conjugate that was given is
+pub conj_is : (x : Scalar) {y : Scalar} {r : Answer} → Operand (value x) → r ≡ conj_answer (value x) → r ≡ Ok y → y ≡ scalar_of (conj (value x))
+conj_is x {y} o e f = let q : Ok y ≡ Ok (scalar_of (conj (value x))) = sym f ∙ e ∙ conj_value o in cc
+
+-- ---- entries that are operands
+module _ {l : List ℤ} {n i : ℕ} (o : Operands l n) (h : i < n) where
+  -- one can be read
+  pub readable : (i * cell_size + cell_size ≤ length l) × (exponent_at l (i * cell_size) ≡ true)
+  readable = (omega (arith, o.room), o.exponent i h)
+
+  -- what was read is one
+  pub entry_operand : {x : Scalar} → x ≡ scalar_of (entry_of l i) → Operand (value x)
+  entry_operand e = subst (λ (x : Scalar). Operand (value x)) (sym e) (o.operand i h)
 
 -- ---- entries that passed the questions
 pub operands : (l : List ℤ) (n : ℕ) → n * cell_size ≤ length l → all_below n (λ (i : ℕ). well_formed_at l (i * cell_size)) ≡ true → all_below n (λ (i : ℕ). narrow (entry_of l i)) ≡ true → Operands l n

@@ -60,7 +60,6 @@ fn times(x: Scalar, y: Scalar) -> Scalar
 }
 
 // x times its conjugate
-#[tactic(auto, using(crate::proofs::Operands::conj_value, crate::proofs::Operands::conj_operand))]
 fn squared_modulus(x: Scalar) -> Scalar
     requires { Operand (value x) }
     ensures { result ≡ scalar_of (value x · conj (value x)) }

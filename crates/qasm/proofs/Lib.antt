@@ -10,6 +10,7 @@ pub mod Scanning
 pub mod First
 pub mod Named
 pub mod Words
+pub mod Took
 pub mod Moves
 pub mod Going
 pub mod Answer

@@ -1,6 +1,7 @@
 -- One token: what the code's struct says before and after it is what the definition says.
 use Rattle.std.specs.Prelude.{Option, Some, None, Ok, Err}
-use mathlib.Core.Path.{◌≡◌, refl, sym, ap, ◌∙◌}
+use Rattle.std.proofs.Common.{Bor}
+use mathlib.Core.Path.{◌≡◌, refl, sym, ap, ◌∙◌, subst}
 use mathlib.Core.Bool.{Bool, true, false, cond, ◌&&◌}
 use mathlib.Core.List.{List, [], ◌∷◌, ◌++◌}
 use Prim.Native.Nat.{ℕ, ◌+◌, ◌-◌, ◌≤◌}
@@ -12,16 +13,16 @@ use Rattle.std.proofs.lemmas.List.{length-map}
 use borrow.Author.Tests.{leb-true, ltb-true, le-leb}
 use Rattle.algebra.specs.Lists.{every}
 use Rattle.algebra.proofs.Tests.{and_split}
-use Rattle.verdict.specs.declared.Refusal.{Refusal}
 use Rattle.text.specs.Ascii.{ascii}
 use Rattle.text.specs.Decimal.{value}
 use Rattle.qasm.specs.declared.steps.Progress.{Progress}
+use Rattle.qasm.specs.declared.reader.Fault.{Fault}
 use Rattle.qasm.specs.declared.pieces.Piece as code
 use Rattle.qasm.specs.Tokens.{same, Token}
 use Rattle.qasm.specs.Forms.{Piece, fixed, fresh, size, register, index, Entry, table, declared}
 use Rattle.qasm.specs.Reading.{State, due, fault, fits, taken, wrong, unknown, opened, named, step, fault_at}
 use Rattle.qasm.specs.Inner.Pieces.{piece_of, pieces_of, entry_named}
-use Rattle.qasm.specs.Inner.Progress.{with_word, opened_for, names_of, seen_of, Sees, Stepped}
+use Rattle.qasm.specs.Inner.Progress.{with_word, opened_for, names_of, seen_of, with_due, Took, Sees, Stepped}
 use Rattle.qasm.proofs.Named.{entry-passes, opened_by, opened-named}
 use Rattle.qasm.proofs.Words.{Held, held_set, held_run}
 
@@ -59,7 +60,7 @@ module _ (s : Progress) (g : List ℕ) (t : Token) {p : code.Piece} {ps : List c
   before : {l : List ℕ} {st : State} → Sees l (Ok s) g st → (opened_for s.words P ≡ true) × (every (opened_for s.words) (pieces_of ps) ≡ true)
   before x = and_split (opened_for s.words P) (every (opened_for s.words) (pieces_of ps)) (ap (λ (ps : List code.Piece). every (opened_for s.words) (pieces_of ps)) (sym is) ∙ x.counts.opened)
 
-  pub step_taken : {r : Progress} {g' : List ℕ} → fits P (names_of s) t ≡ true → r.due.now ≡ ps → r.words ≡ s.words
+  step_taken : {r : Progress} {g' : List ℕ} → fits P (names_of s) t ≡ true → r.due.now ≡ ps → r.words ≡ s.words
       → ((ws : List ℕ) → seen_of r (with_word P t (length ws) ws) ≡ taken P (seen_of s ws) t) → g' ≡ with_word P t s.words g → Stepped s g t (Ok r) g'
   step_taken {r} {g'} e d n seen w = record {
     few = let a = ap length is in let b = ap length d in omega (arith, a, b, n);
@@ -73,6 +74,24 @@ module _ (s : Progress) (g : List ℕ) (t : Token) {p : code.Piece} {ps : List c
       held = w ∙ word_held l P t s.words x.words (sym k) (before x).0 x.held;
     };
   }
+
+  -- the token can stand there, where the pieces behind it are due next; or it cannot
+  module _ {d : Bor (List code.Piece)} {s2 : Progress} {g' : List ℕ} (q : s2 ≡ with_due s d) where
+    pub step_some : {r : Progress} → d.now ≡ ps → Took s2 g P t (Some r) g' → Stepped s g t (Ok r) g'
+    step_some {r} n k =
+        let e = subst (λ (s2 : Progress). Took s2 g P t (Some r) g') q k in
+        step_taken (sym e.fitting) (ap (λ (d : Bor (List code.Piece)). d.now) e.stays.0 ∙ n) e.stays.1 e.seen e.written
+
+    pub step_none : {f : Fault} → f ≡ fault_at (wrong P t) t.at → Took s2 g P t None g' → Stepped s g t (Err f) g'
+    step_none {f} w k = let e = subst (λ (s2 : Progress). Took s2 g P t None g') q k in record {
+      few = tt;
+      keeps = λ l st x. record {
+        words = x.words;
+        is = stepped-to (sym e.fitting) x ∙ ap (λ (f : Fault). fault f.refusal f.position) (sym w);
+        counts = tt;
+        held = e.written ∙ x.held;
+      };
+    }
 
 -- ---- the first token of a statement
 -- a gate's form has four pieces and more, and its words are those of a gate
@@ -100,12 +119,12 @@ module _ (s : Progress) (g : List ℕ) (t : Token) (none : s.due.now ≡ []) (no
       ∙ ap (begun x.words) (ap (λ (n : ℕ). (eqb (length s.classical.now) 0 && eqb n 0) && same (ascii "creg") t.bytes) x.counts.words ∙ no)
       ∙ opened-named (seen_of s x.words) t table
 
-  pub open_none : {v : Refusal} → None ≡ entry_named t.bytes table → v ≡ unknown t → Stepped s g t (Err (fault_at v t.at)) g
+  pub open_none : {v : Fault} → None ≡ entry_named t.bytes table → v ≡ fault_at (unknown t) t.at → Stepped s g t (Err v) g
   open_none f q = record {
     few = tt;
     keeps = λ l st x. record {
       words = x.words;
-      is = opens-to x ∙ ap (λ (o : Option Entry). opened_by o (seen_of s x.words) t) (sym f) ∙ ap (λ (v : Refusal). fault v t.at) (sym q);
+      is = opens-to x ∙ ap (λ (o : Option Entry). opened_by o (seen_of s x.words) t) (sym f) ∙ ap (λ (v : Fault). fault v.refusal v.position) (sym q);
       counts = tt;
       held = x.held;
     };

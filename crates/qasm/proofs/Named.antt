@@ -3,12 +3,12 @@ use Rattle.std.proofs.Common.{Bor}
 use mathlib.Core.Path.{◌≡◌, refl, sym, ap, ◌∙◌}
 use mathlib.Core.Bool.{Bool, true, false, cond}
 use mathlib.Core.List.{List, [], ◌∷◌}
-use Prim.Native.Nat.{ℕ, suc, ◌+◌, ◌<◌}
+use Prim.Native.Nat.{ℕ, suc, ◌+◌, ◌<◌, ◌≤◌}
 use lib.Dec.{eqb}
 use Rattle.std.specs.Cmp.Lexicographic.{pointwise}
-use Rattle.qasm.proofs.Same.{same_pointwise}
+use Rattle.qasm.proofs.Same.{same_true, same_pointwise}
 use native.Mathlib.Numerals.{add-one}
-use lib.ListN.{length, get_or, drop}
+use lib.ListN.{length, get_or, drop, drop_of_length-le}
 use lib.Seq.{drop-cons}
 use Rattle.std.specs.Prelude.{Option, Some, None, map}
 use Rattle.algebra.specs.Lists.{every, filter_by}
@@ -34,6 +34,20 @@ named_later w es {i} d h {r} e f =
     ap (λ (es : List Row). entry_named w (map entry_in es)) (drop-cons es i d h)
     ∙ ap (λ (c : Bool). cond c (Some (entry_in (get_or es i d))) (entry_named w (map entry_in (drop (suc i) es)))) (sym (same_pointwise (get_or es i d).0.now w) ∙ sym e ∙ f)
     ∙ ap (λ (k : ℕ). entry_named w (map entry_in (drop k es))) (sym (add-one i))
+
+-- one with this name is found
+pub named_here : (w : List ℕ) (es : List Row) {i : ℕ} (d : Row) → i < length es → {r : Bool} → r ≡ pointwise eqb (get_or es i d).0.now w → r ≡ true
+    → Some (entry_of w (get_or es i d).1 (get_or es i d).2) ≡ entry_named w (map entry_in (drop i es))
+named_here w es {i} d h {r} e f =
+    let x = get_or es i d in
+    let q = sym (same_pointwise x.0.now w) ∙ sym e ∙ f in
+    ap (λ (n : List ℕ). Some (entry_of n x.1 x.2)) (sym (same_true x.0.now w q))
+    ∙ ap (λ (c : Bool). cond c (Some (entry_in x)) (entry_named w (map entry_in (drop (suc i) es)))) (sym q)
+    ∙ ap (λ (es : List Row). entry_named w (map entry_in es)) (sym (drop-cons es i d h))
+
+-- behind the last entry there is none
+pub named_end : (w : List ℕ) (es : List Row) {i : ℕ} → length es ≤ i → None ≡ entry_named w (map entry_in (drop i es))
+named_end w es {i} h = ap (λ (es : List Row). entry_named w (map entry_in es)) (sym (drop_of_length-le es h))
 
 -- what a test says of all entries it says of the one that is found
 pub entry-passes : (p : Entry → Bool) (w : List ℕ) (es : List Entry) {e : Entry} → every p es ≡ true → Some e ≡ entry_named w es → p e ≡ true

@@ -3,7 +3,7 @@ ghost use Rattle.std.specs.Prelude.{◌≡◌, Bool, ℕ, ◌≤◌, ◌<◌, le
 ghost use Rattle.qasm.specs.Tokens.{is_blank, in_word, run};
 ghost use Rattle.qasm.specs.Inner.Scanning.{first_part};
 
-use super::bytes::{is_blank, opens_word};
+use super::bytes::{is_blank, is_small, opens_word};
 use text::bytes::is_digit;
 
 // What a text begins with, behind blanks.
@@ -14,6 +14,25 @@ pub const HEADER: [u8; 13] = *b"OPENQASM 2.0;";
 pub struct Token<'a> {
     pub at: usize,
     pub bytes: &'a [u8],
+}
+
+impl<'a> Token<'a> {
+    ghost use Rattle.qasm.specs.Tokens.{is_word, is_name};
+    ghost use Rattle.qasm.specs.Inner.Left.{token_of};
+
+    // Whether it begins as a word does.
+    pub fn opens_word(self) -> bool
+        ensures { result ≡ is_word (token_of self.entry) }
+    {
+        self.bytes.first().is_some_and(|&b| opens_word(b))
+    }
+
+    // Whether it begins as the name of a register does.
+    pub fn opens_name(self) -> bool
+        ensures { result ≡ is_name (token_of self.entry) }
+    {
+        self.bytes.first().is_some_and(|&b| is_small(b))
+    }
 }
 
 // The tokens of a text from `at` on.

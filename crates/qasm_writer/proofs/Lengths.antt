@@ -1,7 +1,8 @@
 -- How many bytes a text has, and when there is room for it.
+use Rattle.std.specs.Prelude.{Some}
 use mathlib.Core.Path.{◌≡◌, sym, ap, ◌∙◌}
 use mathlib.Core.Bool.{true, false}
-use mathlib.Core.List.{List}
+use mathlib.Core.List.{List, ◌++◌}
 use Prim.Native.Nat.{ℕ, ◌+◌, ◌-◌, ◌*◌, ◌/◌, ◌^◌, ◌<◌, ◌≤◌}
 use native.Mathlib.Omega.{arith}
 use lib.Dec.{leb}
@@ -17,6 +18,9 @@ use Rattle.text.proofs.RoundTrip.{digits-most}
 use Rattle.qasm.specs.Writing.{gate_text, written}
 use Rattle.qasm.specs.Claims.{frame_bytes}
 use Rattle.qasm.proofs.Length.{bytes}
+use Rattle.text.specs.Ascii.{ascii}
+use Rattle.qasm_writer.specs.Inner.Print.{name_of, others}
+use Rattle.qasm_writer.proofs.Lines.{gate-shown}
 use Rattle.qasm_writer.proofs.Asked.{from, from_all}
 
 -- ---- numbers
@@ -53,3 +57,18 @@ module _ (ws : List ℕ) where
 
   pub none_left : (i room : ℕ) → length ws / gate_size ≤ i → leb (bytes_from ws i) room ≡ true
   none_left i room l = ap (λ (gs : List Gate). leb (total (λ (g : Gate). length (gate_text g)) gs) room) (gates-none ws (length ws / gate_size) i l) ∙ le-leb 0 room (omega arith)
+
+-- ---- the line of a gate
+parts_count : (name before number behind os end : List ℕ) {text : List ℕ} → name ++ ((before ++ (number ++ behind)) ++ (os ++ end)) ≡ text
+    → length name + ((length before + (length number + length behind)) + (length os + length end)) ≡ length text
+parts_count name before number behind os end e =
+    (λ i. length name + ((length before + sym (length-append number behind) i) + sym (length-append os end) i))
+    ∙ (λ i. length name + (sym (length-append before (number ++ behind)) i + length (os ++ end)))
+    ∙ ap (λ (k : ℕ). length name + k) (sym (length-append (before ++ (number ++ behind)) (os ++ end)))
+    ∙ sym (length-append name ((before ++ (number ++ behind)) ++ (os ++ end))) ∙ ap length e
+
+counted : (n : ℕ) {d o d' o' k : ℕ} → d ≡ d' → o ≡ o' → n + ((2 + (d' + 1)) + (o' + 2)) ≡ k → n + 5 + d + o ≡ k
+counted n e f h = omega arith
+
+pub line_count : (g : Gate) (name : List ℕ) {d o : ℕ} → name_of g.kind ≡ Some name → d ≡ length (decimal g.a) → o ≡ length (others g) → length name + 5 + d + o ≡ length (gate_text g)
+line_count g name e p q = counted (length name) p q (parts_count name (ascii "q[") (decimal g.a) (ascii "]") (others g) (ascii ";\n") (gate-shown g e))

@@ -1,16 +1,20 @@
 -- What the reader's struct says of the text read so far.
-use Rattle.std.specs.Prelude.{◌≡◌, Bool, true, cond, ◌&&◌, ℕ, ◌+◌, ◌-◌, ◌≤◌, min, eqb, ltb, leb, length, take, set, Option, Some, None, Result, Ok, Err, IfOk}
+use Rattle.std.specs.Prelude.{◌≡◌, Bool, true, cond, ◌&&◌, ℕ, ◌+◌, ◌-◌, ◌≤◌, min, eqb, ltb, leb, length, take, set, Option, Some, None, is_some, IfSome, MatchOption, Result, Ok, Err, IfOk}
+use denote.Bor.{Bor}
 use mathlib.Core.List.{List, [], ◌∷◌}
 use Rattle.std.proofs.lemmas.List.Edits.{sets}
 use Rattle.algebra.specs.Lists.{every}
 use Rattle.gate.specs.Gate.{gate_size}
 use Rattle.text.specs.Ascii.{ascii}
 use Rattle.text.specs.Decimal.{value}
+use Rattle.qasm.specs.declared.pieces.Piece as code
+use Rattle.qasm.specs.declared.pieces.Register.{Register}
+use Rattle.qasm.specs.declared.pieces.Register.TheVariants.{Quantum, Classical}
 use Rattle.qasm.specs.declared.steps.Progress.{Progress}
 use Rattle.qasm.specs.declared.reader.Fault.{Fault}
 use Rattle.qasm.specs.Tokens.{same, Token, token, is_index}
 use Rattle.qasm.specs.Forms.{Piece, fixed, fresh, size, register, index}
-use Rattle.qasm.specs.Reading.{Seen, seen, State, due, fault, step}
+use Rattle.qasm.specs.Reading.{Seen, seen, State, due, fault, fits, taken, step}
 use Rattle.qasm.specs.Inner.Pieces.{pieces_of}
 
 -- the number in a token
@@ -48,6 +52,26 @@ declares s word = (eqb (length s.classical.now) 0 && eqb s.words 0) && same (asc
 abbrev pub state_of : Result Progress Fault → List ℕ → State
 state_of (Ok s) ws = due (pieces_of s.due.now) (seen_of s ws)
 state_of (Err f) ws = fault f.refusal f.position
+
+-- what the struct says with these pieces due
+abbrev pub with_due : Progress → Bor (List code.Piece) → Progress
+with_due s ps = record { due = ps; quantum = s.quantum; classical = s.classical; qubits = s.qubits; bits = s.bits; words = s.words }
+
+-- with this name, and with this size, of a register
+abbrev pub with_name : Progress → Register → Bor (List ℕ) → Progress
+with_name s Quantum b = record { due = s.due; quantum = b; classical = s.classical; qubits = s.qubits; bits = s.bits; words = s.words }
+with_name s Classical b = record { due = s.due; quantum = s.quantum; classical = b; qubits = s.qubits; bits = s.bits; words = s.words }
+
+abbrev pub with_size : Progress → Register → ℕ → Progress
+with_size s Quantum n = record { due = s.due; quantum = s.quantum; classical = s.classical; qubits = n; bits = s.bits; words = s.words }
+with_size s Classical n = record { due = s.due; quantum = s.quantum; classical = s.classical; qubits = s.qubits; bits = n; words = s.words }
+
+-- what a token gives where the piece is due: the words g become g'
+pub record Took (s : Progress) (g : List ℕ) (p : Piece) (t : Token) (r : Option Progress) (g' : List ℕ) : Type 0 where
+  pub fitting : is_some r ≡ fits p (names_of s) t
+  pub stays : IfSome r (λ (s' : Progress). (s'.due ≡ s.due) × (s'.words ≡ s.words))
+  pub seen : IfSome r (λ (s' : Progress). (ws : List ℕ) → seen_of s' (with_word p t (length ws) ws) ≡ taken p (seen_of s ws) t)
+  pub written : MatchOption r (g' ≡ g) (λ (s' : Progress). g' ≡ with_word p t s.words g)
 
 -- there are as many words as the struct says, in the order in which they were read
 pub record Counts (s : Progress) (ws : List ℕ) : Type 0 where

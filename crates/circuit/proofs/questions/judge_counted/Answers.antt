@@ -1,11 +1,12 @@
 -- The gates have passed, so the limits are low.
+use Rattle.std.specs.Prelude.{Ok}
 use mathlib.Core.Path.{◌≡◌, ap, ◌∙◌}
 use Prim.Native.Nat.{◌/◌}
 use native.Mathlib.Omega.{arith}
 use lib.ListN.{length}
 use Rattle.algebra.specs.Lists.{total}
 use Rattle.verdict.specs.Questions.{granted}
-use Rattle.verdict.proofs.Questions.{returned, refused_alike}
+use Rattle.verdict.proofs.Questions.{returned, refused_alike, handed}
 use Rattle.gate.specs.Gate.{gate_size, gates_of, splits}
 use Rattle.gate.proofs.Listed.{gates-length}
 use Rattle.circuit.specs.declared.footprint.Footprint.{Footprint}
@@ -26,3 +27,11 @@ returns-in_err-judge_numbers c =
     returned _ c.from_residual.ensures.1
     ∙ refused_alike tt (total splits (gates_of a.circuit.gates.now)) (number_questions c.of-f.result a.circuit.qubits a.circuit.bits a.circuit.store.now a.l a.res a.work) c.in_err-judge_numbers.ensures
     ∙ ap (λ (f : Footprint). granted (total splits (gates_of a.circuit.gates.now)) (number_questions f a.circuit.qubits a.circuit.bits a.circuit.store.now a.l a.res a.work)) c.of-f.ensures
+
+pub returns : goal.returns
+returns c =
+    let a = c.args in
+    let n = total splits (gates_of a.circuit.gates.now) in
+    ap (λ (f : Footprint). Ok f.splits) c.of-f.ensures
+    ∙ handed tt n (number_questions c.of-f.result a.circuit.qubits a.circuit.bits a.circuit.store.now a.l a.res a.work) c.in_ok-judge_numbers.ensures
+    ∙ ap (λ (f : Footprint). granted n (number_questions f a.circuit.qubits a.circuit.bits a.circuit.store.now a.l a.res a.work)) c.of-f.ensures

@@ -6,6 +6,7 @@ use Rattle.exact.specs.Exact.{Exact, equal}
 use Rattle.scalar.specs.declared.Scalar.{Scalar}
 use Rattle.scalar.specs.Calls.{value, scalar_of}
 use Rattle.matrix.specs.Phase.{◌·◌}
+use Rattle.matrix.proofs.Operands.{readable, entry_operand}
 use Rattle.matrix.proofs.global_phase.Pair.ratios_same.Goals as goal
 
 -- the test of the products p and q of what was read, x and y
@@ -19,3 +20,15 @@ returns-then-not-equals c =
 pub loop-j-preserved : goal.loop-j-preserved
 loop-j-preserved c =
     all-step c.loop-j.j _ c.loop-j.invariant (sym (tested (value c.args.a) (value c.args.b) c.equals.ensures c.times.ensures c.times-in-loop-j.ensures c.read_cell-x.ensures c.read_cell-y.ensures) ∙ c.if-not-equals.false)
+
+pub read_cell-x-requires : goal.read_cell-x-requires
+read_cell-x-requires c = readable c.args.self.left_operands c.loop-j-test.true
+
+pub read_cell-y-requires : goal.read_cell-y-requires
+read_cell-y-requires c = readable c.args.self.right_operands c.loop-j-test.true
+
+pub times-requires : goal.times-requires
+times-requires c = (entry_operand c.args.self.left_operands c.loop-j-test.true c.read_cell-x.ensures, c.requires.1)
+
+pub times-requires-in-loop-j : goal.times-requires-in-loop-j
+times-requires-in-loop-j c = (entry_operand c.args.self.right_operands c.loop-j-test.true c.read_cell-y.ensures, c.requires.0)
