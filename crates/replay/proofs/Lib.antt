@@ -3,3 +3,4 @@ pub mod Reading
 pub mod Filling
 pub mod Parts
 pub mod Turns
+pub mod Folds

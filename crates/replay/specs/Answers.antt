@@ -9,8 +9,8 @@ use Rattle.matrix.specs.declared.Phase.TheVariants.{Equivalent, Different}
 use Rattle.verdict.specs.declared.Refusal.{Refusal}
 use Rattle.verdict.specs.Questions.{Verdict}
 use Rattle.verdict.specs.Verdict.{refusal_number, verdict_number, verdict_index}
-use Rattle.channel.specs.declared.compare.Comparison.{Comparison}
-use Rattle.channel.specs.declared.compare.Comparison.TheVariants.{Same, Dimensions, Differs}
+use Rattle.compare.specs.declared.Comparison.{Comparison}
+use Rattle.compare.specs.declared.Comparison.TheVariants.{Same, Dimensions, Differs}
 use Rattle.effects.specs.Effects.{effects_verdict, result_of, povm_of}
 use Rattle.replay.specs.declared.record.Record.{Record}
 use Rattle.replay.specs.Record.{with_number, with_numbers, with_scalar}

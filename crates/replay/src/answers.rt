@@ -6,7 +6,7 @@ ghost use Rattle.replay.specs.Answers.{with_answer, phase_number, with_phase, wi
 
 use crate::record::Record;
 use crate::sum::checksum;
-use channel::compare::Comparison;
+use compare::Comparison;
 use matrix::Phase;
 use scalar::Scalar;
 use verdict::{Refusal, Verdict, index, number};

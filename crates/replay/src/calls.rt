@@ -2,14 +2,14 @@
 // Kept (together): a record and its text, as in answers.rt.
 // Kept (twins): two calls of one type; a function of both would take a closure, with a contract of what it writes for every channel and buffer, for three lines.
 ghost use Rattle.std.specs.Prelude.{◌≡◌};
-ghost use Rattle.channel.specs.Compare.{compare_of};
+ghost use Rattle.compare.specs.Compare.{compare_of};
 ghost use Rattle.replay.specs.Answers.{with_comparison, with_blocks, with_povm};
 ghost use Rattle.replay.specs.Words.{marked};
 
 use crate::answers::{check_comparison, check_effects};
 use crate::record::Record;
 use crate::words::mark;
-use channel::compare::compare;
+use compare::compare;
 use effects::{classical_blocks, povm_effects};
 
 // compare of two channels.

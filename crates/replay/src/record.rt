@@ -94,7 +94,11 @@ impl Record {
     pub fn numbers<T: Number>(self, text: &[u8], ns: &[T]) -> Record
         ensures { result ≡ with_sizes T.size_of text.now self ns.now }
     {
-        ns.iter().fold(self, |seen, n| seen.number(text, n.size()))
+        let mut seen = self;
+        for n in ns {
+            seen = seen.number(text, n.size());
+        }
+        seen
     }
 
     // The next scalar is this one: as many numbers as a cell has words.
@@ -131,6 +135,10 @@ impl Record {
     pub fn bytes(self, text: &[u8], bs: &[u8]) -> Record
         ensures { result ≡ with_bytes text.now self bs.now }
     {
-        bs.iter().fold(self, |seen, b| seen.byte(text, *b))
+        let mut seen = self;
+        for b in bs {
+            seen = seen.byte(text, *b);
+        }
+        seen
     }
 }

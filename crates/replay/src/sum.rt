@@ -54,8 +54,9 @@ impl Sums {
 pub fn checksum(words: &[i64]) -> u64
     ensures { result ≡ checksum_of words.now }
 {
-    words
-        .iter()
-        .fold(Sums { a: 0, b: 0 }, |sums, w| sums.with_word(*w))
-        .joined()
+    let mut sums = Sums { a: 0, b: 0 };
+    for w in words {
+        sums = sums.with_word(*w);
+    }
+    sums.joined()
 }

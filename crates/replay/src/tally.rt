@@ -83,9 +83,9 @@ impl fmt::Display for Tally {
 
     fn fmt<W: fmt::Write>(&self, f: &mut fmt::Formatter<W>) -> fmt::Result {
         write_counts(self, f)?;
-        if 0 < self.disagree {
-            write_first(self, f)?;
+        if self.disagree == 0 {
+            return Ok(());
         }
-        Ok(())
+        write_first(self, f)
     }
 }

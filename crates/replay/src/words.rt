@@ -8,7 +8,7 @@ ghost use Rattle.replay.specs.Words.{marked, all_placed, placed_at, numbers_at};
 use crate::numeral::{Number, read};
 
 // What was read into a slice, what stands behind it there, and where the next number of the text begins.
-#[derive(Clone, Copy)]
+#[derive(Drop)]
 pub struct Part<'a, T> {
     pub words: &'a [T],
     pub rest: &'a [T],

@@ -1,7 +1,7 @@
 -- Cases of circuits: what a case gives to its calls, and their answers held against what the case records.
 use Rattle.std.specs.Prelude.{List, ℕ, take, replicate, ℤ, pos}
 use Rattle.verdict.specs.Questions.{Verdict}
-use Rattle.channel.specs.Compare.{compare_of}
+use Rattle.compare.specs.Compare.{compare_of}
 use Rattle.unitary.specs.Unitary as unitary
 use Rattle.judge.specs.Call.{verdict_of, result_after, work_after}
 use Rattle.judge.specs.Layered.{layered_verdict_of, layered_result, layered_work}
@@ -81,6 +81,14 @@ channel_of t at r w = result_after (given t at).n (given t at).bits (given t at)
 
 abbrev pub work_of : List ℕ → ℕ → List ℤ → List ℤ → List ℤ
 work_of t at r w = work_after (given t at).n (given t at).bits (given t at).store (given t at).limits (given t at).gates r w
+
+-- the channels in the buffers l and r, the work buffer w
+abbrev pub compared : List ℕ → ℕ → List ℤ → List ℤ → List ℤ → Record
+compared t at l r w =
+    let second = (given t at).next in
+    let left = channel_of t at l w in
+    let right = channel_of t second r (work_of t at l w) in
+    with_comparison t (begun (given t second).next) (compare_of left right)
 
 unfoldable pub compare_case : List ℕ → ℕ → Record
 compare_case t at =

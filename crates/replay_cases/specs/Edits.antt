@@ -63,6 +63,10 @@ called t at e l σ result work out =
     let m = edited_words e l in
     with_copy t (with_kept t (with_number t (with_verdict t (begun at) (edit_verdict e l)) (checksum_of m)) m σ result work) m out
 
+-- the lengths of result and work, and of the room for the copy, each word of which is 7 before
+abbrev pub lent : List ℕ → ℕ → Edit → List ℤ → List ℕ → Record
+lent t at e l σ = called t (word_no t at 2).next e l σ (word_no t at 0).size (word_no t at 1).size (take (word_no t at 2).size (replicate 100 7))
+
 -- the words before, the edit, the store, the lengths of result and work, and of the room for the copy, each word of which is 7 before
 unfoldable pub edit_case : List ℕ → ℕ → Record
 edit_case t at =

@@ -4,7 +4,7 @@ use Rattle.exact.specs.Exact.{exact, imaginary, inv_sqrt_two, omega}
 use Rattle.scalar.specs.declared.Scalar.{Scalar}
 use Rattle.scalar.specs.Calls.{Answer, value, accepted, integer_answer, add_answer, neg_answer, half_answer, conj_answer, mul_answer}
 use Rattle.matrix.specs.Phase.{phase_answer}
-use Rattle.channel.specs.Compare.{compare_of}
+use Rattle.compare.specs.Compare.{compare_of}
 use Rattle.channel.specs.Lookup.{lookup_of, part_of}
 use Rattle.replay.specs.declared.record.Record.{Record}
 use Rattle.replay.specs.Numerals.{word_at, word_no, low_byte, low_word}

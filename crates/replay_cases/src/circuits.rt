@@ -39,12 +39,13 @@ fn asked(
     ensures res { res.new ≡ asked_result call (circuit_of c.entry) ends.now res.old work.old }
     ensures work { work.new ≡ asked_work call (circuit_of c.entry) ends.now res.old work.old }
 {
-    let (circuit, limits) = (c.circuit, c.limits);
     match call {
-        CircuitCall::Unitary => circuit_unitary(circuit.qubits, circuit.gates, limits, res, work),
-        CircuitCall::Layered => layered_channel(circuit, ends, limits, res, work),
-        CircuitCall::Plain => plain_channel(circuit, limits, res, work),
-        CircuitCall::Channel => circuit_channel(circuit, limits, res, work),
+        CircuitCall::Unitary => {
+            circuit_unitary(c.circuit.qubits, c.circuit.gates, c.limits, res, work)
+        }
+        CircuitCall::Layered => layered_channel(c.circuit, ends, c.limits, res, work),
+        CircuitCall::Plain => plain_channel(c.circuit, c.limits, res, work),
+        CircuitCall::Channel => circuit_channel(c.circuit, c.limits, res, work),
     }
 }
 

@@ -3,7 +3,7 @@
 // Kept (together): a text, a place and lent buffers, as in reading.rt.
 ghost use Rattle.std.specs.Prelude.{◌≡◌};
 ghost use Rattle.replay_cases.specs.Given.{given};
-ghost use Rattle.replay_cases.specs.Circuits.{channel_of, work_of, compare_case};
+ghost use Rattle.replay_cases.specs.Circuits.{channel_of, work_of, compared, compare_case};
 
 use crate::reading::{GATES, STORE, read_circuit};
 use judge::call::circuit_channel;
@@ -28,14 +28,22 @@ fn channel_of(text: &[u8], at: usize, res: &mut [i64], work: &mut [i64]) -> usiz
     c.next
 }
 
-// Two circuits; what compare finds in their channels.
+// Two circuits; what compare finds in their channels, which these buffers are lent for.
+fn compared(text: &[u8], at: usize, left: &mut [i64], right: &mut [i64], work: &mut [i64]) -> Record
+    ensures { result ≡ compared text.now at left.old right.old work.old }
+{
+    let second = channel_of(text, at, left, work);
+    let answer = channel_of(text, second, right, work);
+    compare_call(Record::begin(answer), text, left, right)
+}
+
+// Kept (twins): `listing_case` lends buffers of its own to another function in the same way.
+// The same with the buffers that it lends.
 pub fn compare_case(text: &[u8], at: usize) -> Record
     ensures { result ≡ compare_case text.now at }
 {
     let mut left = [0i64; CHANNEL];
     let mut right = [0i64; CHANNEL];
     let mut work = [0i64; WORK];
-    let second = channel_of(text, at, &mut left, &mut work);
-    let answer = channel_of(text, second, &mut right, &mut work);
-    compare_call(Record::begin(answer), text, &left, &right)
+    compared(text, at, &mut left, &mut right, &mut work)
 }

@@ -1,8 +1,8 @@
 // Cases of kept circuits: an edit of the words, then the verdict on them and their gates copied out.
 // Kept (buffers): the places in the text are those of crate replay, which says why.
 // Kept (kinds, switches): an edit's number is read here and nowhere else; each edit has a call of its own, which takes what its variant holds.
-ghost use Rattle.std.specs.Prelude.{◌≡◌};
-ghost use Rattle.replay_cases.specs.Edits.{edit_of, edit_at, behind_edit, edit_verdict, edited_words, with_kept, with_copy, called, edit_case};
+ghost use Rattle.std.specs.Prelude.{◌≡◌, ◌≤◌, length};
+ghost use Rattle.replay_cases.specs.Edits.{edit_of, edit_at, behind_edit, edit_verdict, edited_words, with_kept, with_copy, called, lent, edit_case};
 
 use circuit::limits::Limits;
 use gate::judge::GateWords;
@@ -116,31 +116,39 @@ fn called(
     check_copy(kept, text, words, out)
 }
 
-// The words before, the edit, the store, the lengths of result and work, and of the room for the copy, each word of which is 7 before.
-pub fn edit_case(text: &[u8], at: usize) -> Record
-    ensures { result ≡ edit_case text.now at }
+// The same on a copy of the words; the lengths of result and work, and of the room for the copy of the gates, each word of which is 7 before.
+fn lent(text: &[u8], at: usize, e: Edit, given: &[i64], store: &[u8]) -> Record
+    requires { length given.now ≤ 5200 }
+    ensures { result ≡ lent text.now at e given.now store.now }
 {
-    let mut room = [0i64; WORDS];
     let mut words = [0i64; WORDS];
-    let mut store_room = [0u8; STORE];
     let mut out = [7u32; GATES];
-    let given = read_words(text, at, &mut room);
-    let (edit, next) = read_edit(text, given.next);
-    let store = read_numbers(text, next, &mut store_room);
-    let result = read(text, store.next);
+    let result = read(text, at);
     let work = read(text, result.next);
     let copied = read(text, work.next);
     let o = fitting(copied.size, GATES);
-    let lent = &mut words[..given.words.len()];
-    lent.copy_from_slice(given.words);
+    let lent = &mut words[..given.len()];
+    lent.copy_from_slice(given);
     called(
         text,
         copied.next,
-        edit,
+        e,
         lent,
-        store.words,
+        store,
         result.size,
         work.size,
         &mut out[..o],
     )
+}
+
+// The words before, the edit and the store; what the calls answer.
+pub fn edit_case(text: &[u8], at: usize) -> Record
+    ensures { result ≡ edit_case text.now at }
+{
+    let mut room = [0i64; WORDS];
+    let mut store_room = [0u8; STORE];
+    let given = read_words(text, at, &mut room);
+    let (edit, next) = read_edit(text, given.next);
+    let store = read_numbers(text, next, &mut store_room);
+    lent(text, store.next, edit, given.words, store.words)
 }

@@ -1,5 +1,5 @@
 -- `words::read_numbers` meets its contract.
-use Rattle.std.proofs.Common.{◌≡◌, arith, sym, ◌∙◌, length, min, take}
+use Rattle.std.proofs.Common.{◌≡◌, ◌+◌, arith, sym, ap, ◌∙◌, length, min, take, drop, length-append}
 use lib.Seq.{take_all}
 use Rattle.replay.specs.Words.{filled, numbers, numbers_at}
 use Rattle.replay.proofs.Filling.{none_yet, one_more, all_read}
@@ -33,3 +33,14 @@ returns-clause-words g c = let e = all g c in λ i. (e i).words
 
 pub returns-clause-next : goal.returns-clause-next
 returns-clause-next g c = let e = all g c in λ i. (e i).next
+
+pub returns-clause-rest : goal.returns-clause-rest
+returns-clause-rest g c =
+    let split = c.split_at_mut-words.ensures in
+    split.back ∙ (λ i. drop (sym (c.loop-kept.auto.words ∙ split.front_len) i) c.args.buf.now)
+
+pub returns-clause-room : goal.returns-clause-room
+returns-clause-room g c =
+    let words = c.split_at_mut-words.result.0.now in
+    let rest = c.split_at_mut-words.result.1.now in
+    (λ i. c.loop-kept.auto.words i + length rest) ∙ sym (ap length c.split_at_mut-words.ensures.value ∙ length-append words rest)

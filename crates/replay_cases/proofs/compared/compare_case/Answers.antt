@@ -1,18 +1,18 @@
--- `compared::compare_case` meets its contract.
-use mathlib.Core.Path.{◌∙◌}
-use Rattle.channel.specs.Compare.{compare_of}
-use Rattle.replay.specs.Record.{begun}
-use Rattle.replay.specs.Answers.{with_comparison}
-use Rattle.replay_cases.specs.Given.{given}
-use Rattle.replay_cases.specs.Circuits.{room, channel_of, compare_case}
+-- `compared::compare_case` meets its contract. The buffers have the lengths that they are made with.
+use Rattle.std.proofs.Common.{sym, ℤ, pos}
+use Rattle.std.proofs.lemmas.List.{length-replicate}
+use Rattle.replay_cases.specs.Circuits.{compare_case}
 use Rattle.replay_cases.proofs.compared.compare_case.Goals as goal
+
+pub slice_bounds-compared-end : goal.slice_bounds-compared-end
+slice_bounds-compared-end c = sym (length-replicate {A = ℤ} 41000 (pos 0))
+
+pub slice_bounds-compared-end-2 : goal.slice_bounds-compared-end-2
+slice_bounds-compared-end-2 c = sym (length-replicate {A = ℤ} 41000 (pos 0))
+
+pub slice_bounds-compared-end-3 : goal.slice_bounds-compared-end-3
+slice_bounds-compared-end-3 c = sym (length-replicate {A = ℤ} 3300 (pos 0))
 
 pub returns : goal.returns
 unfolding compare_case
-returns c =
-    let t = c.args.text.now in
-    let left = c.channel_of-second.ensures in
-    let right = c.channel_of-answer.ensures in
-    let begin = c.begin.ensures ∙ (λ i. begun ((right.next ∙ (λ j. (given t (left.next j)).next)) i)) in
-    let second = right.channel ∙ (λ i. channel_of t (left.next i) (room 41000) (left.work i)) in
-    c.compare_call.ensures ∙ (λ i. with_comparison t (begin i) (compare_of (left.channel i) (second i)))
+returns c = c.compared.ensures
