@@ -6,9 +6,9 @@ use Rattle.scalar.specs.Calls.{value, scalar_of}
 use Rattle.cells.specs.Cells.{cell_words}
 use Rattle.verdict.specs.declared.Refusal.{Refusal}
 use Rattle.verdict.specs.Verdict.{refusal_number}
-use Rattle.channel.specs.declared.compare.Comparison.{Comparison}
-use Rattle.channel.specs.declared.compare.Comparison.TheVariants.{Same, Dimensions, Differs}
-use Rattle.channel.specs.declared.compare.Difference.{Difference}
+use Rattle.compare.specs.declared.Comparison.{Comparison}
+use Rattle.compare.specs.declared.Comparison.TheVariants.{Same, Dimensions, Differs}
+use Rattle.compare.specs.declared.Difference.{Difference}
 use Rattle.channel.specs.declared.lookup.Span.{Span}
 use Rattle.c_words.specs.Replies.{same, dimensions, entry}
 

@@ -3,15 +3,15 @@
 
 ghost use Rattle.std.specs.Prelude.{◌≡◌};
 ghost use Rattle.verdict.specs.Verdict.{verdict_number};
-ghost use Rattle.channel.specs.Compare.{compare_of};
+ghost use Rattle.compare.specs.Compare.{compare_of};
 ghost use Rattle.channel.specs.Lookup.{lookup_of, span_of};
 ghost use Rattle.effects.specs.Effects.{effects_verdict, result_of, povm_of};
 ghost use Rattle.c_channels.specs.Channels.{finding_number, difference, place_words, two_scalars, scalar_words, start_of};
 
 use c_words::replies::{DIMENSIONS, ENTRY, SAME};
 use cells::{CELL, write_cell};
-use channel::compare::{Comparison, Difference};
 use channel::lookup::locate;
+use compare::{Comparison, Difference};
 use scalar::{Scalar, ZERO};
 use verdict::Refusal;
 
@@ -78,7 +78,7 @@ pub fn compare(
     ensures place_after { place.new ≡ place_words (difference (compare_of left.now right.now)) }
     ensures scalars_after { scalars.new ≡ scalar_words (difference (compare_of left.now right.now)) }
 {
-    let answer = channel::compare::compare(left, right);
+    let answer = compare::compare(left, right);
     let entry = difference(&answer);
     *place = place_words(entry);
     *scalars = scalar_words(entry);

@@ -2,7 +2,7 @@
 use Rattle.std.specs.Prelude.{List, [], ◌∷◌, ◌++◌, ℕ, Option, None, Result, Ok, Err, ⊤}
 use Rattle.verdict.specs.declared.Refusal.TheVariants.{ShortBuffer}
 use Rattle.verdict.specs.Verdict.{refusal_number, refusal_index}
-use Rattle.channel.specs.declared.compare.Difference.{Difference}
+use Rattle.compare.specs.declared.Difference.{Difference}
 use Rattle.answer_lines.specs.declared.Fault.{Fault}
 use Rattle.judge_texts.specs.declared.Answer.{Answer}
 use Rattle.judge_texts.specs.declared.Answer.TheVariants.{NoRoom, Left, Right, Compared}

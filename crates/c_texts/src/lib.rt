@@ -21,7 +21,7 @@ use c_circuits::read_limits;
 use c_words::read_operand;
 use c_words::replies::{LEFT_REFUSED, RIGHT_REFUSED};
 use cells::CELL;
-use channel::compare::Difference;
+use compare::Difference;
 use judge_texts::Answer;
 use text::page::Writer;
 use verdict::Refusal;

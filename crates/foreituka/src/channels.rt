@@ -1,7 +1,7 @@
 // compare, classical_blocks, povm_effects and lookup.
 ghost use Rattle.std.specs.Prelude.{◌≡◌};
 ghost use Rattle.verdict.specs.Verdict.{verdict_number};
-ghost use Rattle.channel.specs.Compare.{compare_of};
+ghost use Rattle.compare.specs.Compare.{compare_of};
 ghost use Rattle.channel.specs.Lookup.{lookup_of, span_of};
 ghost use Rattle.effects.specs.Effects.{effects_verdict, result_of, povm_of};
 ghost use Rattle.c_channels.specs.Channels.{finding_number, difference, place_words, scalar_words, start_of};

@@ -1,8 +1,8 @@
 -- `list` meets its contract.
-use Rattle.std.specs.Prelude.{Option, Some}
+use Rattle.std.specs.Prelude.{Option, Some, None}
 use Prim.Native.Nat.{ℕ, ◌+◌, ◌*◌, ◌-◌, ◌≤◌}
-use mathlib.Core.Path.{◌≡◌, sym, ap, ◌∙◌, subst}
-use mathlib.Core.Bool.{true}
+use mathlib.Core.Path.{◌≡◌, refl, sym, ap, ◌∙◌, subst}
+use mathlib.Core.Bool.{Bool, true, false, cond}
 use mathlib.Core.List.{List}
 use native.Mathlib.Nat.{le_refl}
 use native.Mathlib.Omega.{arith}
@@ -15,7 +15,7 @@ use Rattle.circuit_text.specs.Inner.Reading.{filled, stored, max_numbers}
 use Rattle.gate.specs.Gate.{gate_size}
 use Rattle.circuit_text.proofs.Shapes.{given-true, given_is, sound}
 use Rattle.listing.proofs.Inputs.{stored_long, filled_long, store_is, words_are}
-use Rattle.listing.proofs.Answers.{an_answer, a_result, a_work}
+use Rattle.listing.proofs.Answers.{no_answer, no_result, no_work, an_answer, a_result, a_work}
 use borrow.Author.Rules.{rules}
 use Rattle.listing.proofs.list.Goals as goal
 
@@ -82,4 +82,21 @@ returns c =
       answer = c.list_circuit.ensures.lines ∙ ap (write (page a.out.now 0)) (an_answer t r w y d s ws);
       res = c.list_circuit.ensures.res ∙ a_result t r w y d s ws;
       work = c.list_circuit.ensures.work ∙ a_work t r w y d s ws;
+    }
+
+-- no circuit is read in a text that is no input
+none : (b : Bool) (x : Circuit) → None ≡ cond b (Some x) None → b ≡ false
+none true x e = cc
+none false x e = refl
+
+-- the callee is not named, so that another one in its place is refused for what it ensures
+pub returns-in_default : goal.returns-in_default
+returns-in_default c =
+    let a = c.args in
+    let t = a.text.now in
+    let no = none (is_input_text t) (circuit_in (numbers_of t)) c.in_default.ensures.answer in
+    record {
+      answer = (assumption) ∙ ap (write (page a.out.now 0)) (no_answer t a.res.now a.work.now no);
+      res = no_result t a.res.now a.work.now no;
+      work = no_work t a.res.now a.work.now no;
     }

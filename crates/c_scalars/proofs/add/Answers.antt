@@ -1,0 +1,15 @@
+-- `add` meets its contract.
+use mathlib.Core.Path.{ap, ap₂, ◌∙◌}
+use Rattle.scalar.specs.declared.Scalar.{Scalar}
+use Rattle.scalar.specs.Calls.{value, add_answer}
+use Rattle.verdict.specs.Verdict.{verdict_number}
+use Rattle.c_scalars.specs.Calls.{answer_words}
+use Rattle.c_scalars.proofs.add.Goals as goal
+
+pub returns : goal.returns
+returns c =
+    let e = c.add.ensures ∙ ap₂ (λ (s t : Scalar). add_answer (value s) (value t)) c.read_operand.ensures c.read_operand-2.ensures in
+    record {
+      value = c.answer.ensures.value ∙ ap verdict_number e;
+      out_after = c.answer.ensures.out_after ∙ ap answer_words e;
+    }
