@@ -96,10 +96,3 @@ module _ {l : List ℤ} {x y : Number} {p : ℕ} {v u : Number} {q d : ℕ} (m :
               ea ∙ (λ i. sets (w.is i) (p + c * 4) (es i)) ∙ blocks_past 4 (blocks 4 l p c first) q c second w.sized (first c) (p + c * 4) past
               ∙ ap (λ (z : List ℤ). blocks 4 z q c second) (blocks_step 4 l p first c (blocks 4 l p c first) (first c) refl refl);
         }
-
--- factors that are equal
-pub mixing_same : {l : List ℤ} {x y z : Number} {p : ℕ} {v u w : Number} {q d : ℕ} → z ≡ y → w ≡ u → Mixing l x y p v u q d → Mixing l x z p v w q d
-mixing_same {l} {x} {y} {z} {p} {v} {u} {w} {q} {d} e f m = subst (λ (w : Number). Mixing l x z p v w q d) (sym f) (subst (λ (z : Number). Mixing l x z p v u q d) (sym e) m)
-
-pub mixed_same : (l : List ℤ) (x : Number) {y z : Number} (p : ℕ) (v : Number) {u w : Number} (q d : ℕ) → z ≡ y → w ≡ u → mixed l x z p v w q d ≡ mixed l x y p v u q d
-mixed_same l x p v q d e f = λ i. mixed l x (e i) p v (f i) q d

@@ -111,32 +111,6 @@ pub fn combine_rows(
     }
 }
 
-// Kept: inlined, so that each caller's constants spare the products with them.
-// Make the row at p x times itself plus y times the row at q, and the row at q v times itself plus u times the row at p, both as they were; d numbers each.
-#[inline(always)]
-fn mix_by(
-    buf: &mut [i64],
-    x: [i64; 4],
-    y: [i64; 4],
-    p: usize,
-    v: [i64; 4],
-    u: [i64; 4],
-    q: usize,
-    d: usize,
-)
-    requires { Mixing buf.old (number_of x) (number_of y) p (number_of v) (number_of u) q d }
-    ensures { buf.new ≡ mixed buf.old (number_of x) (number_of y) p (number_of v) (number_of u) q d }
-{
-    for c in 0..d {
-        let s = numerators_at(buf, p + c * ENTRY);
-        let t = numerators_at(buf, q + c * ENTRY);
-        let first = sum_of_products(x, s, y, t);
-        let second = sum_of_products(v, t, u, s);
-        write_numerators(buf, p + c * ENTRY, first);
-        write_numerators(buf, q + c * ENTRY, second);
-    }
-}
-
 // Kept: inlined, as `multiply_row`; no frequent factor is looked for.
 // Make the row at p x times itself, d numbers.
 #[inline(always)]
@@ -150,8 +124,8 @@ fn scale_by(buf: &mut [i64], x: [i64; 4], p: usize, d: usize)
     }
 }
 
-// Kept: inlined, for factors that are constants of the caller.
-// As `mix_by`: each row alone where neither has a part of the other.
+// Kept: inlined, so that each caller's constants spare the products with them.
+// Make the row at p x times itself plus y times the row at q, and the row at q v times itself plus u times the row at p, both as they were; d numbers each. Each is made alone where neither has a part of the other.
 #[inline(always)]
 pub fn mix_constants(
     buf: &mut [i64],
@@ -171,7 +145,14 @@ pub fn mix_constants(
         scale_by(buf, v, q, d);
         return;
     }
-    mix_by(buf, x, y, p, v, u, q, d);
+    for c in 0..d {
+        let s = numerators_at(buf, p + c * ENTRY);
+        let t = numerators_at(buf, q + c * ENTRY);
+        let first = sum_of_products(x, s, y, t);
+        let second = sum_of_products(v, t, u, s);
+        write_numerators(buf, p + c * ENTRY, first);
+        write_numerators(buf, q + c * ENTRY, second);
+    }
 }
 
 // Make the row at p x times itself plus y times itself; d numbers. Where the sum of the two is narrow, as of unitaries' factors, the row is multiplied by it.

@@ -1,10 +1,10 @@
--- `mix_by` meets its contract: c numbers of each row are written.
+-- `mix_constants` meets its contract: c numbers of each row are written.
 use Prim.Native.Nat.{ℕ}
 use Rattle.algebra.proofs.Blocks.{Writing}
 use Rattle.exact.specs.Exact.{number_of, list_of}
 use Rattle.share.specs.Share.{with_numerators}
 use Rattle.rows.specs.Inner.Rows.{combined_row}
-use Rattle.rows.proofs.mix_by.Given as goal
+use Rattle.rows.proofs.mix_constants.Given as goal
 
 abbrev pub invariant-loop-c : goal.invariant-loop-c
 invariant-loop-c l =
