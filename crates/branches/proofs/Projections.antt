@@ -24,8 +24,11 @@ use Rattle.branches.specs.Inner.Step.{Applying, row_numerators, row_sum}
 use Rattle.branches.specs.Inner.Project.{part, projection, split_in}
 use Rattle.branches.proofs.Applied.{Applied, own-scaling, other_scaling, applied_more, applied_shared}
 
--- the operator with a number
-pub numbered_is : (m : ℕ) (resets : Bool) (v : ℕ) → projection m (not (eqb v 0) && not resets) (not (eqb v 0) && resets) ≡ split_in m resets v
+-- the operator with a number, as the code makes it
+abbrev numbered : ℕ → Bool → ℕ → Form
+numbered m resets v = projection m (not (eqb v 0) && not resets) (not (eqb v 0) && resets)
+
+numbered_is : (m : ℕ) (resets : Bool) (v : ℕ) → numbered m resets v ≡ split_in m resets v
 numbered_is m resets v = go (eqb v 0)
   where
     go : (t : Bool) → ◌≡◌ {A = Form} (projection m (not t && not resets) (not t && resets)) (cond t (projection m false false) (projection m (not resets) resets))
@@ -79,10 +82,11 @@ over_one_shared b at n e zero f = shared_sets b at n (λ (k : ℕ). lowest (numb
     alike : Alike n (frac (λ (k : ℕ). number_in b (at + k * 4)) 0) (shared_from b at n e)
     alike = over_one b at n e zero
 
-pub projected_shared : (l : List ℤ) (m : ℕ) (high moved : Bool) (old new d : ℕ) → new + d * d * 4 ≤ length l
-    → {b : List ℤ} → b ≡ with_numerators l new (d * d) (λ (i : ℕ). row_numerators l m (projection m high moved) old d (i / d) (i % d)) → {e : ℕ} → e ≡ exponent_in l old (d * d)
+pub projected_shared : (l : List ℤ) (m : ℕ) (resets : Bool) (v old new d : ℕ) → new + d * d * 4 ≤ length l
+    → {b : List ℤ} → b ≡ with_numerators l new (d * d) (λ (i : ℕ). row_numerators l m (numbered m resets v) old d (i / d) (i % d)) → {e : ℕ} → e ≡ exponent_in l old (d * d)
     → {q : List ℤ} → q ≡ sets b new (held_words (d * d) (λ (i : ℕ). lowest (number_in b (new + i * 4)) e))
-    → q ≡ sets l new (held_words (d * d) (λ (i : ℕ). row_sum l m (entry_in (projection m high moved)) old d (i / d) (i % d)))
-projected_shared l m high moved old new d room {b} eb {e} ee g =
-    applied_shared l m (projection m high moved) old new d room eb ee
+    → q ≡ sets l new (held_words (d * d) (λ (i : ℕ). row_sum l m (entry_in (split_in m resets v)) old d (i / d) (i % d)))
+projected_shared l m resets v old new d room {b} eb {e} ee g =
+    applied_shared l m (numbered m resets v) old new d room eb ee
     (g ∙ ap (λ (e : ℕ). sets b new (held_words (d * d) (λ (i : ℕ). lowest (number_in b (new + i * 4)) e))) (sym (add-zero e)))
+    ∙ ap (λ (R : Form). sets l new (held_words (d * d) (λ (i : ℕ). row_sum l m (entry_in R) old d (i / d) (i % d)))) (numbered_is m resets v)

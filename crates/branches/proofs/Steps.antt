@@ -103,7 +103,7 @@ module _ {l : List ℤ} {f : ℕ} {R : ℕ → Form} {from to d count : ℕ} (p 
     pub new_end : to + j * (s + 2) + (s + 2) ≤ length l
     new_end = transport⁻¹ (λ i. to + j * (es i + 2) + (es i + 2) ≤ length l) (omega (arith, new_in, p.to_room))
 
-    module _ (bit : ℕ) {b : List ℤ} (w : Writing (branch_size d) l to (count * 2) (products bit) b j) {Q : Form} (eq : Q ≡ R (j % 2)) where
+    module _ (bit : ℕ) {b : List ℤ} (w : Writing (branch_size d) l to (count * 2) (products bit) b j) where
       branch : Same b l old size
       branch = part (kept w from (count * size) p.from_apart) old size (omega arith) (omega (arith, old_in))
 
@@ -114,20 +114,20 @@ module _ {l : List ℤ} {f : ℕ} {R : ℕ → Form} {from to d count : ℕ} (p 
       old_apart : Apart old size new size
       old_apart = narrow from (count * size) to (count * 2 * size) old size new size p.from_apart (omega arith) (omega (arith, old_in)) (omega arith) (omega (arith, new_in))
 
-      pub turn_applying : Applying b f Q (from + j / 2 * (s + 2)) (to + j * (s + 2)) d
-      turn_applying = transport⁻¹ (λ i. Applying b f (eq i) (from + j / 2 * (es i + 2)) (to + j * (es i + 2)) d) (record {
+      pub turn_applying : Applying b f (R (j % 2)) (from + j / 2 * (s + 2)) (to + j * (s + 2)) d
+      turn_applying = transport⁻¹ (λ i. Applying b f (R (j % 2)) (from + j / 2 * (es i + 2)) (to + j * (es i + 2)) d) (record {
         turning = still_turning p.branches old_lt (omega arith) matrix;
         new_room = omega (arith, branch.long, new_in, p.to_room);
         apart = narrow old size new size old (matrix_size d) new (matrix_size d) old_apart (omega arith) (omega arith) (omega arith) (omega arith);
       })
 
       -- after the product
-      module _ {m : List ℤ} (em : m ≡ sets b (to + j * (s + 2)) (held_words (d * d) (λ (k : ℕ). row_sum b f (entry_in Q) (from + j / 2 * (s + 2)) d (k / d) (k % d)))) where
+      module _ {m : List ℤ} (em : m ≡ sets b (to + j * (s + 2)) (held_words (d * d) (λ (k : ℕ). row_sum b f (entry_in (R (j % 2))) (from + j / 2 * (s + 2)) d (k / d) (k % d)))) where
         abbrev entry : ℕ → Exact
         entry k = row_sum b f (entry_in (R (j % 2))) old d (k / d) (k % d)
 
         product : m ≡ sets b new (held_words (d * d) entry)
-        product = em ∙ (λ i. sets b (to + j * (es i + 2)) (held_words (d * d) (λ (k : ℕ). row_sum b f (entry_in (eq i)) (from + j / 2 * (es i + 2)) d (k / d) (k % d))))
+        product = em ∙ (λ i. sets b (to + j * (es i + 2)) (held_words (d * d) (λ (k : ℕ). row_sum b f (entry_in (R (j % 2))) (from + j / 2 * (es i + 2)) d (k / d) (k % d))))
 
         store : Same m l (old + matrix_size d) 2
         store =

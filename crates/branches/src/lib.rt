@@ -6,3 +6,4 @@ pub mod cores;
 pub mod outcome;
 pub mod project;
 pub mod run;
+pub mod split;

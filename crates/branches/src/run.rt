@@ -8,7 +8,8 @@ ghost use Rattle.branches.specs.Inner.Run.{gate_stepped, place_after, GateStep, 
 
 use super::bank::{Bank, branch_size, start_branch};
 use super::cores::{turn_listed, turn_phase};
-use super::project::split;
+use super::project::Projections;
+use super::split::split;
 use gate::GATE;
 use gate::judge::{GateWords, read_gate};
 use gate::rows::{controls, flips};
@@ -37,7 +38,11 @@ fn split_gate(work: &mut [i64], g: GateWords, n: u32, from: Bank, to: usize) -> 
     ensures words { work.new ≡ gate_stepped work.old n from.d from.at to from.count (gate_of g) }
 {
     let bit = g.bit();
-    split(work, flips(g, n), bit.is_none(), from, to, bit);
+    let by = Projections {
+        mask: flips(g, n),
+        resets: bit.is_none(),
+    };
+    split(work, &by, from, to, bit);
     Bank {
         at: to,
         d: from.d,

@@ -1,20 +1,15 @@
 // Measures of an axis: both projectors by their rows, each applied to the matrices of the branches.
 // Kept (buffers, together): places in the one lent buffer, as in `branches::bank`.
 ghost use Rattle.std.specs.Prelude.{◌≡◌, ◌*◌, ◌/◌, ◌%◌, unwrap_or};
-ghost use Rattle.std.proofs.lemmas.List.Edits.{sets};
-ghost use Rattle.algebra.specs.Words.{blocks};
-ghost use Rattle.gate.specs.Inner.Rows.{entry_in};
 ghost use Rattle.share.specs.Share.{with_numerators};
-ghost use Rattle.rows.specs.Inner.Rows.{held_words};
 ghost use Rattle.branches.specs.Inner.Store.{no_bit};
-ghost use Rattle.branches.specs.Inner.Bank.{branch_size};
-ghost use Rattle.branches.specs.Inner.Step.{Applying, Step, operator_in, row_numerators, row_sum, step_words};
+ghost use Rattle.branches.specs.Inner.Step.{Applying, Step, operator_in, row_numerators};
 ghost use Rattle.pauli_steps.specs.Inner.Rows.{rows_of};
 ghost use Rattle.pauli_turns.specs.Inner.Turns.{form_of};
 ghost use Rattle.pauli_run.specs.Inner.Operators.{projector_in, measured};
 
-use branches::bank::{Bank, matrix_size, share_matrix};
-use branches::outcome::write_store;
+use branches::bank::{Bank, share_matrix};
+use branches::split::{KrausPair, split};
 use channel::layout::ENTRY;
 use pauli_steps::coefficients::projecting;
 use pauli_steps::rows::{Axis, Rows, axis_rows};
@@ -35,53 +30,27 @@ fn apply_rows(work: &mut [i64], m: usize, rows: &Rows, old: usize, new: usize, d
     }
 }
 
-// Write an operator times the matrix at `old` to `new`.
-#[inline(always)]
-fn apply_operator(work: &mut [i64], m: usize, rows: &Rows, old: usize, new: usize, d: usize)
-    requires { Applying work.old m (rows_of rows.now) old new d }
-    ensures { work.new ≡ sets work.old new (held_words (d * d) (λ i. row_sum work.old m (entry_in (rows_of rows.now)) old d (i / d) (i % d))) }
-{
-    let n = d * d;
-    let e = work[old + n * ENTRY] as u32;
-    apply_rows(work, m, rows, old, new, d);
-    share_matrix(work, new, n, e + rows.exponent);
+// Both projectors of an axis by their rows.
+#[derive(Clone, Copy)]
+struct Projectors {
+    // The bits that take a row to its partner.
+    flips: usize,
+    first: Rows,
+    second: Rows,
 }
 
-// One of two operators, by its number v.
-fn numbered<'a>(first: &'a Rows, second: &'a Rows, v: usize) -> &'a Rows
-    ensures { rows_of result.now ≡ operator_in (rows_of first.now) (rows_of second.now) v }
-{
-    if v == 0 {
-        return first;
-    }
-    second
-}
+impl KrausPair for Projectors {
+    ghost operator = { λ p. operator_in (rows_of p.first) (rows_of p.second) };
 
-// Send each branch of a bank to its products with two operators, a bank at `to`, and write the operator's number to the store's bit `bit`, if there is one.
-// m are the bits that take a row of an operator to its partner.
-#[inline(always)]
-fn step<'a>(
-    work: &mut [i64],
-    m: usize,
-    first: &'a Rows,
-    second: &'a Rows,
-    from: Bank,
-    to: usize,
-    bit: Option<u32>,
-)
-    requires { Step work.old m (operator_in (rows_of first.now) (rows_of second.now)) from.at to from.d from.count }
-    ensures { work.new ≡ blocks (branch_size from.d) work.old to (from.count * 2) (step_words work.old m (λ v. entry_in (operator_in (rows_of first.now) (rows_of second.now) v)) (λ j. j % 2) 2 from.at from.d (unwrap_or bit no_bit)) }
-{
-    let d = from.d;
-    let matrix = matrix_size(d);
-    let size = matrix + 2;
-    for j in 0..from.count * 2 {
-        let v = j % 2;
-        let rows = numbered(first, second, v);
-        let old = from.at + j / 2 * size;
-        let new = to + j * size;
-        apply_operator(work, m, rows, old, new, d);
-        write_store(work, old + matrix, new + matrix, bit, v as u64);
+    ghost flips = { λ p. p.flips };
+
+    #[inline(always)]
+    fn apply(&self, work: &mut [i64], v: usize, old: usize, new: usize, d: usize) {
+        let n = d * d;
+        let e = work[old + n * ENTRY] as u32;
+        let rows = if v == 0 { &self.first } else { &self.second };
+        apply_rows(work, self.flips, rows, old, new, d);
+        share_matrix(work, new, n, e + rows.exponent);
     }
 }
 
@@ -93,9 +62,12 @@ pub fn measure(work: &mut [i64], axis: Axis, from: Bank, to: usize, bit: Option<
     ensures bank { result ≡ record from { at = to; count = from.count * 2 } }
     ensures words { work.new ≡ measured work.old (form_of axis) from.at to from.d from.count (unwrap_or bit no_bit) }
 {
-    let first = axis_rows(axis, projecting(0));
-    let second = axis_rows(axis, projecting(1));
-    step(work, axis.flips, &first, &second, from, to, bit);
+    let by = Projectors {
+        flips: axis.flips,
+        first: axis_rows(axis, projecting(0)),
+        second: axis_rows(axis, projecting(1)),
+    };
+    split(work, &by, from, to, bit);
     Bank {
         at: to,
         d: from.d,

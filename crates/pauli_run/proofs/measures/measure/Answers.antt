@@ -27,16 +27,16 @@ both m e p f q = fun_ext (λ v. (λ i. cond (eqb v 0) ((e ∙ ap (rows_about m) 
     go true = refl
     go false = refl
 
-pub step-requires : goal.step-requires
-step-requires c =
+pub split-requires : goal.split-requires
+split-requires c =
     let a = c.args in
-    let e = both (form_of a.axis) c.axis_rows-first.ensures c.projecting.ensures c.axis_rows-second.ensures c.projecting-2.ensures in
+    let e = both (form_of a.axis) c.axis_rows.ensures c.projecting.ensures c.axis_rows-2.ensures c.projecting-2.ensures in
     subst (λ (R : ℕ → Form). Step a.work.now a.axis.flips R a.from.at a.to a.from.d a.from.count) (sym e) c.requires
 
 pub returns-clause-words : goal.returns-clause-words
 returns-clause-words c =
     let a = c.args in
     let b = a.from in
-    let e = both (form_of a.axis) c.axis_rows-first.ensures c.projecting.ensures c.axis_rows-second.ensures c.projecting-2.ensures in
-    c.step.ensures
+    let e = both (form_of a.axis) c.axis_rows.ensures c.projecting.ensures c.axis_rows-2.ensures c.projecting-2.ensures in
+    c.split.ensures
     ∙ ap (λ (R : ℕ → Form). blocks (branch_size b.d) a.work.now a.to (b.count * 2) (step_words a.work.now a.axis.flips (λ (v : ℕ). entry_in (R v)) (λ (j : ℕ). j % 2) 2 b.at b.d (unwrap_or a.bit no_bit))) e
