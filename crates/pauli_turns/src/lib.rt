@@ -26,18 +26,12 @@ use pauli_steps::rows::{Axis, turned4};
 use rows::{fold_row, mix_constants};
 use sums::{are_apart, mix_by_sums};
 
+// The numerators of a number.
+type Number = [i64; 4];
+
 // Make the row at p x times itself plus i^t·y times the row at q, and the row at q x times itself plus i^u·y times the row at p, both as they were; d numbers each.
 #[inline(always)]
-fn mix_turned(
-    work: &mut [i64],
-    x: [i64; 4],
-    y: [i64; 4],
-    t: u32,
-    u: u32,
-    p: usize,
-    q: usize,
-    d: usize,
-)
+fn mix_turned(work: &mut [i64], x: Number, y: Number, t: u32, u: u32, p: usize, q: usize, d: usize)
     requires turns { (t < 4) × ((u < 4) × Within room_numerator (number_of y)) }
     requires mixing { Mixing work.old (number_of x) (turned_number y t) p (number_of x) (turned_number y u) q d }
     ensures { work.new ≡ mixed work.old (number_of x) (turned_number y t) p (number_of x) (turned_number y u) q d }
@@ -48,7 +42,7 @@ fn mix_turned(
 // Kept: not inlined, so that the loops with constants beside it stay small.
 // The same, for any turns.
 #[inline(never)]
-fn mix_any(work: &mut [i64], x: [i64; 4], y: [i64; 4], t: u32, u: u32, p: usize, q: usize, d: usize)
+fn mix_any(work: &mut [i64], x: Number, y: Number, t: u32, u: u32, p: usize, q: usize, d: usize)
     requires turns { (t < 4) × ((u < 4) × Within room_numerator (number_of y)) }
     requires mixing { Mixing work.old (number_of x) (turned_number y t) p (number_of x) (turned_number y u) q d }
     ensures { work.new ≡ mixed work.old (number_of x) (turned_number y t) p (number_of x) (turned_number y u) q d }
@@ -58,9 +52,9 @@ fn mix_any(work: &mut [i64], x: [i64; 4], y: [i64; 4], t: u32, u: u32, p: usize,
 
 // Kept: a type for each way, so that a number of eighths has the loops of its own way alone: a function with those of both would be too large to be written into its caller.
 // A way to mix two rows of an axis that is its own adjoint: i^t times i^u is 1.
-trait Mix {
+trait Way {
     // As `mix_turned`.
-    fn mix(work: &mut [i64], x: [i64; 4], y: [i64; 4], t: u32, u: u32, p: usize, q: usize, d: usize)
+    fn mix(work: &mut [i64], x: Number, y: Number, t: u32, u: u32, p: usize, q: usize, d: usize)
         requires turns { (t < 4) × ((u < 4) × Within room_numerator (number_of y)) }
         requires inverse { (t + u) % 4 ≡ 0 }
         requires mixing { Mixing work.old (number_of x) (turned_number y t) p (number_of x) (turned_number y u) q d }
@@ -70,18 +64,9 @@ trait Mix {
 // By products with each of the numbers: of an even number of eighths.
 struct ByProducts;
 
-impl Mix for ByProducts {
+impl Way for ByProducts {
     #[inline(always)]
-    fn mix(
-        work: &mut [i64],
-        x: [i64; 4],
-        y: [i64; 4],
-        t: u32,
-        u: u32,
-        p: usize,
-        q: usize,
-        d: usize,
-    ) {
+    fn mix(work: &mut [i64], x: Number, y: Number, t: u32, u: u32, p: usize, q: usize, d: usize) {
         mix_turned(work, x, y, t, u, p, q, d);
     }
 }
@@ -89,18 +74,9 @@ impl Mix for ByProducts {
 // By sums and differences: of an odd number of eighths.
 struct BySums;
 
-impl Mix for BySums {
+impl Way for BySums {
     #[inline(always)]
-    fn mix(
-        work: &mut [i64],
-        x: [i64; 4],
-        y: [i64; 4],
-        t: u32,
-        u: u32,
-        p: usize,
-        q: usize,
-        d: usize,
-    ) {
+    fn mix(work: &mut [i64], x: Number, y: Number, t: u32, u: u32, p: usize, q: usize, d: usize) {
         if are_apart(x, y) {
             mix_by_sums(work, x, t, u, p, q, d);
             return;
@@ -109,34 +85,25 @@ impl Mix for BySums {
     }
 }
 
-// As `mix_turned`: in the way M, by constants, where t and u are those of an axis that is its own adjoint: both are 0 or 2, or one is 1 and the other 3.
+// As `mix_turned`: in the way W, by constants, where t and u are those of an axis that is its own adjoint: both are 0 or 2, or one is 1 and the other 3.
 #[inline(always)]
-fn turn_pair<M: Mix>(
-    work: &mut [i64],
-    x: [i64; 4],
-    y: [i64; 4],
-    t: u32,
-    u: u32,
-    p: usize,
-    q: usize,
-    d: usize,
-)
+fn mix<W: Way>(work: &mut [i64], x: Number, y: Number, t: u32, u: u32, p: usize, q: usize, d: usize)
     requires turns { (t < 4) × ((u < 4) × Within room_numerator (number_of y)) }
     requires mixing { Mixing work.old (number_of x) (turned_number y t) p (number_of x) (turned_number y u) q d }
     ensures { work.new ≡ mixed work.old (number_of x) (turned_number y t) p (number_of x) (turned_number y u) q d }
 {
     match (t, u) {
-        (0, 0) => M::mix(work, x, y, 0, 0, p, q, d),
-        (1, 3) => M::mix(work, x, y, 1, 3, p, q, d),
-        (2, 2) => M::mix(work, x, y, 2, 2, p, q, d),
-        (3, 1) => M::mix(work, x, y, 3, 1, p, q, d),
+        (0, 0) => W::mix(work, x, y, 0, 0, p, q, d),
+        (1, 3) => W::mix(work, x, y, 1, 3, p, q, d),
+        (2, 2) => W::mix(work, x, y, 2, 2, p, q, d),
+        (3, 1) => W::mix(work, x, y, 3, 1, p, q, d),
         _ => mix_any(work, x, y, t, u, p, q, d),
     }
 }
 
 // Make the row at p x times itself plus i^t·y times itself; d numbers.
 #[inline(always)]
-fn fold_by(work: &mut [i64], x: [i64; 4], y: [i64; 4], t: u32, p: usize, d: usize)
+fn fold_by(work: &mut [i64], x: Number, y: Number, t: u32, p: usize, d: usize)
     requires turns { (t < 4) × Within room_numerator (number_of y) }
     requires row { Folding work.old (number_of x) (turned_number y t) p d }
     ensures { work.new ≡ with_numerators work.old p d (combined_row work.old (number_of x) p (turned_number y t) p) }
@@ -147,7 +114,7 @@ fn fold_by(work: &mut [i64], x: [i64; 4], y: [i64; 4], t: u32, p: usize, d: usiz
 // Kept: not inlined, as `mix_any`.
 // The same, for any turns.
 #[inline(never)]
-fn fold_any(work: &mut [i64], x: [i64; 4], y: [i64; 4], t: u32, p: usize, d: usize)
+fn fold_any(work: &mut [i64], x: Number, y: Number, t: u32, p: usize, d: usize)
     requires turns { (t < 4) × Within room_numerator (number_of y) }
     requires row { Folding work.old (number_of x) (turned_number y t) p d }
     ensures { work.new ≡ with_numerators work.old p d (combined_row work.old (number_of x) p (turned_number y t) p) }
@@ -157,7 +124,7 @@ fn fold_any(work: &mut [i64], x: [i64; 4], y: [i64; 4], t: u32, p: usize, d: usi
 
 // The same, by constants where t is that of an axis that is its own adjoint: 0 or 2.
 #[inline(always)]
-fn fold_turned(work: &mut [i64], x: [i64; 4], y: [i64; 4], t: u32, p: usize, d: usize)
+fn fold_turned(work: &mut [i64], x: Number, y: Number, t: u32, p: usize, d: usize)
     requires turns { (t < 4) × Within room_numerator (number_of y) }
     requires row { Folding work.old (number_of x) (turned_number y t) p d }
     ensures { work.new ≡ with_numerators work.old p d (combined_row work.old (number_of x) p (turned_number y t) p) }
@@ -171,7 +138,7 @@ fn fold_turned(work: &mut [i64], x: [i64; 4], y: [i64; 4], t: u32, p: usize, d: 
 
 // Write the numerators of the operator times the matrix at `at` over that matrix. Row r and its partner are made of each other alone, and both are made where the first of them is come to.
 #[inline(always)]
-fn turn_rows<M: Mix>(work: &mut [i64], axis: Axis, pair: Pair, at: usize, d: usize)
+fn turn_rows<W: Way>(work: &mut [i64], axis: Axis, pair: Pair, at: usize, d: usize)
     requires { Level pair × Turning work.old axis.flips (rows_about (form_of axis) pair) at d }
     ensures { work.new ≡ with_numerators work.old at (d * d) (λ i. row_numerators work.old axis.flips (rows_about (form_of axis) pair) at d (i / d) (i % d)) }
 {
@@ -183,7 +150,7 @@ fn turn_rows<M: Mix>(work: &mut [i64], axis: Axis, pair: Pair, at: usize, d: usi
         let p = at + r * d * ENTRY;
         if r < s {
             let q = at + s * d * ENTRY;
-            turn_pair::<M>(work, x, y, t, axis.turns_in(s), p, q, d);
+            mix::<W>(work, x, y, t, axis.turns_in(s), p, q, d);
         } else if r == s {
             fold_turned(work, x, y, t, p, d);
         }
@@ -192,13 +159,13 @@ fn turn_rows<M: Mix>(work: &mut [i64], axis: Axis, pair: Pair, at: usize, d: usi
 
 // Write the operator times the matrix at `at` over that matrix. Numerators over 1 are in their shared form.
 #[inline(always)]
-fn turn_matrix<M: Mix>(work: &mut [i64], axis: Axis, pair: Pair, at: usize, d: usize)
+fn turn_matrix<W: Way>(work: &mut [i64], axis: Axis, pair: Pair, at: usize, d: usize)
     requires { Level pair × Turning work.old axis.flips (rows_about (form_of axis) pair) at d }
     ensures { work.new ≡ sets work.old at (held_words (d * d) (λ i. row_sum work.old axis.flips (entry_in (rows_about (form_of axis) pair)) at d (i / d) (i % d))) }
 {
     let n = d * d;
     let before = work[at + n * ENTRY] as u32;
-    turn_rows::<M>(work, axis, pair, at, d);
+    turn_rows::<W>(work, axis, pair, at, d);
     let e = before + pair.own.e;
     if e == 0 {
         return;
@@ -234,7 +201,7 @@ fn is_turned(reads: Option<u32>, j: usize) -> bool
 
 // Send each branch of a bank to its product, in the branch's place; stores stay.
 #[inline(always)]
-fn turn_by<M: Mix>(work: &mut [i64], axis: Axis, k: u32, reads: Option<u32>, bank: Bank)
+fn turn_by<W: Way>(work: &mut [i64], axis: Axis, k: u32, reads: Option<u32>, bank: Bank)
     requires { Rotating work.old (form_of axis) k reads bank.at bank.d bank.count }
     ensures { work.new ≡ rotated work.old (form_of axis) k reads bank.at bank.d bank.count }
 {
@@ -242,7 +209,7 @@ fn turn_by<M: Mix>(work: &mut [i64], axis: Axis, k: u32, reads: Option<u32>, ban
     for j in 0..bank.count {
         let at = bank.at + j * size;
         if is_turned(reads, j) {
-            turn_matrix::<M>(work, axis, *turning(k), at, bank.d);
+            turn_matrix::<W>(work, axis, *turning(k), at, bank.d);
         } else {
             keep_matrix(work, axis, at, bank.d);
         }
@@ -250,13 +217,13 @@ fn turn_by<M: Mix>(work: &mut [i64], axis: Axis, k: u32, reads: Option<u32>, ban
 }
 
 // Kept: a function for each number of eighths, never inlined into its caller, which would then be too large for the loops in it to be written out by their constants.
-// The same, by K eighths, in the way M.
+// The same, by K eighths, in the way W.
 #[inline(never)]
-fn turn_eighths<M: Mix, const K: u32>(work: &mut [i64], axis: Axis, reads: Option<u32>, bank: Bank)
+fn turn_eighths<W: Way, const K: u32>(work: &mut [i64], axis: Axis, reads: Option<u32>, bank: Bank)
     requires { Rotating work.old (form_of axis) K reads bank.at bank.d bank.count }
     ensures { work.new ≡ rotated work.old (form_of axis) K reads bank.at bank.d bank.count }
 {
-    turn_by::<M>(work, axis, K, reads, bank);
+    turn_by::<W>(work, axis, K, reads, bank);
 }
 
 // The same, by k eighths.

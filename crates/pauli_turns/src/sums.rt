@@ -9,6 +9,7 @@ ghost use Rattle.rows.specs.Inner.Rows.{Mixing, mixed};
 ghost use Rattle.pauli_nodes.specs.Nodes.{turned};
 ghost use Rattle.pauli_turns.specs.Inner.Turns.{root_part, more, less, are_apart};
 
+use super::Number;
 use cells::{numerators_at, write_numerators};
 use channel::layout::ENTRY;
 use exact::numerators::{neg4, sum4};
@@ -17,7 +18,7 @@ use pauli_steps::rows::turned4;
 
 // Whether x is 2 + w and y is 2 − w, where w is √2 times whole numbers.
 #[inline(always)]
-pub fn are_apart(x: [i64; 4], y: [i64; 4]) -> bool
+pub fn are_apart(x: Number, y: Number) -> bool
     requires { Within narrow_numerator (number_of x) × Within room_numerator (number_of y) }
     ensures { result ≡ are_apart (number_of x) (number_of y) }
 {
@@ -26,7 +27,7 @@ pub fn are_apart(x: [i64; 4], y: [i64; 4]) -> bool
 
 // The part of x that is √2 times whole numbers, times v.
 #[inline(always)]
-fn times_root(x: [i64; 4], v: [i64; 4]) -> [i64; 4]
+fn times_root(x: Number, v: Number) -> Number
     requires { Within (2 * narrow_numerator) (number_of x) × Within (2 * narrow_numerator) (number_of v) }
     ensures { result ≡ list_of (numbers.◌⊗◌ (root_part (number_of x)) (number_of v)) }
 {
@@ -45,7 +46,7 @@ fn times_root(x: [i64; 4], v: [i64; 4]) -> [i64; 4]
 
 // The two numbers that are made of s, in the first row, and v, in the second: b is i^t·v, and they are (s + b)·2 + (s − b)·w and i^u·((s + b)·2 − (s − b)·w).
 #[inline(always)]
-fn mix_numbers(x: [i64; 4], t: u32, u: u32, s: [i64; 4], v: [i64; 4]) -> ([i64; 4], [i64; 4])
+fn mix_numbers(x: Number, t: u32, u: u32, s: Number, v: Number) -> (Number, Number)
     requires turns { (t < 4) × ((u < 4) × ((t + u) % 4 ≡ 0)) }
     requires sizes { Within narrow_numerator (number_of x) × (Within narrow_numerator (number_of s) × Within narrow_numerator (number_of v)) }
     ensures first { number_of result.0 ≡ numbers.◌⊕◌ (numbers.◌⊗◌ (more (number_of x)) (number_of s)) (numbers.◌⊗◌ (numbers.◌⊗◌ (less (number_of x)) (turned t).num) (number_of v)) }
@@ -62,7 +63,7 @@ fn mix_numbers(x: [i64; 4], t: u32, u: u32, s: [i64; 4], v: [i64; 4]) -> ([i64; 
 // Kept: inlined, so that each caller's constants spare the products with them.
 // Make the row at p 2 + w times itself plus i^t·(2 − w) times the row at q, and the row at q 2 + w times itself plus i^u·(2 − w) times the row at p, both as they were; d numbers each, and w is the part of x that is √2 times whole numbers.
 #[inline(always)]
-pub fn mix_by_sums(work: &mut [i64], x: [i64; 4], t: u32, u: u32, p: usize, q: usize, d: usize)
+pub fn mix_by_sums(work: &mut [i64], x: Number, t: u32, u: u32, p: usize, q: usize, d: usize)
     requires turns { (t < 4) × ((u < 4) × ((t + u) % 4 ≡ 0)) }
     requires size { Within narrow_numerator (number_of x) }
     requires mixing { Mixing work.old (more (number_of x)) (numbers.◌⊗◌ (less (number_of x)) (turned t).num) p (more (number_of x)) (numbers.◌⊗◌ (less (number_of x)) (turned u).num) q d }

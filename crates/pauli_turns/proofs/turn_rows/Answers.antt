@@ -20,8 +20,8 @@ row a p r t e = row_turned (form_of a) p r t e.1
 pub loop-r-init : goal.loop-r-init
 loop-r-init g c = none_paired c.requires.1
 
-pub turn_pair-requires-clause-mixing : goal.turn_pair-requires-clause-mixing
-turn_pair-requires-clause-mixing g c =
+pub mix-requires-clause-mixing : goal.mix-requires-clause-mixing
+mix-requires-clause-mixing g c =
     let a = c.args.axis in
     let p = c.args.pair in
     let r = c.loop-r.r in
@@ -40,7 +40,7 @@ loop-r-preserved g c =
     let w = c.loop-r.invariant in
     let own = row a x r c.turns_in-t.result c.turns_in-t.ensures in
     elim c.if-r-s.branch [
-      | then-r-s t ↦ t.work-is ∙ mixed_more p h w t.if-r-s.true own (row a x (bit_xor r a.flips) t.turns_in.result t.turns_in.ensures) t.turn_pair.ensures
+      | then-r-s t ↦ t.work-is ∙ mixed_more p h w t.if-r-s.true own (row a x (bit_xor r a.flips) t.turns_in.result t.turns_in.ensures) t.mix.ensures
       | else-r-s+then-r-s-2 t ↦ t.work-is ∙ folded_more p h w t.if-r-s-2.true own t.fold_turned.ensures
       | else-r-s+else-r-s-2 t ↦ t.work-is ∙ kept_more p h w (omega arith)
     ]

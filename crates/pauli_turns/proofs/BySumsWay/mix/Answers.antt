@@ -2,7 +2,7 @@
 use mathlib.Core.Path.{sym, ◌∙◌}
 use Rattle.exact.specs.Exact.{number_of}
 use Rattle.pauli_turns.proofs.Mixed.{apart_mixing, apart_mixed}
-use Rattle.pauli_turns.proofs.BySumsMix.mix.Goals as goal
+use Rattle.pauli_turns.proofs.BySumsWay.mix.Goals as goal
 
 pub mix_by_sums-requires-clause-mixing : goal.mix_by_sums-requires-clause-mixing
 mix_by_sums-requires-clause-mixing c =
