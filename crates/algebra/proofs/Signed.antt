@@ -67,7 +67,7 @@ bit-parity (negsuc n) f = go f.sfits
     go : n < 2 ^ 63 → (2 ^ 64 - suc n) % 2 ≡ suc n % 2
     go h = omega arith
 
-bit2 : (p : ℕ) → (p % 2 ≡ 0) ⊎ (p % 2 ≡ 1)
+pub bit2 : (p : ℕ) → (p % 2 ≡ 0) ⊎ (p % 2 ≡ 1)
 bit2 p = go (eqb (p % 2) 0) refl
   where
     go : (b : Bool) → eqb (p % 2) 0 ≡ b → (p % 2 ≡ 0) ⊎ (p % 2 ≡ 1)

@@ -2,6 +2,7 @@ pub mod Counts
 pub mod Products
 pub mod AlongGates
 pub mod Answers
+pub mod Known
 pub mod Numbers
 pub mod Pairs
 pub mod Layered

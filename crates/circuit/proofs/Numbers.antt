@@ -1,53 +1,28 @@
--- What low limits say, and the questions of numbers in two parts: those that the code asks first tell whether the sizes are small enough to be worked out.
+-- The questions of numbers in two parts: those that the code asks first tell whether the sizes are small enough to be worked out.
 use Rattle.std.specs.Prelude.{Ok, Err}
 use mathlib.Core.Path.{◌≡◌, refl, sym, ap, ◌∙◌}
 use mathlib.Core.Bool.{Bool, true, false, cond, ◌&&◌, and-false}
 use mathlib.Core.List.{List, [], ◌∷◌, ◌++◌}
-use Prim.Native.Nat.{ℕ, suc, ◌/◌, ◌%◌, ◌^◌, ◌≤◌}
+use Prim.Native.Nat.{ℕ, suc, ◌^◌, ◌≤◌}
 use native.Mathlib.Omega.{arith}
-use lib.Dec.{eqb, leb}
-use lib.ListN.{length}
+use lib.Dec.{leb}
 use lib.Pow.{pow_mono}
-use borrow.Author.Tests.{leb-true, leb-false, lt-leb}
+use borrow.Author.Tests.{leb-false, lt-leb}
 use Rattle.algebra.specs.Lists.{total}
-use Rattle.algebra.proofs.Tests.{and_split}
-use Rattle.verdict.specs.declared.Refusal.TheVariants.{OverLimit, BadStore, MalformedAt, OverCeiling, TooHeavy, ShortBuffer}
+use Rattle.verdict.specs.declared.Refusal.TheVariants.{OverLimit, BadStore, TooHeavy, ShortBuffer}
 use Rattle.verdict.specs.declared.Refusal.{Refusal}
 use Rattle.verdict.specs.Questions.{Verdict, Question, question, granted, first_no}
 use Rattle.verdict.proofs.Questions.{refused, passed, handed_value}
-use Rattle.gate.specs.Gate.{gate_size, gates_of, weight, max_weight}
+use Rattle.gate.specs.Gate.{gates_of, weight, max_weight}
 use Rattle.store.specs.Store.{store_fits}
 use Rattle.circuit.specs.declared.limits.Limits.{Limits}
 use Rattle.circuit.specs.declared.footprint.Footprint.{Footprint}
 use Rattle.circuit.specs.declared.sizes.Sizes.{Sizes}
-use Rattle.circuit.specs.Limits.{ceilings, matrix_ceilings, branch_ceilings}
 use Rattle.circuit.specs.Footprint.{footprint_of}
-use Rattle.circuit.specs.Questions.{sizes_of, unitary_within, unitary_room, matrix_questions, unitary_verdict}
-use Rattle.circuit.specs.Inner.Small.{max_splits, max_branches, max_qubits, max_gates}
+use Rattle.circuit.specs.Questions.{sizes_of, unitary_room}
+use Rattle.circuit.specs.Inner.Small.{max_splits}
 use Rattle.circuit.specs.Inner.Numbers.{count_questions, size_questions}
-
-module _ (l : Limits) where
-  pub matrix_low : matrix_ceilings l ≡ true → (l.max_qubits ≤ max_qubits) × (l.max_operations ≤ max_gates)
-  matrix_low e =
-      let a = and_split (leb l.max_qubits ceilings.max_qubits) _ e in
-      let b = and_split (leb l.max_matrix_cells ceilings.max_matrix_cells) _ a.1 in
-      let c = and_split (leb l.max_multiply_terms ceilings.max_multiply_terms) _ b.1 in
-      (leb-true _ _ a.0, leb-true _ _ c.1)
-
-  pub record Low : Type 0 where
-    pub qubits_low : l.max_qubits ≤ max_qubits
-    pub operations_low : l.max_operations ≤ max_gates
-    pub branches_low : l.max_branches ≤ max_branches
-
-  pub all-low : (matrix_ceilings l && branch_ceilings l) ≡ true → Low
-  all-low e =
-      let a = and_split (matrix_ceilings l) (branch_ceilings l) e in
-      let m = matrix_low a.0 in
-      record {
-        qubits_low = m.0;
-        operations_low = m.1;
-        branches_low = leb-true _ _ (and_split (leb l.max_branches ceilings.max_branches) _ a.1).0;
-      }
+use Rattle.circuit.proofs.Known.{Low}
 
 -- ---- questions 7 to 10: of the sizes, `few_cells` is what question 8 asks of cells and terms, and `room` is question 10
 module _ (l : Limits) (f : Footprint) (n m : ℕ) (σ : List ℕ) (few_cells room : Sizes → Bool) (low : Low l) where
@@ -87,12 +62,6 @@ module _ (l : Limits) (f : Footprint) (n m : ℕ) (σ : List ℕ) (few_cells roo
   counts_pass e = ap (λ (s : Sizes). first_no (of_sizes s)) (handed_value (sizes_of f n) before e) ∙ passed (sizes_of f n) tt before (of_sizes (sizes_of f n)) e ∙ two_parts
 
 -- ---- circuit_unitary
--- the first three questions, by their answers
-module _ (n : ℕ) (l : Limits) (ws : List ℕ) (result work : ℕ) where
-  pub first_answers : {a b c : Bool} {v : Verdict} → a ≡ matrix_ceilings l → b ≡ eqb (length ws % gate_size) 0 → c ≡ unitary_within n (length ws / gate_size) l
-      → v ≡ first_no (matrix_questions n ws result work) → cond a (cond b (cond c v (Err OverLimit)) (Err (MalformedAt 0))) (Err OverCeiling) ≡ unitary_verdict n l ws result work
-  first_answers p q r w = λ i. cond (p i) (cond (q i) (cond (r i) (w i) (Err OverLimit)) (Err (MalformedAt 0))) (Err OverCeiling)
-
 -- the last two questions, by their answers
 module _ (n : ℕ) (ws : List ℕ) (result work : ℕ) where
   abbrev pub last_questions : List Question

@@ -22,14 +22,8 @@ pub fn product(x: [i64; 4], y: [i64; 4]) -> [i64; 4]
     requires { Within narrow_numerator (number_of x) × Within narrow_numerator (number_of y) }
     ensures { result ≡ list_of (numbers.◌⊗◌ (number_of x) (number_of y)) }
 {
-    let x0 = x[0];
-    let x1 = x[1];
-    let x2 = x[2];
-    let x3 = x[3];
-    let y0 = y[0];
-    let y1 = y[1];
-    let y2 = y[2];
-    let y3 = y[3];
+    let [x0, x1, x2, x3] = x;
+    let [y0, y1, y2, y3] = y;
     let m0 = x0 * y0 + 2 * (x1 * y1) - x2 * y2 - 2 * (x3 * y3);
     let m1 = x0 * y1 + x1 * y0 - x2 * y3 - x3 * y2;
     let m2 = x0 * y2 + 2 * (x1 * y3) + x2 * y0 + 2 * (x3 * y1);
@@ -42,14 +36,8 @@ pub fn conj_product(x: [i64; 4], y: [i64; 4]) -> [i64; 4]
     requires { Within narrow_numerator (number_of x) × Within narrow_numerator (number_of y) }
     ensures { result ≡ list_of (numbers.◌⊗◌ (number_of x) (conjugate root2 (number_of y))) }
 {
-    let x0 = x[0];
-    let x1 = x[1];
-    let x2 = x[2];
-    let x3 = x[3];
-    let y0 = y[0];
-    let y1 = y[1];
-    let y2 = y[2];
-    let y3 = y[3];
+    let [x0, x1, x2, x3] = x;
+    let [y0, y1, y2, y3] = y;
     let a = x0 * y0;
     let b = x1 * y1;
     let c = (x0 + x1) * (y0 + y1) - a - b;

@@ -15,22 +15,13 @@ use mir.Val.{sel, to_z, of_z}
 use borrow.Author.Tests.{ltb-true, lt-ltb, eqb-true, eqb-false, eq-eqb, ne_eqb}
 use Rattle.algebra.specs.Words.{eqℤ}
 use Rattle.algebra.proofs.Tests.{test_same}
+use Rattle.algebra.proofs.Signed.{bit2}
 use Rattle.gather.specs.Inner.Gathered.{edge}
 
 pub xor_zero : (a b : ℕ) → eqb (bit_xor a b) 0 ≡ eqb a b
 xor_zero a b =
     test_same _ _ (λ e. eq-eqb a b (omega (arith, eqb-true (bit_xor a b) 0 e, xor_add_and a b, and_le_l a b, and_le_r a b)))
     (λ e. eq-eqb _ _ (ap (λ (c : ℕ). bit_xor c b) (eqb-true a b e) ∙ xor_self b))
-
-bit2 : (n : ℕ) → (n % 2 ≡ 0) ⊎ (n % 2 ≡ 1)
-bit2 n = go (eqb (n % 2) 0) refl
-  where
-    go : (t : Bool) → eqb (n % 2) 0 ≡ t → (n % 2 ≡ 0) ⊎ (n % 2 ≡ 1)
-    go true e = inl (eqb-true (n % 2) 0 e)
-    go false e = inr (one (eqb-false (n % 2) 0 e))
-      where
-        one : (n % 2 ≡ 0 → ⊥) → n % 2 ≡ 1
-        one h = omega arith
 
 differ_flip : (a b : ℕ) → differ (suc a % 2) (suc b % 2) ≡ differ (a % 2) (b % 2)
 differ_flip a b = go (bit2 a) (bit2 b)

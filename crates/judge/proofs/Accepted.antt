@@ -1,22 +1,20 @@
 -- What acceptance says of a circuit, and of the words of its channel.
-use mathlib.Core.Path.{◌≡◌, refl, sym, ◌∙◌, subst}
-use mathlib.Core.Bool.{Bool, true, false, ◌&&◌}
+use mathlib.Core.Path.{◌≡◌, refl, subst}
+use mathlib.Core.Bool.{Bool, true, false}
 use mathlib.Core.List.{List, []}
-use Prim.Native.Nat.{ℕ, ◌+◌, ◌*◌, ◌/◌, ◌%◌, ◌^◌, ◌<◌, ◌≤◌, min}
+use Prim.Native.Nat.{ℕ, ◌+◌, ◌*◌, ◌^◌, ◌<◌, ◌≤◌, min}
 use native.Mathlib.Nat.{mul_assoc, mul-le-mul, le_refl}
 use native.Mathlib.Omega.{arith}
-use lib.Dec.{eqb, leb}
+use lib.Dec.{leb}
 use lib.Pow.{pow_pos}
 use lib.ListN.{length, take, length-append}
 use lib.Seq.{take-length}
 use lib.IntN.{ℤ}
 use borrow.Author.Tests.{leb-true, leb-false}
 use Rattle.algebra.specs.Lists.{All, every, total, marks}
-use Rattle.algebra.proofs.Tests.{and_split}
 use Rattle.algebra.proofs.Totals.{sub_whole, sub_filter}
 use Rattle.exact.specs.Exact as scalar
-use Rattle.gate.specs.declared.judge.Asking.TheVariants.{Channel}
-use Rattle.gate.specs.Gate.{Gate, gate_size, gates_of, splits, weight, max_weight}
+use Rattle.gate.specs.Gate.{Gate, gates_of, splits, weight, max_weight}
 use Rattle.gate.specs.Inner.Entries.{valid}
 use Rattle.gate.proofs.Bits.{Word}
 use Rattle.kraus.specs.Branch.{Store, Branch, branches}
@@ -24,22 +22,18 @@ use Rattle.kraus.specs.Blocks.{alive, survivors, stores, block}
 use Rattle.kraus.proofs.Counting.{stores-bits, store-count}
 use Rattle.kraus.proofs.Limits.{Enough, kraus_exponent, circuit_enough, block-fits}
 use Rattle.circuit.specs.declared.limits.Limits.{Limits}
-use Rattle.circuit.specs.declared.footprint.Footprint.{Footprint}
-use Rattle.circuit.specs.declared.sizes.Sizes.{Sizes}
-use Rattle.circuit.specs.Limits.{ceilings, matrix_ceilings, branch_ceilings}
+use Rattle.circuit.specs.Limits.{ceilings}
 use Rattle.circuit.specs.Footprint.{writes, footprint_of}
-use Rattle.circuit.specs.Sizes.{cells_needed, result_words, work_words}
-use Rattle.store.specs.Store.{store_fits}
+use Rattle.circuit.specs.Sizes.{result_words, work_words}
 use Rattle.store.proofs.Bytes.{fits_word}
-use Rattle.circuit.specs.Questions.{gates_questions, sizes_of, within_limits, room_for, number_questions, channel_questions}
+use Rattle.circuit.specs.Questions.{sizes_of}
 use Rattle.circuit.specs.Inner.Small.{max_qubits, max_branches}
 use Rattle.circuit.proofs.Products.{fourth_is}
 use Rattle.channel.specs.Layout.{channels, side, header_size, record_size}
 use Rattle.collect.specs.Delivered.{block_no, branches_words}
 use Rattle.judge.specs.Delivered.{circuit_words}
 use Rattle.judge.specs.Call.{accepts}
-use Rattle.circuit.proofs.Answers.{gates-valid, channel_accepts}
-use Rattle.verdict.proofs.Questions.{yes, every_append}
+use Rattle.circuit.proofs.Known.{known}
 use Rattle.channel.specs.Claims.{Writable}
 use Rattle.channel.proofs.Written.{length-written}
 use Rattle.judge.proofs.Writable.{survivors-writable}
@@ -68,49 +62,23 @@ four n v x c h p q r = go (leb n 4) refl
         absurd (omega arith)
 
 module _ (n m : ℕ) (σ : List ℕ) (l : Limits) (ws : List ℕ) (r w : List ℤ) (e : accepts n m σ l ws r w ≡ true) where
-  abbrev gs : List Gate
-  gs = gates_of ws
-
-  abbrev foot : Footprint
-  foot = footprint_of m gs
-
-  abbrev sizes : Sizes
-  sizes = sizes_of foot n
-
   pub sound : Sound n m σ (gates_of ws) (length r) (length w)
   sound =
-      let all : every yes (channel_questions n m σ l ws (length r) (length w)) ≡ true = sym (channel_accepts n m σ l ws (length r) (length w)) ∙ e in
-      let q1 = and_split (matrix_ceilings l && branch_ceilings l) _ all in
-      let q2 = and_split (eqb (length ws % gate_size) 0) _ q1.1 in
-      let q3 = and_split (leb (length ws / gate_size) l.max_operations) _ q2.1 in
-      let late = and_split (every yes (gates_questions (Channel m) n 0 gs)) _ (sym (every_append (gates_questions (Channel m) n 0 gs) (number_questions foot n m σ l (length r) (length w))) ∙ q3.1) in
-      let q7 = and_split (store_fits m σ) _ late.1 in
-      let q8 = and_split (within_limits foot n m l) _ q7.1 in
-      let q9 = and_split (leb (total weight gs) max_weight) _ q8.1 in
-      let q10 = and_split (room_for sizes (length r) (length w)) _ q9.1 in
-      let bytes = fits_word m σ q7.0 in
-      let room = and_split (leb (result_words sizes.stores sizes.rows) (length r)) _ q10.0 in
-      let low = and_split (matrix_ceilings l) (branch_ceilings l) q1.0 in
-      let low1 = and_split (leb l.max_qubits ceilings.max_qubits) _ low.0 in
-      let low2 = and_split (leb l.max_matrix_cells ceilings.max_matrix_cells) _ low1.1 in
-      let low3 = and_split (leb l.max_branches ceilings.max_branches) _ low.1 in
-      let in1 = and_split (leb m l.max_classical_bits) _ q8.0 in
-      let in2 = and_split (leb sizes.branches l.max_branches) _ in1.1 in
-      let in3 = and_split (leb n l.max_qubits) _ in2.1 in
-      let in4 = and_split (leb (cells_needed sizes.branches sizes.stores sizes.rows) l.max_matrix_cells) _ in3.1 in
+      let k = known n m σ l ws (length r) (length w) e in
+      let sizes = sizes_of (footprint_of m (gates_of ws)) n in
+      let low = k.low in
+      let fit = k.sizes_within in
+      let bytes = fits_word m σ k.store_fine in
       record {
-        valid_gates = sym (gates-valid n m 0 gs) ∙ late.0;
-        qubit_count =
-            four n sizes.stores ((3 * sizes.branches + 8) * (2 ^ n) ^ 2) l.max_matrix_cells
-            (omega (arith, leb-true n l.max_qubits in3.0, leb-true l.max_qubits max_qubits low1.0)) (pow_pos (min foot.splits foot.written))
-            (leb-true _ _ in4.0) (leb-true _ _ low2.0);
-        bit_count_lem = omega (arith, leb-true m l.max_classical_bits in1.0, leb-true l.max_classical_bits ceilings.max_classical_bits low3.1);
+        valid_gates = k.gates_fine;
+        qubit_count = four n sizes.stores ((3 * sizes.branches + 8) * (2 ^ n) ^ 2) l.max_matrix_cells (omega (arith, fit.qubits_within, low.of_matrix.qubits_low)) (pow_pos _) fit.cells_within low.of_matrix.cells_low;
+        bit_count_lem = omega (arith, fit.bits_within, low.bits_low);
         bytes = bytes.1;
         byte_count = bytes.0;
-        light = leb-true (total weight gs) max_weight q9.0;
-        branch_count = omega (arith, leb-true sizes.branches l.max_branches in2.0, leb-true l.max_branches max_branches low3.0);
-        room = leb-true _ _ room.0;
-        work_room = leb-true _ _ room.1;
+        light = k.light;
+        branch_count = omega (arith, fit.branches_within, low.branches_low);
+        room = k.result_room;
+        work_room = k.work_room;
       }
 
 -- ---- how long the words of branches are; at most v stores fit words that are counted for v

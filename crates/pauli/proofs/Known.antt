@@ -31,9 +31,10 @@ use Rattle.pauli_words.specs.Inner.Masks.{max_nodes}
 use Rattle.pauli_words.specs.Questions.{number_of, axis_fits, nodes_questions, operations_questions}
 use Rattle.pauli_judge.specs.declared.footprint.ProgramFootprint.{ProgramFootprint}
 use Rattle.pauli_judge.specs.Footprint.{named, program_footprint}
-use Rattle.pauli_judge.specs.Sizes.{program_cells}
+use Rattle.pauli_judge.specs.Sizes.{program_cells, program_terms}
 use Rattle.pauli_judge.specs.Questions.{max_listed, few_operations, program_within, program_room, program_word_questions, program_number_questions, pauli_questions}
 use Rattle.pauli_judge.proofs.Accepted.{nodes-placed, axes_fit, words_known}
+use Rattle.circuit.proofs.Known.{all-low, within}
 use Rattle.pauli.specs.Call.{accepts}
 use Rattle.pauli.specs.Known.{Known, AcceptedKnown}
 use Rattle.pauli.proofs.Operations.{all_eighths}
@@ -75,14 +76,8 @@ module _ (n m : ℕ) (σ : List ℕ) (l : Limits) (ns os : List ℕ) (result wor
       let q10 = and_split (program_room f.nodes sizes result work) _ q9.1 in
       let bytes = fits_word m σ q7.0 in
       let room = and_split (leb (result_words sizes.stores sizes.rows) result) _ q10.0 in
-      let low = and_split (matrix_ceilings l) (branch_ceilings l) q1.0 in
-      let low1 = and_split (leb l.max_qubits ceilings.max_qubits) _ low.0 in
-      let low2 = and_split (leb l.max_matrix_cells ceilings.max_matrix_cells) _ low1.1 in
-      let low3 = and_split (leb l.max_branches ceilings.max_branches) _ low.1 in
-      let in1 = and_split (leb m l.max_classical_bits) _ q8.0 in
-      let in2 = and_split (leb sizes.branches l.max_branches) _ in1.1 in
-      let in3 = and_split (leb n l.max_qubits) _ in2.1 in
-      let in4 = and_split (leb (program_cells f.nodes sizes.branches sizes.stores sizes.rows) l.max_matrix_cells) _ in3.1 in (
+      let low = all-low l q1.0 in
+      let inside = within n m sizes.branches (program_cells f.nodes sizes.branches sizes.stores sizes.rows) (program_terms f.nodes f.counts.gates sizes.branches sizes.rows) l q8.0 in (
         record {
           sound = record {
             few = leb-true n ceilings.max_qubits few2.0;
@@ -94,12 +89,12 @@ module _ (n m : ℕ) (σ : List ℕ) (l : Limits) (ns os : List ℕ) (result wor
           qubit_count =
               four n sizes.stores ((3 * sizes.branches + f.nodes + 8) * (2 ^ n) ^ 2) l.max_matrix_cells
               (omega (arith, leb-true n ceilings.max_qubits few2.0)) (pow_pos (min f.counts.splits f.counts.written))
-              (leb-true _ _ in4.0) (leb-true _ _ low2.0);
-          bit_count_lem = omega (arith, leb-true m l.max_classical_bits in1.0, leb-true l.max_classical_bits ceilings.max_classical_bits low3.1);
+              inside.cells_within low.of_matrix.cells_low;
+          bit_count_lem = omega (arith, inside.bits_within, low.bits_low);
           bytes = bytes.1;
           byte_count = bytes.0;
           light = leb-true f.counts.weight max_weight q9.0;
-          branch_count = omega (arith, leb-true sizes.branches l.max_branches in2.0, leb-true l.max_branches ceilings.max_branches low3.0);
+          branch_count = omega (arith, inside.branches_within, low.branches_low);
           room = leb-true _ _ room.0;
           work_room = leb-true _ _ room.1;
         },

@@ -1,5 +1,4 @@
 -- An accepted call: what is asked of its run, of its delivery and of its buffers, and what they leave.
-use Rattle.std.specs.Prelude.{is_ok}
 use mathlib.Core.Path.{◌≡◌, sym, ap, ◌∙◌, subst, subst₂}
 use mathlib.Core.Bool.{true, false}
 use mathlib.Core.List.{List}
@@ -13,8 +12,7 @@ use Rattle.algebra.specs.Lists.{All, total}
 use Rattle.algebra.specs.Words.{fill_words}
 use Rattle.algebra.proofs.Blocks.{written_over}
 use Rattle.cells.specs.Cells.{cell_size}
-use Rattle.verdict.specs.Questions.{first_no}
-use Rattle.gate.specs.Gate.{gate_size, gate_at, gates_of}
+use Rattle.gate.specs.Gate.{gate_size, gate_at}
 use Rattle.kraus.specs.Branch.{Branch}
 use Rattle.kraus.specs.Blocks.{survivors}
 use Rattle.branches.specs.Inner.Bank.{branch_size, bank_words, Holds}
@@ -30,7 +28,7 @@ use Rattle.pauli_nodes.specs.Nodes.{Node}
 use Rattle.pauli_nodes.specs.Operations.{axis, Operation, bits, splits}
 use Rattle.pauli_nodes.specs.Inner.Masks.{Mask, ref_mask, node_masks}
 use Rattle.pauli_words.specs.Words.{nodes_of, operation_of, operations_of}
-use Rattle.pauli_words.specs.Questions.{number_of, nodes_questions}
+use Rattle.pauli_words.specs.Questions.{number_of}
 use Rattle.pauli_words.specs.Inner.Masks.{max_nodes}
 use Rattle.pauli_judge.specs.Footprint.{named}
 use Rattle.pauli_judge.specs.Sizes.{program_work}

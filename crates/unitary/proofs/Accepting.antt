@@ -31,7 +31,8 @@ use Rattle.circuit.specs.Limits.{matrix_ceilings}
 use Rattle.circuit.specs.Sizes.{unitary_result, unitary_work}
 use Rattle.verdict.proofs.Questions.{yes, every_append}
 use Rattle.circuit.specs.Questions.{gates_questions, unitary_within, unitary_room, unitary_questions, unitary_verdict}
-use Rattle.circuit.proofs.Numbers.{matrix_low, last_questions}
+use Rattle.circuit.proofs.Known.{matrix_low}
+use Rattle.circuit.proofs.Numbers.{last_questions}
 use Rattle.circuit.proofs.Answers.{unitary-accepts}
 use Rattle.circuit.proofs.Products.{square_is}
 use Rattle.branches.specs.Inner.Bank.{branch_size, bank_words, Holds}
@@ -73,7 +74,7 @@ unitary-accepted n l ws result work e =
     let h = and_split (leb (unitary_result (2 ^ n)) result) (leb (unitary_work (2 ^ n)) work) g.0 in
     let q : n ≤ l.max_qubits = leb-true n l.max_qubits (and_split (leb n l.max_qubits) _ c.0).0 in
     record {
-      few = omega (arith, (matrix_low l a.0).0);
+      few = omega (arith, (matrix_low l a.0).qubits_low);
       unitary = gates-unitary n 0 (gates_of ws) d.0;
       light = leb-true (total weight (gates_of ws)) max_weight f.0;
       result_room = leb-true (unitary_result (2 ^ n)) result h.0;

@@ -1,31 +1,24 @@
 -- What acceptance says of the numbers of a circuit; and its terms, counted.
 use Rattle.std.specs.Prelude.{is_ok, Ok}
 use mathlib.Core.Path.{◌≡◌, sym, ap, ◌∙◌, subst}
-use mathlib.Core.Bool.{true, ◌&&◌}
+use mathlib.Core.Bool.{true}
 use mathlib.Core.List.{List}
-use Prim.Native.Nat.{ℕ, ◌/◌, ◌%◌, ◌^◌, ◌≤◌}
+use Prim.Native.Nat.{ℕ, ◌/◌, ◌^◌, ◌≤◌}
 use native.Mathlib.Omega.{arith}
-use lib.Dec.{eqb, leb}
 use lib.ListN.{length, length-replicate}
 use lib.IntN.{pos}
-use borrow.Author.Tests.{leb-true}
-use Rattle.algebra.specs.Lists.{every, total}
-use Rattle.algebra.proofs.Tests.{and_split}
+use Rattle.algebra.specs.Lists.{total}
 use Rattle.verdict.specs.Questions.{Question, granted}
-use Rattle.verdict.proofs.Questions.{yes, every_append, handed}
-use Rattle.gate.specs.declared.judge.Asking.TheVariants.{Channel}
+use Rattle.verdict.proofs.Questions.{handed}
 use Rattle.gate.specs.Gate.{gate_size, gates_of, splits}
 use Rattle.gate.proofs.Listed.{gates-length}
 use Rattle.circuit.specs.declared.limits.Limits.{Limits}
-use Rattle.circuit.specs.declared.footprint.Footprint.{Footprint}
-use Rattle.circuit.specs.declared.sizes.Sizes.{Sizes}
-use Rattle.circuit.specs.Limits.{ceilings, matrix_ceilings, branch_ceilings}
+use Rattle.circuit.specs.Limits.{ceilings}
 use Rattle.circuit.specs.Footprint.{footprint_of}
-use Rattle.circuit.specs.Sizes.{cells_needed, terms_needed}
-use Rattle.circuit.specs.Questions.{gates_questions, sizes_of, within_limits, number_questions, channel_questions, channel_verdict}
+use Rattle.circuit.specs.Sizes.{terms_needed}
+use Rattle.circuit.specs.Questions.{sizes_of, channel_questions, channel_verdict}
 use Rattle.circuit.specs.Inner.Small.{max_splits, max_qubits, max_gates}
-use Rattle.circuit.proofs.Answers.{channel_accepts}
-use Rattle.store.specs.Store.{store_fits}
+use Rattle.circuit.proofs.Known.{known}
 use Rattle.judge.specs.Call.{accepts}
 use Rattle.judge.specs.Inner.Accepted.{Accepted}
 use Rattle.judge.proofs.Running.{few_qubits, few-splits}
@@ -45,35 +38,16 @@ module _ (n m : ℕ) (σ : List ℕ) (l : Limits) (ws : List ℕ) (result work :
   pub in_zeros : accepts n m σ l ws (zeros result) (zeros work) ≡ is_ok (channel_verdict n m σ l ws result work)
   in_zeros i = is_ok (channel_verdict n m σ l ws (length-replicate result (pos 0) i) (length-replicate work (pos 0) i))
 
-  abbrev foot : Footprint
-  foot = footprint_of m (gates_of ws)
-
-  abbrev sizes : Sizes
-  sizes = sizes_of foot n
-
   pub small : is_ok (channel_verdict n m σ l ws result work) ≡ true → let f = footprint_of m (gates_of ws) in let s = sizes_of f n in Small n ws (terms_needed f.gates s.branches s.rows)
   small e =
-      let all : every yes (channel_questions n m σ l ws result work) ≡ true = sym (channel_accepts n m σ l ws result work) ∙ e in
-      let q1 = and_split (matrix_ceilings l && branch_ceilings l) _ all in
-      let q2 = and_split (eqb (length ws % gate_size) 0) _ q1.1 in
-      let q3 = and_split (leb (length ws / gate_size) l.max_operations) _ q2.1 in
-      let late = and_split (every yes (gates_questions (Channel m) n 0 (gates_of ws))) _ (sym (every_append (gates_questions (Channel m) n 0 (gates_of ws)) (number_questions foot n m σ l result work)) ∙ q3.1) in
-      let q7 = and_split (store_fits m σ) _ late.1 in
-      let q8 = and_split (within_limits foot n m l) _ q7.1 in
-      let low = and_split (matrix_ceilings l) (branch_ceilings l) q1.0 in
-      let low1 = and_split (leb l.max_qubits ceilings.max_qubits) _ low.0 in
-      let low2 = and_split (leb l.max_matrix_cells ceilings.max_matrix_cells) _ low1.1 in
-      let low3 = and_split (leb l.max_multiply_terms ceilings.max_multiply_terms) _ low2.1 in
-      let in1 = and_split (leb m l.max_classical_bits) _ q8.0 in
-      let in2 = and_split (leb sizes.branches l.max_branches) _ in1.1 in
-      let in3 = and_split (leb n l.max_qubits) _ in2.1 in
-      let in4 = and_split (leb (cells_needed sizes.branches sizes.stores sizes.rows) l.max_matrix_cells) _ in3.1 in
-      let known : Accepted n m σ ws (zeros result) (zeros work) = record { limits = l; yes = in_zeros ∙ e } in
+      let k = known n m σ l ws result work e in
+      let low = k.low.of_matrix in
+      let taken : Accepted n m σ ws (zeros result) (zeros work) = record { limits = l; yes = in_zeros ∙ e } in
       record {
-        qubits = omega (arith, few_qubits known);
-        splitting = few-splits known;
-        gates = omega (arith, leb-true (length ws / gate_size) l.max_operations q3.0, leb-true l.max_operations ceilings.max_operations low3.1);
-        cheap = omega (arith, leb-true (terms_needed foot.gates sizes.branches sizes.rows) l.max_multiply_terms in4.1, leb-true l.max_multiply_terms ceilings.max_multiply_terms low3.0);
+        qubits = omega (arith, few_qubits taken);
+        splitting = few-splits taken;
+        gates = omega (arith, k.few, low.operations_low);
+        cheap = omega (arith, k.sizes_within.terms_within, low.terms_low);
       }
 
 -- the terms of a circuit that is accepted, from its splits

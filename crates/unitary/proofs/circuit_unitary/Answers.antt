@@ -1,9 +1,8 @@
 -- An accepted circuit is run; a refusal touches nothing.
 use Rattle.std.specs.Prelude.{is_ok}
-use mathlib.Core.Path.{sym, ap, ◌∙◌}
+use mathlib.Core.Path.{sym, ap}
 use lib.ListN.{length}
-use Rattle.verdict.proofs.Questions.{returned}
-use Rattle.unitary.proofs.Accepting.{unitary-accepted, after-yes, after_no}
+use Rattle.unitary.proofs.Accepting.{unitary-accepted}
 use Rattle.unitary.proofs.circuit_unitary.Goals as goal
 
 pub run_unitary-requires : goal.run_unitary-requires

@@ -1,7 +1,7 @@
 -- The run leaves one branch, whose matrix is written as cells.
 use mathlib.Core.Path.{refl, ap}
 use Prim.Native.Nat.{ℕ, ◌*◌}
-use Rattle.unitary.proofs.Accepting.{dim_small, runs, result_room, work_room, factors, written, zeroed}
+use Rattle.unitary.proofs.Accepting.{dim_small, runs, result_room, factors, written, zeroed}
 use Rattle.unitary.proofs.run_unitary.Goals as goal
 
 pub run_gates-at-requires : goal.run_gates-at-requires

@@ -7,7 +7,8 @@ use Rattle.circuit.specs.Questions.{room_for}
 use native.Mathlib.Omega.{arith}
 use Rattle.algebra.proofs.Tests.{and_split}
 use Rattle.circuit.specs.Limits.{matrix_ceilings, branch_ceilings}
-use Rattle.circuit.proofs.Numbers.{all-low, counts_refuse, counts_pass}
+use Rattle.circuit.proofs.Known.{all-low}
+use Rattle.circuit.proofs.Numbers.{counts_refuse, counts_pass}
 use Rattle.circuit.proofs.questions.judge_numbers.Goals as goal
 
 pub returns-in_err-sizes : goal.returns-in_err-sizes
@@ -20,7 +21,7 @@ pub judge_counts-requires : goal.judge_counts-requires
 judge_counts-requires c = let a = c.args in (and_split (matrix_ceilings a.l) (branch_ceilings a.l) c.requires.0).0
 
 pub judge_sizes-requires : goal.judge_sizes-requires
-judge_sizes-requires c = let a = c.args in omega (arith, c.requires.1, (all-low a.l c.requires.0).operations_low)
+judge_sizes-requires c = let a = c.args in omega (arith, c.requires.1, (all-low a.l c.requires.0).of_matrix.operations_low)
 
 pub returns : goal.returns
 returns c =

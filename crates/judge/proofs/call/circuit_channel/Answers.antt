@@ -1,7 +1,6 @@
 -- An accepted circuit is run; a refusal touches nothing.
 use Rattle.std.specs.Prelude.{is_ok}
 use mathlib.Core.Path.{sym, ap, ◌∙◌}
-use lib.ListN.{length}
 use Rattle.algebra.specs.Lists.{total}
 use Rattle.verdict.proofs.Questions.{returned, refused_alike, handed, handed_value}
 use Rattle.gate.specs.Gate.{gates_of, splits}

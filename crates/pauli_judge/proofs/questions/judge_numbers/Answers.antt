@@ -2,7 +2,8 @@
 use mathlib.Core.Path.{◌∙◌}
 use Rattle.verdict.proofs.Questions.{returned}
 use Rattle.circuit.specs.declared.sizes.Sizes.{Sizes}
-use Rattle.circuit.proofs.Numbers.{all-low, counts_refuse}
+use Rattle.circuit.proofs.Known.{all-low}
+use Rattle.circuit.proofs.Numbers.{counts_refuse}
 use Rattle.pauli_judge.specs.Inner.Numbers.{few_program_cells}
 use Rattle.pauli_judge.specs.Questions.{program_room}
 use Rattle.pauli_judge.proofs.questions.judge_numbers.Goals as goal
