@@ -104,7 +104,9 @@ pub fn judge_numbers(
     judge_sizes(&sizes, f, l, res, work)
 }
 
+// Kept: inlined, as `judge_circuit`.
 // Questions 7 to 10, of gates that have passed questions 1 to 6; the measures and resets.
+#[inline(always)]
 fn judge_counted(circuit: Circuit, l: Limits, res: u64, work: u64) -> Result<u64, Refusal>
     requires { is_ok (first_no (word_questions circuit.qubits circuit.bits l circuit.gates.now)) ≡ true }
     ensures { let c = circuit.entry in let gs = gates_of c.gates.now in result ≡ granted (total splits gs) (number_questions (footprint_of c.bits gs) c.qubits c.bits c.store.now l res work) }
@@ -114,7 +116,9 @@ fn judge_counted(circuit: Circuit, l: Limits, res: u64, work: u64) -> Result<u64
     Ok(f.splits)
 }
 
+// Kept: inlined, so that the circuit and its limits are not written down for a call, which the smallest circuits would feel.
 // All ten questions, and the measures and resets of a circuit that passes; `res` and `work` are the lengths of the buffers.
+#[inline(always)]
 pub fn judge_circuit(circuit: Circuit, l: Limits, res: u64, work: u64) -> Result<u64, Refusal>
     ensures { let c = circuit.entry in result ≡ granted (total splits (gates_of c.gates.now)) (channel_questions c.qubits c.bits c.store.now l c.gates.now res work) }
 {
