@@ -10,7 +10,7 @@ use Rattle.compare.specs.declared.Comparison.{Comparison}
 use Rattle.compare.specs.declared.Comparison.TheVariants.{Same, Dimensions, Differs}
 use Rattle.compare.specs.declared.Difference.{Difference}
 use Rattle.channel.specs.declared.lookup.Span.{Span}
-use Rattle.c_words.specs.Replies.{same, dimensions, entry}
+use Rattle.c_scalars.specs.Replies.{same, dimensions, entry}
 
 abbrev pub finding_number : Result Comparison Refusal → ℕ
 finding_number (Ok Same) = same

@@ -8,7 +8,9 @@ ghost use Rattle.channel.specs.Lookup.{lookup_of, span_of};
 ghost use Rattle.effects.specs.Effects.{effects_verdict, result_of, povm_of};
 ghost use Rattle.c_channels.specs.Channels.{finding_number, difference, place_words, two_scalars, scalar_words, start_of};
 
-use c_words::replies::{DIMENSIONS, ENTRY, SAME};
+pub mod forms;
+
+use c_scalars::words::replies::{DIMENSIONS, ENTRY, SAME};
 use cells::{CELL, write_cell};
 use channel::lookup::locate;
 use compare::{Comparison, Difference};

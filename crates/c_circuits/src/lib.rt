@@ -1,4 +1,4 @@
-// The calls of the C interface on circuits.
+// The calls of the C interface on circuits, those of the plain-gate profile among them.
 // Kept (together): each call has the parameters of its C function, which lends every buffer apart; the limits become `Limits` at once, and, but in `circuit_unitary`, which has neither bits nor a store, the circuit a `Circuit`.
 // Kept (twins): they share `read_limits` and `report`; a function that takes the call between them as a closure would save one line of each, and need a contract on it.
 #![tactic(auto)]
@@ -8,13 +8,19 @@ ghost use Rattle.verdict.specs.Verdict.{verdict_number, verdict_index};
 ghost use Rattle.circuit.specs.Layers.{layered_verdict};
 ghost use Rattle.judge.specs.Call as channel;
 ghost use Rattle.judge.specs.Layered.{layered_verdict_of, layered_result, layered_work};
+ghost use Rattle.plain.specs.Questions.{plain_verdict};
+ghost use Rattle.plain.specs.Call.{plain_verdict_of, plain_result, plain_work};
 ghost use Rattle.unitary.specs.Unitary as unitary;
 ghost use Rattle.c_circuits.specs.Circuits.{limits_of};
 
-use c_words::report;
+pub mod programs;
+pub mod schedules;
+
+use c_scalars::words::report;
 use circuit::Circuit;
 use circuit::limits::Limits;
 use circuit::questions::judge_layered_channel;
+use plain::judge_plain_channel;
 
 // Kept: the six words are the C interface's, of which crate circuit knows nothing; From could stand there alone, since neither the array nor Limits is a type of this crate.
 // Limits from six words.
@@ -54,6 +60,57 @@ pub fn circuit_channel(
         gates,
     };
     let v = judge::call::circuit_channel(circuit, read_limits(limits), res, work);
+    report(&v, index)
+}
+
+// The channel of a circuit of the profile: the verdict's number, and its index in `index`.
+pub fn plain_channel(
+    qubits: u32,
+    bits: u32,
+    store: &[u8],
+    gates: &[u32],
+    limits: &[u64; 6],
+    res: &mut [i64],
+    work: &mut [i64],
+    index: &mut u64,
+) -> u32
+    ensures value { result ≡ verdict_number (plain_verdict_of qubits bits store.now (limits_of limits.now) gates.now res.old work.old) }
+    ensures index_after { index.new ≡ verdict_index (plain_verdict_of qubits bits store.now (limits_of limits.now) gates.now res.old work.old) }
+    ensures res_after { res.new ≡ plain_result qubits bits store.now (limits_of limits.now) gates.now res.old work.old }
+    ensures work_after { work.new ≡ plain_work qubits bits store.now (limits_of limits.now) gates.now res.old work.old }
+{
+    let circuit = Circuit {
+        qubits,
+        bits,
+        store,
+        gates,
+    };
+    let v = plain::plain_channel(circuit, read_limits(limits), res, work);
+    report(&v, index)
+}
+
+// The verdict on a circuit of the profile alone, for buffers of so many words: its number, and its index in `index`.
+pub fn plain_verdict(
+    qubits: u32,
+    bits: u32,
+    store: &[u8],
+    gates: &[u32],
+    limits: &[u64; 6],
+    result_words: usize,
+    work_words: usize,
+    index: &mut u64,
+) -> u32
+    ensures value { result ≡ verdict_number (plain_verdict qubits bits store.now (limits_of limits.now) gates.now result_words work_words) }
+    ensures index_after { index.new ≡ verdict_index (plain_verdict qubits bits store.now (limits_of limits.now) gates.now result_words work_words) }
+{
+    let l = read_limits(limits);
+    let circuit = Circuit {
+        qubits,
+        bits,
+        store,
+        gates,
+    };
+    let v = judge_plain_channel(circuit, l, result_words as u64, work_words as u64);
     report(&v, index)
 }
 

@@ -10,7 +10,7 @@ ghost use Rattle.kept_circuit.specs.Edits.{start_verdict, started, append_verdic
 ghost use Rattle.kept_verdict.specs.Questions.{kept_verdict, copy_verdict, copied_to};
 
 use c_circuits::read_limits;
-use c_words::report;
+use c_scalars::words::report;
 use gate::judge::read_gate;
 use verdict::number;
 

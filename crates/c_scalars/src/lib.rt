@@ -6,10 +6,13 @@ ghost use Rattle.std.specs.Prelude.{◌≡◌};
 ghost use Rattle.exact.specs.Exact.{exact, imaginary, inv_sqrt_two, omega};
 ghost use Rattle.verdict.specs.Verdict.{verdict_number};
 ghost use Rattle.scalar.specs.Calls.{accepted, integer_answer, neg_answer, conj_answer, half_answer, add_answer, mul_answer};
-ghost use Rattle.c_words.specs.Words.{operand};
+ghost use Rattle.c_scalars.specs.Words.{operand};
 ghost use Rattle.c_scalars.specs.Calls.{answer_words};
 
-use c_words::{read_operand, scalar_words};
+pub mod matrices;
+pub mod words;
+
+use crate::words::{read_operand, scalar_words};
 use cells::CELL;
 use scalar::{Scalar, ZERO};
 use verdict::Refusal;

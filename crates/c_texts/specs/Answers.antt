@@ -6,7 +6,7 @@ use Rattle.compare.specs.declared.Difference.{Difference}
 use Rattle.answer_lines.specs.declared.Fault.{Fault}
 use Rattle.judge_texts.specs.declared.Answer.{Answer}
 use Rattle.judge_texts.specs.declared.Answer.TheVariants.{NoRoom, Left, Right, Compared}
-use Rattle.c_words.specs.Replies.{left_refused, right_refused}
+use Rattle.c_scalars.specs.Replies.{left_refused, right_refused}
 use Rattle.c_channels.specs.Channels.{finding_number, difference, place_words}
 
 -- ---- two texts

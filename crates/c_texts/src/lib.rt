@@ -8,18 +8,20 @@ ghost use Rattle.answers.specs.Numbers.{number_text};
 ghost use Rattle.answers.specs.States.{store_bits, entry_text};
 ghost use Rattle.judge_texts.specs.Call.{answer_of, text_of, gates_after, first_after, second_after, work_after_both};
 ghost use Rattle.text_channel.specs.Only.{only_reply, only_text, only_gates, only_result, only_work};
-ghost use Rattle.c_words.specs.Words.{operand};
+ghost use Rattle.c_scalars.specs.Words.{operand};
 ghost use Rattle.c_channels.specs.Channels.{scalar_words};
 ghost use Rattle.c_circuits.specs.Circuits.{limits_of};
 ghost use Rattle.c_texts.specs.Answers.{answer_number, entry_of, fault_numbers, answer_numbers, reply_number, reply_numbers};
+
+pub mod openqasm;
 
 use answer_lines::Fault;
 use answers::numbers::put_number;
 use answers::states::{put_bra_ket, put_store};
 use c_channels::{difference, finding_number, place_words, scalar_words};
 use c_circuits::read_limits;
-use c_words::read_operand;
-use c_words::replies::{LEFT_REFUSED, RIGHT_REFUSED};
+use c_scalars::words::read_operand;
+use c_scalars::words::replies::{LEFT_REFUSED, RIGHT_REFUSED};
 use cells::CELL;
 use compare::Difference;
 use judge_texts::Answer;

@@ -9,7 +9,7 @@ ghost use Rattle.c_circuits.specs.Circuits.{limits_of};
 ghost use Rattle.compare_list.specs.Call.{reply_of, answers_after, scalars_after, cleared};
 
 use c_circuits::read_limits;
-use c_words::report;
+use c_scalars::words::report;
 use pair_list::PairList;
 
 // Compares the pairs of a list under one allowance: the verdict's number, its index in `index`, and the sum of what is spent in `total`, 0 where the list is refused.

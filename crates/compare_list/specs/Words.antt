@@ -4,7 +4,7 @@ use Rattle.std.specs.Result.{result_err}
 use Rattle.verdict.specs.declared.Refusal.{Refusal}
 use Rattle.verdict.specs.Verdict.{refusal_number, refusal_index}
 use Rattle.compare.specs.declared.Difference.{Difference}
-use Rattle.c_words.specs.Replies.{left_refused, right_refused}
+use Rattle.c_scalars.specs.Replies.{left_refused, right_refused}
 use Rattle.c_channels.specs.Channels.{finding_number, difference, place_words, scalar_words}
 use Rattle.work_list.specs.declared.Answer.{Answer}
 use Rattle.work_list.specs.declared.Answer.TheVariants.{LeftRefused, RightRefused, PassedOver, Compared}

@@ -5,7 +5,7 @@ ghost use Rattle.std.proofs.lemmas.List.Edits.{sets};
 ghost use Rattle.compare_list.specs.Words.{reply_number, cost_of, entry_of, refusal_of, refusal_words, answer_size, scalars_size, answer_words, entry_words};
 
 use c_channels::{difference, finding_number, place_words, scalar_words};
-use c_words::replies::{LEFT_REFUSED, RIGHT_REFUSED};
+use c_scalars::words::replies::{LEFT_REFUSED, RIGHT_REFUSED};
 use compare::Difference;
 use verdict::Refusal;
 use work_list::Answer;
@@ -17,7 +17,7 @@ pub const ANSWER: usize = 7;
 pub const SCALARS: usize = 10;
 
 // The reply of a pair that is passed over.
-// Kept: a number of the C interface, beside those of `c_words::replies`; a list alone answers it.
+// Kept: a number of the C interface, beside those of `c_scalars::words::replies`; a list alone answers it.
 const PASSED_OVER: u32 = 107;
 
 fn reply_number(answer: Answer) -> u32

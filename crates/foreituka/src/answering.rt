@@ -7,7 +7,7 @@ ghost use Rattle.answers.specs.States.{store_bits, entry_text};
 ghost use Rattle.judge_texts.specs.Call as both;
 ghost use Rattle.text_channel.specs.Only.{only_reply, only_text, only_gates, only_result, only_work};
 ghost use Rattle.listing.specs.Answer as listed;
-ghost use Rattle.c_words.specs.Words.{operand};
+ghost use Rattle.c_scalars.specs.Words.{operand};
 ghost use Rattle.c_channels.specs.Channels.{scalar_words};
 ghost use Rattle.c_circuits.specs.Circuits.{limits_of};
 ghost use Rattle.c_texts.specs.Answers.{answer_number, entry_of, answer_numbers, reply_number, reply_numbers};

@@ -12,7 +12,7 @@ pub extern "C" fn foreituka_pack_channel(channel: &[i64], res: &mut [i64], index
     ensures index_after { index.new ≡ verdict_index (pack_verdict channel.now res.old) }
     ensures res_after { res.new ≡ pack_result channel.now res.old }
 {
-    c_packed::pack_channel(channel, res, index)
+    c_channels::forms::pack_channel(channel, res, index)
 }
 
 // Unpack packed words: the verdict's number, and its index in `index`.
@@ -22,7 +22,7 @@ pub extern "C" fn foreituka_unpack_channel(words: &[i64], res: &mut [i64], index
     ensures index_after { index.new ≡ verdict_index (unpack_verdict words.now res.old) }
     ensures res_after { res.new ≡ unpack_result words.now res.old }
 {
-    c_packed::unpack_channel(words, res, index)
+    c_channels::forms::unpack_channel(words, res, index)
 }
 
 // Write a channel without √2 parts: the verdict's number, and its index in `index`.
@@ -32,7 +32,7 @@ pub extern "C" fn foreituka_write_plain(channel: &[i64], res: &mut [i64], index:
     ensures index_after { index.new ≡ verdict_index (plain_write_verdict channel.now res.old) }
     ensures res_after { res.new ≡ plain_write_result channel.now res.old }
 {
-    c_packed::write_plain(channel, res, index)
+    c_channels::forms::write_plain(channel, res, index)
 }
 
 // Read such words: the verdict's number, and its index in `index`.
@@ -42,5 +42,5 @@ pub extern "C" fn foreituka_read_plain(words: &[i64], res: &mut [i64], index: &m
     ensures index_after { index.new ≡ verdict_index (plain_read_verdict words.now res.old) }
     ensures res_after { res.new ≡ plain_read_result words.now res.old }
 {
-    c_packed::read_plain(words, res, index)
+    c_channels::forms::read_plain(words, res, index)
 }

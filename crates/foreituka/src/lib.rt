@@ -7,7 +7,6 @@ pub mod circuits;
 pub mod forms;
 pub mod kept;
 pub mod matrices;
-pub mod profile;
 pub mod programs;
 pub mod scalars;
 pub mod schedules;

@@ -22,7 +22,7 @@ pub extern "C" fn foreituka_pauli_verdict(
     ensures value { result ≡ verdict_number (pauli_verdict qubits bits store.now (limits_of limits.now) nodes.now operations.now result_words work_words) }
     ensures index_after { index.new ≡ verdict_index (pauli_verdict qubits bits store.now (limits_of limits.now) nodes.now operations.now result_words work_words) }
 {
-    c_pauli::pauli_verdict(
+    c_circuits::programs::pauli_verdict(
         qubits,
         bits,
         store,
@@ -53,7 +53,7 @@ pub extern "C" fn foreituka_pauli_channel(
     ensures res_after { res.new ≡ pauli.result_after qubits bits store.now (limits_of limits.now) nodes.now operations.now res.old work.old }
     ensures work_after { work.new ≡ pauli.work_after qubits bits store.now (limits_of limits.now) nodes.now operations.now res.old work.old }
 {
-    c_pauli::pauli_channel(
+    c_circuits::programs::pauli_channel(
         qubits, bits, store, nodes, operations, limits, res, work, index,
     )
 }

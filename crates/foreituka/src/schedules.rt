@@ -17,5 +17,5 @@ pub extern "C" fn foreituka_judge_schedule(
     ensures value { result ≡ verdict_number (schedule_verdict qubits bits old.now new.now table.now) }
     ensures index_after { index.new ≡ verdict_index (schedule_verdict qubits bits old.now new.now table.now) }
 {
-    c_schedule::judge_schedule(qubits, bits, old, new, table, index)
+    c_circuits::schedules::judge_schedule(qubits, bits, old, new, table, index)
 }

@@ -5,7 +5,7 @@ ghost use Rattle.std.specs.Result.{result_unwrap_or};
 ghost use Rattle.verdict.specs.Verdict.{verdict_number, verdict_index};
 ghost use Rattle.qasm.specs.Reading.{read_of, filled};
 ghost use Rattle.qasm_writer.specs.Call.{write_reply, room_after};
-ghost use Rattle.c_qasm.specs.Texts.{reading_of, number_of, count_words, words_in, position_in};
+ghost use Rattle.c_texts.specs.Texts.{reading_of, number_of, count_words, words_in, position_in};
 
 // A circuit read from its text: the verdict's number, both counts in `counts`, how many words its gates have in `words`, and the place of a fault in `position`.
 #[unsafe(no_mangle)]
@@ -22,7 +22,7 @@ pub extern "C" fn foreituka_read_qasm(
     ensures words_after { words.new ≡ words_in (reading_of text.now gates.old) }
     ensures position_after { position.new ≡ position_in (reading_of text.now gates.old) }
 {
-    c_qasm::read_qasm(text, gates, counts, words, position)
+    c_texts::openqasm::read_qasm(text, gates, counts, words, position)
 }
 
 // A circuit written as its text: the verdict's number, its index in `index`, and how many bytes the text has in `bytes`.
@@ -40,5 +40,5 @@ pub extern "C" fn foreituka_write_qasm(
     ensures bytes_after { bytes.new ≡ result_unwrap_or (write_reply qubits bits gates.now out.old) 0 }
     ensures index_after { index.new ≡ verdict_index (write_reply qubits bits gates.now out.old) }
 {
-    c_qasm::write_qasm(qubits, bits, gates, out, bytes, index)
+    c_texts::openqasm::write_qasm(qubits, bits, gates, out, bytes, index)
 }

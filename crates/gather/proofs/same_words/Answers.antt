@@ -1,16 +1,14 @@
 -- `same_words` meets its contract: what is gathered so far is 0 exactly if the first i words are the same.
-use mathlib.Core.Path.{◌≡◌, sym, ap, ◌∙◌}
+use mathlib.Core.Path.{sym, ap, ◌∙◌}
 use Prim.Native.Nat.{ℕ}
 use native.Mathlib.Nat.{zero-add}
-use native.Mathlib.Omega.{arith}
 use lib.Dec.{eqb}
 use lib.Bits.{or_lt, xor_lt, bit_xor}
 use mir.Syntax.{w64}
 use mir.Val.{SFits, of_z}
 use mir.Facts.{Fits-of_z, of_z-to_z}
-use lib.ListN.{get_or, length}
+use lib.ListN.{get_or}
 use lib.IntN.{pos}
-use Rattle.algebra.specs.Lists.{all_below}
 use Rattle.algebra.specs.Words.{eqℤ}
 use Rattle.algebra.proofs.Signed.{or_zero}
 use Rattle.gather.specs.Words.{same_at}

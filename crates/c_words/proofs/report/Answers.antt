@@ -1,5 +1,0 @@
--- `report` meets its contract.
-use Rattle.c_words.proofs.report.Goals as goal
-
-pub returns : goal.returns
-returns g c = record { value = c.number.ensures; index_after = c.index.ensures }

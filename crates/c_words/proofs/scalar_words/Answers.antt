@@ -1,5 +1,0 @@
--- `scalar_words` meets its contract.
-use Rattle.c_words.proofs.scalar_words.Goals as goal
-
-pub returns : goal.returns
-returns c = c.write_cell.ensures
