@@ -226,7 +226,9 @@ fn turn_eighths<W: Way, const K: u32>(work: &mut [i64], axis: Axis, reads: Optio
     turn_by::<W>(work, axis, K, reads, bank);
 }
 
+// Kept: inlined, so that an axis and a bank are written down once for a call, not again for the next: words written in other sizes than they are read back in are waited for.
 // The same, by k eighths.
+#[inline(always)]
 pub fn turn(work: &mut [i64], axis: Axis, k: u32, reads: Option<u32>, bank: Bank)
     requires { Rotating work.old (form_of axis) k reads bank.at bank.d bank.count }
     ensures { work.new ≡ rotated work.old (form_of axis) k reads bank.at bank.d bank.count }
