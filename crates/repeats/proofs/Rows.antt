@@ -1,8 +1,9 @@
 -- The block of products of numbers of which many are equal, while its rows are written and finished.
 use mathlib.Core.Path.{◌≡◌, refl, sym, ap, ◌∙◌}
 use mathlib.Core.Bool.{Bool, true, false, cond, ◌&&◌}
-use mathlib.Core.List.{List}
-use Prim.Native.Nat.{ℕ, ◌+◌, ◌*◌, ◌/◌, ◌%◌, ◌^◌, ◌≤◌, ◌<◌}
+use mathlib.Core.List.{List, [], ◌∷◌}
+use Prim.Native.Nat.{ℕ, ◌+◌, ◌*◌, ◌-◌, ◌/◌, ◌%◌, ◌^◌, ◌≤◌, ◌<◌}
+use native.Mathlib.Nat.{le_refl, zero-mul}
 use native.Mathlib.Omega.{arith}
 use lib.Arith.{digits_div, digits_mod}
 use lib.Dec.{eqb}
@@ -15,7 +16,7 @@ use mir.Facts.{of_z-to_z, Fits-of_z}
 use borrow.Author.Tests.{eqb-true, eqb-false, eq-eqb, ne_eqb}
 use Rattle.algebra.specs.Quadratic.{conjugate}
 use Rattle.algebra.specs.Words.{fill_words}
-use Rattle.algebra.proofs.Blocks.{block_in_lem, blocks-same}
+use Rattle.algebra.proofs.Blocks.{Writing, begin, block_in_lem, blocks-same, blocks_more}
 use Rattle.exact.specs.Exact.{Number, numbers, number_halves, root2, list_of, is_zero}
 use Rattle.exact.proofs.Zeros.{shifted}
 use Rattle.channel.specs.Shared.{all_halves}
@@ -135,3 +136,31 @@ module _ {l : List ℤ} {out : ℕ} (m : List ℤ) (k : ℕ) {w : ℕ} {b : List
 
   pub clear_past : is_zero (number_in m (k + r * 4)) ≡ false → Rows l out w (rows_cleared l out m k w) b (r + 1)
   clear_past e = row_more hr ws (sym (numbers-there b (out + r * w * 4) w _ (λ c h. row-cleared false e c h ∙ sym (own_is hr ws c) ∙ ap (number_in b) (sym (row-place out w r c)))))
+
+-- ---- b with rows `from` to r − 1 cleared too: they are rows of zeros, and wait for the row that ends them
+abbrev pub waiting : List ℤ → ℕ → ℕ → ℕ → ℕ → List ℤ
+waiting b out w from r = fill_words b (out + from * (w * 4)) ((r - from) * (w * 4)) (λ (i : ℕ). pos 0)
+
+pub none-waits : (b : List ℤ) (out w r : ℕ) → b ≡ waiting b out w r r
+none-waits b out w r =
+    let at : ℕ = out + r * (w * 4) in
+    let start : Writing 1 b at 0 (λ (i : ℕ). pos 0 ∷ []) b 0 = begin (λ k. le_refl 1) in
+    let none : r - r ≡ 0 = omega arith in
+    start.is ∙ ap (λ (n : ℕ). fill_words b at n (λ (i : ℕ). pos 0)) (sym (ap (λ (n : ℕ). n * (w * 4)) none ∙ zero-mul (w * 4)))
+
+row_waits : (b : List ℤ) (out w from j : ℕ)
+    → fill_words b (out + from * (w * 4)) ((j + 1) * (w * 4)) (λ (i : ℕ). pos 0)
+    ≡ fill_words (fill_words b (out + from * (w * 4)) (j * (w * 4)) (λ (i : ℕ). pos 0)) (out + (from + j) * w * 4) (w * 4) (λ (i : ℕ). pos 0)
+row_waits b out w from j =
+    let at : ℕ = out + from * (w * 4) in
+    let place : at + j * (w * 4) * 1 ≡ out + (from + j) * w * 4 = omega arith in
+    let count : (j + 1) * (w * 4) ≡ j * (w * 4) + w * 4 = omega arith in
+    ap (λ (n : ℕ). fill_words b at n (λ (i : ℕ). pos 0)) count ∙ sym (blocks_more 1 b at (j * (w * 4)) (w * 4) (λ (i : ℕ). pos 0 ∷ []))
+    ∙ ap (λ (p : ℕ). fill_words (fill_words b at (j * (w * 4)) (λ (i : ℕ). pos 0)) p (w * 4) (λ (i : ℕ). pos 0)) place
+
+pub more-wait : (b : List ℤ) (out w : ℕ) {from r : ℕ} → from ≤ r → waiting b out w from (r + 1) ≡ fill_words (waiting b out w from r) (out + r * w * 4) (w * 4) (λ (i : ℕ). pos 0)
+more-wait b out w {from} {r} h =
+    let more : r + 1 - from ≡ r - from + 1 = omega arith in
+    let there : from + (r - from) ≡ r = omega arith in
+    ap (λ (n : ℕ). fill_words b (out + from * (w * 4)) (n * (w * 4)) (λ (i : ℕ). pos 0)) more ∙ row_waits b out w from (r - from)
+    ∙ ap (λ (q : ℕ). fill_words (waiting b out w from r) (out + q * w * 4) (w * 4) (λ (i : ℕ). pos 0)) there

