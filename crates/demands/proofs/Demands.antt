@@ -31,9 +31,10 @@ use Rattle.channel.specs.Layout.{side, read_back}
 use Rattle.channel.specs.Claims as claims
 use Rattle.collect.specs.Delivered.{overwritten}
 use Rattle.judge.specs.Delivered.{circuit_words}
-use Rattle.judge.specs.Call.{worked, accepts, result_after}
+use Rattle.judge.specs.Call.{worked, verdict_of, accepts, result_after}
 use Rattle.demands.specs.Demands.{of_gates, Delivers, Demand1, IsChannel, Demand2, ScheduleOf, itself, reordered, no_block, SameChannel, Demand3}
 use Rattle.verdict.specs.Questions.{Question, first_no, decided_by}
+use Rattle.verdict.proofs.Numbers.{numbered}
 use Rattle.verdict.proofs.Questions.{decided}
 use Rattle.circuit.proofs.Answers.{channel_accepts}
 use Rattle.demands.proofs.Verdicts.{Matching, same-accepts, same-fault, same-refusal}
@@ -67,6 +68,7 @@ module _ (n m : ℕ) (σ : List ℕ) (l : Limits) (ws : List ℕ) (r w : List �
 pub demand1 : Demand1
 demand1 n m σ l ws r w = record {
   verdict = refl;
+  number = numbered (verdict_of n m σ l ws r w);
   refusal = λ xs ys q is e f. ap first_no is ∙ decided xs ys q e f;
   acceptance = channel_accepts n m σ l ws (length r) (length w);
   refused = λ e. (ap (λ (b : Bool). cond b (overwritten (circuit_words n m σ (gates_of ws)) r) r) e, ap (λ (b : Bool). cond b (overwritten (zeros (worked n m ws)) w) w) e);

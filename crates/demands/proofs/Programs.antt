@@ -8,6 +8,7 @@ use lib.IntN.{ℤ, pos}
 use Rattle.gate.specs.Gate.{max_weight}
 use Rattle.kraus.specs.Blocks.{survivors}
 use Rattle.verdict.specs.Questions.{first_no}
+use Rattle.verdict.proofs.Numbers.{numbered}
 use Rattle.verdict.proofs.Questions.{decided}
 use Rattle.circuit.specs.declared.limits.Limits.{Limits}
 use Rattle.collect.specs.Delivered.{overwritten}
@@ -17,7 +18,7 @@ use Rattle.pauli_program.proofs.Counting.{program_square}
 use Rattle.pauli_program.proofs.Whole.{first, program_whole, program_complete}
 use Rattle.pauli_program.proofs.Claims.{program_narrow, program_in_range}
 use Rattle.pauli.specs.Delivered.{program_words}
-use Rattle.pauli.specs.Call.{worked, accepts, result_after}
+use Rattle.pauli.specs.Call.{worked, verdict_of, accepts, result_after}
 use Rattle.pauli.specs.Known.{Known}
 use Rattle.pauli.proofs.Known.{program_accepts, accepted_known}
 use Rattle.pauli.proofs.Branches.{store_words, channel_room}
@@ -61,6 +62,7 @@ module _ (n m : ℕ) (σ : List ℕ) (l : Limits) (ns os : List ℕ) (r w : List
 pub program_demand1 : ProgramDemand1
 program_demand1 n m σ l ns os r w = record {
   verdict = refl;
+  number = numbered (verdict_of n m σ l ns os r w);
   refusal = λ xs ys q is e f. ap first_no is ∙ decided xs ys q e f;
   acceptance = program_accepts n m σ l ns os (length r) (length w);
   refused = λ e. (

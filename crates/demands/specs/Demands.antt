@@ -12,6 +12,7 @@ use Rattle.gate.specs.Gate.{gate, gate_size, gates_of, elem, share}
 use Rattle.kraus.specs.Branch.{Store, Branch, branches}
 use Rattle.kraus.specs.Blocks.{survivors, stores, block, povm}
 use Rattle.verdict.specs.Questions.{Question, first_no, decided_by}
+use Rattle.verdict.specs.Verdict.{Numbered}
 use Rattle.circuit.specs.declared.limits.Limits.{Limits}
 use Rattle.compare.specs.declared.Comparison.TheVariants.{Same}
 use Rattle.store.specs.Store.{bits}
@@ -34,9 +35,10 @@ module _ (n m : ℕ) (σ : List ℕ) (l : Limits) (ws : List ℕ) (r w : List �
     pub matrices : (k : ℕ) → All (λ (b : Branch). (i : ℕ) → i < 2 ^ n * 2 ^ n → narrow (get_or b.matrix i exact.𝟘) ≡ true) (branches n σ (take k (gates_of ws)))
     pub blocks : (τ : Store) (i j : ℕ) → i < side (2 ^ n) → j < side (2 ^ n) → scalar.well_formed (block (survivors (branches n σ (gates_of ws))) τ i j) ≡ true
 
-  -- the first question that is answered by no decides; accepted is what answers each by yes, and nothing else
+  -- the first question that is answered by no decides; accepted is what answers each by yes, and nothing else; its number is 0, and no refusal's is
   pub record Judges : Type 0 where
     pub verdict : verdict_of n m σ l ws r w ≡ first_no (asked n m σ l ws r w)
+    pub number : Numbered (verdict_of n m σ l ws r w)
     pub refusal : (xs ys : List Question) (q : Question) → asked n m σ l ws r w ≡ xs ++ (q ∷ ys) → every (λ (p : Question). p.answer) xs ≡ true → q.answer ≡ false → verdict_of n m σ l ws r w ≡ Err q.refusal
     pub acceptance : accepts n m σ l ws r w ≡ every (λ (q : Question). q.answer) (asked n m σ l ws r w)
     pub refused : accepts n m σ l ws r w ≡ false → (result_after n m σ l ws r w ≡ r) × (work_after n m σ l ws r w ≡ w)

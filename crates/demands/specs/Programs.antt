@@ -10,6 +10,7 @@ use Rattle.kraus.specs.Dense.{cell}
 use Rattle.kraus.specs.Branch.{Store, Branch}
 use Rattle.kraus.specs.Blocks.{survivors, block}
 use Rattle.verdict.specs.Questions.{Question, first_no}
+use Rattle.verdict.specs.Verdict.{Numbered}
 use Rattle.circuit.specs.declared.limits.Limits.{Limits}
 use Rattle.channel.specs.Layout.{side}
 use Rattle.pauli_words.specs.Words.{nodes_of, operations_of}
@@ -35,9 +36,10 @@ module _ (n m : ℕ) (σ : List ℕ) (l : Limits) (ns os : List ℕ) (r w : List
     pub matrices : (k : ℕ) → All (λ (b : Branch). (i : ℕ) → i < 2 ^ n * 2 ^ n → narrow (get_or b.matrix i exact.𝟘) ≡ true) (branches_after k)
     pub blocks : (τ : Store) (i j : ℕ) → i < side (2 ^ n) → j < side (2 ^ n) → scalar.well_formed (block (survivors (program_branches n (nodes_of ns) σ (operations_of os))) τ i j) ≡ true
 
-  -- the first question that is answered by no decides; accepted is what answers each by yes, and nothing else
+  -- the first question that is answered by no decides; accepted is what answers each by yes, and nothing else; its number is 0, and no refusal's is
   pub record ProgramJudges : Type 0 where
     pub verdict : verdict_of n m σ l ns os r w ≡ first_no (asked n m σ l ns os r w)
+    pub number : Numbered (verdict_of n m σ l ns os r w)
     pub refusal : (xs ys : List Question) (q : Question) → asked n m σ l ns os r w ≡ xs ++ (q ∷ ys) → every (λ (p : Question). p.answer) xs ≡ true → q.answer ≡ false
         → verdict_of n m σ l ns os r w ≡ Err q.refusal
     pub acceptance : accepts n m σ l ns os r w ≡ every (λ (q : Question). q.answer) (asked n m σ l ns os r w)

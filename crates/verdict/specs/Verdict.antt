@@ -1,5 +1,5 @@
 -- What a call answers: document 01's number and index of each refusal. A refusal that a later call brings gets its line here.
-use Rattle.std.specs.Prelude.{ℕ, Result, Ok, Err}
+use Rattle.std.specs.Prelude.{◌≡◌, ℕ, eqb, Result, Ok, Err, is_ok}
 use Rattle.verdict.specs.declared.Refusal.{Refusal}
 use Rattle.verdict.specs.declared.Refusal.TheVariants.{OverLimit, UnsupportedAt, OperandAt, BadStore, MalformedAt, OverCeiling, TooHeavy, ShortBuffer, TooLarge, Malformed}
 use Rattle.verdict.specs.declared.Refusal.TheVariants.{BadLayers, ClashAt, BadText, UnknownNameAt, NotScheduleAt, ZeroBlock, BadNodeAt, BadAxisAt, NoOutcomeAt, NoPlace, NoGate, NotHermitianAt, NotPlainAt, TooManyPairs, BadCounts}
@@ -63,6 +63,10 @@ refusal_index BadCounts = 0
 abbrev pub verdict_number : {A : Type 0} → Result A Refusal → ℕ
 verdict_number (Ok x) = 0
 verdict_number (Err r) = refusal_number r
+
+-- what is said of acceptance holds of the number that a caller reads: it is 0 exactly where the call was accepted
+abbrev pub Numbered : {A : Type 0} → Result A Refusal → Type 0
+Numbered v = eqb (verdict_number v) 0 ≡ is_ok v
 
 abbrev pub verdict_index : {A : Type 0} → Result A Refusal → ℕ
 verdict_index (Ok x) = 0
