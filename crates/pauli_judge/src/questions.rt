@@ -104,3 +104,22 @@ pub fn judge_pauli(program: Program, l: Limits, res: u64, work: u64) -> Verdict
     judge_runnable(program, l, res, work, &mut masks)?;
     Ok(())
 }
+
+// What a program asks for, and the verdict on it.
+#[derive(Clone, Copy)]
+pub struct JudgedProgram {
+    // Kept: a program that is refused has a footprint as well, so that it stands beside the verdict.
+    pub verdict: Verdict,
+    pub footprint: ProgramFootprint,
+}
+
+// The verdict, and what the program asks for, refused or not.
+pub fn judge_program(program: Program, l: Limits, res: u64, work: u64) -> JudgedProgram
+    ensures verdict_value { let p = program.entry in result.verdict ≡ pauli_verdict p.qubits p.bits p.store.now l p.nodes.now p.operations.now res work }
+    ensures footprint_value { let p = program.entry in result.footprint ≡ program_footprint p.qubits p.bits (operations_of p.operations.now) }
+{
+    JudgedProgram {
+        verdict: judge_pauli(program, l, res, work),
+        footprint: ProgramFootprint::of(program),
+    }
+}
