@@ -46,6 +46,14 @@ impl<const MOST: u64> Model for Few<MOST> {
 }
 
 impl<const MOST: u64> Few<MOST> {
+    // Any number of them, also one that no circuit has.
+    pub fn new(number: u64) -> Few<MOST>
+        requires { number ≤ MOST }
+        ensures { result ≡ number }
+    {
+        Few { number }
+    }
+
     pub fn count(self) -> u64
         ensures { (result ≡ self.entry) × (result ≤ MOST) }
     {
