@@ -3,7 +3,7 @@
 // Kept (facts): that the bit of a gate has a count, as in counts.rt.
 ghost use Rattle.std.specs.Prelude.{◌≡◌, true, ℕ, ◌+◌, ◌≤◌, ltb, length};
 ghost use Rattle.algebra.specs.Lists.{every};
-ghost use Rattle.gate.specs.Gate.{gate_size, bits};
+ghost use Rattle.gate.specs.Gate.{gate, gate_size, bits};
 ghost use Rattle.gate.specs.Inner.Words.{gate_of};
 ghost use Rattle.kept_circuit.specs.Kept.{max_bits, gate_place};
 ghost use Rattle.kept_circuit.specs.Edits.{counted, put, start_verdict, started, append_verdict, appended, remove_verdict, removed, replace_verdict, replaced};
@@ -56,8 +56,8 @@ fn put_in(words: &mut [i64], i: usize, g: GateWords)
 
 // Append a gate.
 pub fn append(words: &mut [i64], g: GateWords) -> Verdict
-    ensures value { result ≡ append_verdict words.old (gate_of g) }
-    ensures words_after { words.new ≡ appended words.old (gate_of g) }
+    ensures value { result ≡ append_verdict words.old (gate g.kind g.a g.b g.c g.k) }
+    ensures words_after { words.new ≡ appended words.old (gate g.kind g.a g.b g.c g.k) }
 {
     let kept = Kept::read(words)?;
     let count = kept.gates();
@@ -84,8 +84,8 @@ pub fn remove_last(words: &mut [i64]) -> Verdict
 
 // Put a gate in the place of the one at position i.
 pub fn replace(words: &mut [i64], i: usize, g: GateWords) -> Verdict
-    ensures value { result ≡ replace_verdict words.old i (gate_of g) }
-    ensures words_after { words.new ≡ replaced words.old i (gate_of g) }
+    ensures value { result ≡ replace_verdict words.old i (gate g.kind g.a g.b g.c g.k) }
+    ensures words_after { words.new ≡ replaced words.old i (gate g.kind g.a g.b g.c g.k) }
 {
     let kept = Kept::read(words)?;
     let old = kept.taken(i)?;
