@@ -225,12 +225,14 @@ impl<'a> Repeats<'a> {
     }
 }
 
+// Kept: number by number, as `rows::copy_row`; the numbers of a block are too large to be multiplied, and so for that function.
 // Write the n numbers from `from` on to `to` on.
 fn copy_numbers(s: &mut [i64], from: usize, to: usize, n: usize)
     requires { (from + n * 4 ≤ to) × (to + n * 4 ≤ length s.old) }
     ensures { s.new ≡ with_numerators s.old to n (λ (c : ℕ). number_in s.old (from + c * 4)) }
 {
-    let m = n * ENTRY;
-    let (p, q) = s.split_at_mut(to);
-    q[..m].copy_from_slice(&p[from..from + m]);
+    for c in 0..n {
+        let x = numerators_at(s, from + c * ENTRY);
+        write_numerators(s, to + c * ENTRY, x);
+    }
 }

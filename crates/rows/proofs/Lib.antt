@@ -1,4 +1,3 @@
-pub mod Copies
 pub mod Held
 pub mod Mixed
 pub mod Rows

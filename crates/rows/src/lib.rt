@@ -16,9 +16,6 @@ use exact::NARROW_NUMERATOR;
 use exact::numerators::{product, sum4};
 use exact::ranges::{all_zero, are_within};
 
-// The least numbers of a row that is copied as a slice.
-const LONG: usize = 16;
-
 // Whether n numbers from `at` on are zero.
 pub fn is_zero(s: &[i64], at: usize, n: usize) -> bool
     requires { at + n * 4 ≤ length s.now }
@@ -45,24 +42,13 @@ pub fn multiply_row(buf: &mut [i64], x: [i64; 4], from: usize, to: usize, d: usi
     }
 }
 
-// Kept: two ways. A long row is copied as a slice, which takes fewer instructions; a short one number by number, which takes fewer than to cut the buffer and call for the copy; so is one that lies there, which no caller gives.
+// Kept: number by number. Copied as slices of the one buffer, a row asks a C program's library for `memmove`, which nothing else of the archive asks for.
 // Write the d numbers from `from` on to `to` on.
 pub fn copy_row(buf: &mut [i64], from: usize, to: usize, d: usize)
     requires { Scaling buf.old numbers.𝟙 from to d }
     ensures { buf.new ≡ with_numerators buf.old to d (scaled_row buf.old numbers.𝟙 from) }
 {
-    if d < LONG || from == to {
-        multiply_row(buf, [1, 0, 0, 0], from, to, d);
-        return;
-    }
-    let n = d * ENTRY;
-    if from + n <= to {
-        let (p, q) = buf.split_at_mut(to);
-        q[..n].copy_from_slice(&p[from..from + n]);
-        return;
-    }
-    let (p, q) = buf.split_at_mut(from);
-    p[to..to + n].copy_from_slice(&q[..n]);
+    multiply_row(buf, [1, 0, 0, 0], from, to, d);
 }
 
 // Kept: inlined, as `multiply_row`.
