@@ -65,5 +65,6 @@ pub fn read_qasm(text: &[u8], gates: &mut [u32]) -> Result<Reading, Fault>
             position: begin,
         });
     }
-    read_body(Tokens::behind_header(text), text.len(), gates)
+    let tokens = Tokens::behind(text, begin + HEADER.len());
+    read_body(tokens, text.len(), gates)
 }
