@@ -1,14 +1,15 @@
 -- Laws of words read into lent slices: one word more, and the last.
 use mathlib.Core.Path.{◌≡◌, refl, sym, ap, ◌∙◌}
 use mathlib.Core.List.{List, [], ◌∷◌, ◌++◌, append_assoc, append-nil}
-use Prim.Native.Nat.{ℕ, zero, suc, ◌+◌, ◌-◌, ◌≤◌, ◌<◌}
+use Prim.Native.Nat.{ℕ, zero, suc, ◌+◌, ◌-◌, ◌≤◌, ◌<◌, min}
 use native.Mathlib.Omega.{arith}
-use lib.ListN.{length, set, take, length-set}
+use lib.ListN.{length, set, take, drop, length-set}
 use lib.IntN.{ℤ}
+use lib.Seq.{take_all, take-append_seam, drop-append_seam}
 use Rattle.std.proofs.lemmas.List.{take_more_set}
 use Rattle.replay.specs.declared.numeral.Word.{Word}
 use Rattle.replay.specs.Numerals.{word_at, word_no}
-use Rattle.replay.specs.Words.{filled, placed, numbers}
+use Rattle.replay.specs.Words.{filled, placed, numbers, numbers_at}
 use Rattle.replay.proofs.Reading.{following}
 
 module _ (t : List ℕ) where
@@ -28,6 +29,10 @@ module _ (t : List ℕ) where
       let r : m ≡ set l (word_no t at 0).size (word_no t at 1).value = e ∙ (λ i. set l (a i).size (q i).value) in
       placed-step n k at l h ∙ sym (λ i. placed t k (q i).next (r i))
 
+-- as many places as a word of the text asks for, or as there are
+pub fitted : {w v : Word} {len : ℕ} (room : ℕ) → len ≡ min w.size room → w ≡ v → len ≡ min v.size room
+fitted room e first = e ∙ (λ i. min (first i).size room)
+
 -- ---- numbers one after the other: of n numbers from `from` on, i are in b, and the next begins at `next`
 module _ {A : Type 0} (low : ℕ → A) (t : List ℕ) where
   numbers-end : (n at : ℕ) → n ≤ 0 → numbers low t n at ≡ filled [] at
@@ -39,6 +44,12 @@ module _ {A : Type 0} (low : ℕ → A) (t : List ℕ) where
       → numbers low t n at ≡ filled (low (word_at t at).size ∷ (numbers low t k (word_at t at).next).words) (numbers low t k (word_at t at).next).next
   unfolding numbers
   numbers-step n k at e = ap (λ (j : ℕ). numbers low t j at) e
+
+  -- there are as many as were asked for
+  pub numbers-length : (n at : ℕ) → length (numbers low t n at).words ≡ n
+  unfolding numbers
+  numbers-length zero at = refl
+  numbers-length (suc n) at = ap suc (numbers-length n (word_at t at).next)
 
   module _ (from n : ℕ) where
     pub record Numbers (b : List A) (next i : ℕ) : Type 0 where
@@ -68,3 +79,19 @@ module _ {A : Type 0} (low : ℕ → A) (t : List ℕ) where
           let e : i ≡ n = omega arith in
           let z : numbers low t (n - i) next ≡ filled [] next = numbers-end (n - i) next (omega arith) in
           h.is ∙ (λ j. filled (take (e j) b ++ (z j).words) (z j).next) ∙ (λ j. filled (append-nil (take n b) j) next)
+
+  -- all that there is room for, in a slice that has just this room
+  pub all_kept : (at room len n : ℕ) {w : Word} {b : List A} {next i : ℕ} → w ≡ word_at t at → len ≡ min w.size room → n ≡ len → length b ≡ n → Numbers w.next n b next i → n ≤ i → i ≤ n
+      → filled b next ≡ numbers_at low t at room
+  all_kept at room len n {w} {b} {next} first fits front long h g f =
+      let whole : take n b ≡ b = take_all n b (omega arith) in
+      let count : n ≡ min w.size room = front ∙ fits in
+      (λ j. filled (sym whole j) next) ∙ sym (all_read w.next n h g f) ∙ (λ j. numbers low t (count j) w.next) ∙ (λ j. numbers low t (min (first j).size room) (first j).next)
+
+-- ---- a slice that begins with what was read, and is what it was behind that: both parts
+module _ {A : Type 0} (read buf : List A) (len : ℕ) {whole : List A} (is : whole ≡ read ++ drop len buf) (long : length read ≡ len) where
+  pub read_part : {words : List A} → words ≡ take len whole → words ≡ read
+  read_part e = e ∙ ap (take len) is ∙ (λ i. take (sym long i) (read ++ drop len buf)) ∙ take-append_seam read (drop len buf)
+
+  pub rest_part : (n : ℕ) {rest : List A} → n ≡ len → rest ≡ drop len whole → rest ≡ drop n buf
+  rest_part n h e = e ∙ ap (drop len) is ∙ (λ i. drop (sym long i) (read ++ drop len buf)) ∙ drop-append_seam read (drop len buf) ∙ (λ i. drop (sym h i) buf)

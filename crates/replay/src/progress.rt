@@ -71,6 +71,13 @@ impl Progress {
         }
     }
 
+    // Where the next case begins.
+    pub fn next(self) -> usize
+        ensures { result ≡ self.next }
+    {
+        self.next
+    }
+
     // Prints what was counted of the last kind, where the case that comes next is of another.
     fn print_before(self, rt: &impl Print, after: Progress) -> io::Result<()> {
         if after.kind == self.kind {

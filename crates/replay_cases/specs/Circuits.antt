@@ -73,7 +73,7 @@ answered call t at r w =
     traced call (called call t from lent worked) t (word_no t at 2).size (called_result call t from lent worked)
 
 unfoldable pub circuit_case : CircuitCall → List ℕ → ℕ → Record
-circuit_case call t at = answered call t at (room 530000) (room 167000)
+circuit_case call t at = answered call t at (room 656000) (room 167000)
 
 -- ---- two circuits, whose channels are compared; the second one's work buffer is as the first one left it
 abbrev pub channel_of : List ℕ → ℕ → List ℤ → List ℤ → List ℤ

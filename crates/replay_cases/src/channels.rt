@@ -39,6 +39,7 @@ fn four_calls(
 }
 
 // Left and right words, the length of the effects' buffers, the store to look for; the answers of the four calls.
+#[inline(never)]
 pub fn words_case(text: &[u8], at: usize) -> Record
     ensures { result ≡ words_case text.now at }
 {

@@ -21,7 +21,7 @@ use unitary::circuit_unitary;
 use verdict::Verdict;
 
 // Room for the words of a result, for work, and for the words of effects.
-const RESULT: usize = 530000;
+const RESULT: usize = 656000;
 
 const WORK: usize = 167000;
 
@@ -98,6 +98,7 @@ fn answered(call: CircuitCall, text: &[u8], at: usize, res: &mut [i64], work: &m
 }
 
 // The same with the buffers that it lends.
+#[inline(never)]
 pub fn circuit_case(call: CircuitCall, text: &[u8], at: usize) -> Record
     ensures { result ≡ circuit_case call text.now at }
 {

@@ -39,6 +39,7 @@ fn compared(text: &[u8], at: usize, left: &mut [i64], right: &mut [i64], work: &
 
 // Kept (twins): `listing_case` lends buffers of its own to another function in the same way.
 // The same with the buffers that it lends.
+#[inline(never)]
 pub fn compare_case(text: &[u8], at: usize) -> Record
     ensures { result ≡ compare_case text.now at }
 {

@@ -142,6 +142,7 @@ fn lent(text: &[u8], at: usize, e: Edit, given: &[i64], store: &[u8]) -> Record
 }
 
 // The words before, the edit and the store; what the calls answer.
+#[inline(never)]
 pub fn edit_case(text: &[u8], at: usize) -> Record
     ensures { result ≡ edit_case text.now at }
 {

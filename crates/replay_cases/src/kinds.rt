@@ -1,6 +1,7 @@
 // The cases, by the numbers of their kinds.
 // Kept (buffers): the places in the text are those of crate replay, which says why.
 // Kept (kinds, switches): the numbers of the text are read here and nowhere else, and each case is a call of its own.
+// Kept: no case is inlined. Each lends its calls buffers of its own; written into one function, all of them would be that function's, and made anew for each case of any kind.
 ghost use Rattle.replay_cases.specs.Kinds as kinds;
 
 use crate::channels::words_case;

@@ -35,6 +35,7 @@ fn listed(text: &[u8], at: usize, res: &mut [i64], work: &mut [i64], out: &mut [
 }
 
 // The same with the buffers that it lends.
+#[inline(never)]
 pub fn listing_case(text: &[u8], at: usize) -> Record
     ensures { result ≡ listing_case text.now at }
 {

@@ -132,6 +132,7 @@ fn lent(
 }
 
 // The same with the buffers that it lends, marked before but for the answers, each word of which is 7.
+#[inline(never)]
 pub fn list_case(text: &[u8], at: usize) -> Record
     ensures { result ≡ list_case text.now at }
 {

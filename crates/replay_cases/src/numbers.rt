@@ -72,6 +72,7 @@ impl Call {
 
 // Call and two operands; verdict and value.
 #[tactic(auto, unfolding(crate::specs::Words::scalar_case))]
+#[inline(never)]
 pub fn scalar_case(text: &[u8], at: usize) -> Record
     ensures { result ≡ scalar_case text.now at }
 {
@@ -84,6 +85,7 @@ pub fn scalar_case(text: &[u8], at: usize) -> Record
 }
 
 // Two matrices, each its dim and its words; verdict, and 1 for equivalent.
+#[inline(never)]
 pub fn phase_case(text: &[u8], at: usize) -> Record
     ensures { result ≡ phase_case text.now at }
 {

@@ -85,6 +85,7 @@ fn asked(
 }
 
 // Both counts, the lengths of result and work, the store, the nodes and the operations; what the call answers.
+#[inline(never)]
 pub fn program_case(call: PauliCall, text: &[u8], at: usize) -> Record
     ensures { result ≡ program_case call text.now at }
 {

@@ -13,6 +13,7 @@ use schedule::Schedule;
 const WORDS: usize = 64;
 
 // Both counts, the old list, the new one, the table; verdict and index.
+#[inline(never)]
 pub fn schedule_case(text: &[u8], at: usize) -> Record
     ensures { result ≡ schedule_case text.now at }
 {

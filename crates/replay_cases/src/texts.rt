@@ -48,6 +48,7 @@ fn was_read(text: &[u8], at: usize, given: &[u8], words: &mut [u32]) -> Record
 }
 
 // A text of so many bytes and a newline, the room for words; the reply and the words.
+#[inline(never)]
 pub fn read_case(text: &[u8], at: usize) -> Record
     ensures { result ≡ read_case text.now at }
 {
@@ -94,6 +95,7 @@ fn was_written(
 }
 
 // Both counts, the words, the room for bytes; the reply and the bytes.
+#[inline(never)]
 pub fn write_case(text: &[u8], at: usize) -> Record
     ensures { result ≡ write_case text.now at }
 {

@@ -9,7 +9,7 @@ unfolding circuit_case
 returns c = c.answered.ensures
 
 pub slice_bounds-answered-end : goal.slice_bounds-answered-end
-slice_bounds-answered-end c = sym (length-replicate {A = ℤ} 530000 (pos 0))
+slice_bounds-answered-end c = sym (length-replicate {A = ℤ} 656000 (pos 0))
 
 pub slice_bounds-answered-end-2 : goal.slice_bounds-answered-end-2
 slice_bounds-answered-end-2 c = sym (length-replicate {A = ℤ} 167000 (pos 0))
