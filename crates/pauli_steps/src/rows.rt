@@ -19,7 +19,7 @@ pub struct Axis {
     pub flips: usize,
     pub signs: usize,
     pub turns: u32,
-    ghost in_range: { (signs < 32) × (turns < 4) },
+    pub ghost in_range: { (signs < 32) × (turns < 4) },
 }
 
 impl From<Mask> for Axis {
