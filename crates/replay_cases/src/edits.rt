@@ -1,7 +1,7 @@
 // Cases of kept circuits: an edit of the words, then the verdict on them and their gates copied out.
 // Kept (buffers): the places in the text are those of crate replay, which says why.
 // Kept (kinds, switches): an edit's number is read here and nowhere else; each edit has a call of its own, which takes what its variant holds.
-ghost use Rattle.std.specs.Prelude.{◌≡◌, ◌≤◌, length};
+ghost use Rattle.std.specs.Prelude.{◌≡◌};
 ghost use Rattle.replay_cases.specs.Edits.{edit_of, edit_at, behind_edit, edit_verdict, edited_words, with_kept, with_copy, called, lent, edit_case};
 
 use circuit::limits::Limits;
@@ -12,7 +12,7 @@ use replay::answers::check_verdict;
 use replay::numeral::{low, read};
 use replay::record::Record;
 use replay::sum::checksum;
-use replay::words::{fitting, read_numbers, read_words};
+use replay::words::{fill_words, fitting, read_numbers};
 use verdict::Verdict;
 
 // Room for the words of a kept circuit, for a store, and for gates that are copied out.
@@ -116,24 +116,20 @@ fn called(
     check_copy(kept, text, words, out)
 }
 
-// The same on a copy of the words; the lengths of result and work, and of the room for the copy of the gates, each word of which is 7 before.
-fn lent(text: &[u8], at: usize, e: Edit, given: &[i64], store: &[u8]) -> Record
-    requires { length given.now ≤ 5200 }
-    ensures { result ≡ lent text.now at e given.now store.now }
+// The same with the lengths of result and work, and of the room for the copy of the gates, each word of which is 7 before.
+fn lent(text: &[u8], at: usize, e: Edit, words: &mut [i64], store: &[u8]) -> Record
+    ensures { result ≡ lent text.now at e words.old store.now }
 {
-    let mut words = [0i64; WORDS];
     let mut out = [7u32; GATES];
     let result = read(text, at);
     let work = read(text, result.next);
     let copied = read(text, work.next);
     let o = fitting(copied.size, GATES);
-    let lent = &mut words[..given.len()];
-    lent.copy_from_slice(given);
     called(
         text,
         copied.next,
         e,
-        lent,
+        words,
         store,
         result.size,
         work.size,
@@ -148,8 +144,8 @@ pub fn edit_case(text: &[u8], at: usize) -> Record
 {
     let mut room = [0i64; WORDS];
     let mut store_room = [0u8; STORE];
-    let given = read_words(text, at, &mut room);
+    let given = fill_words(text, at, &mut room);
     let (edit, next) = read_edit(text, given.next);
     let store = read_numbers(text, next, &mut store_room);
-    lent(text, store.next, edit, given.words, store.words)
+    lent(text, store.next, edit, &mut room[..given.len], store.words)
 }

@@ -59,7 +59,9 @@ fn lent(
     called(text, at, program, &mut res[..r], &mut work[..w])
 }
 
+// Kept: not inlined, as no case is (kinds.rt says why): of a program that is judged alone nothing is lent.
 // The same with the buffers that it lends.
+#[inline(never)]
 fn run(text: &[u8], at: usize, program: Program, after: u64, spent: u64) -> Record
     ensures { let p = program.entry in result ≡ run text.now at p.qubits p.bits p.store.now p.nodes.now p.operations.now after spent }
 {
