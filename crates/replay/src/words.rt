@@ -49,7 +49,9 @@ pub struct Extent {
     pub next: usize,
 }
 
+// Kept: inlined, so that a caller's new buffer is filled with zeros once, and not here as well.
 // A length; how many words of the text are not 0, and place and value of each. All other places are 0, also behind the length.
+#[inline(always)]
 pub fn fill_words(text: &[u8], at: usize, buf: &mut [i64]) -> Extent
     ensures len { result.len ≡ min (word_no text.now at 0).size (length buf.old) }
     ensures room { result.len ≤ length buf.old }
